@@ -1,0 +1,9 @@
+//! The two forms of request text that the store takes until it has the whole grammar.
+#![tactic(auto)]
+
+mod forms;
+mod names;
+#[cfg(test)]
+mod tests;
+
+pub use forms::{ChildPath, Insertion, read_insertion, read_path};
