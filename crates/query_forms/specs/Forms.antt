@@ -2,24 +2,8 @@
 use Rattle.std.specs.Prelude.{◌≡◌, ℕ, ◌-◌, Bool, true, false, ◌&&◌, ◌||◌, not, nat_eq, nat_le, ◌==◌, if◌then◌else◌, List, [], ◌∷◌, ◌++◌, length, take, drop, codes, Option, Some, None}
 use Rattle.std.specs.List.{after_first, before_first, ends_with, list_all, starts_with}
 use Rattle.std.specs.Option.{option_and_then}
-use Rattle.std.specs.Str.{bytes_eq, chars}
-
--- an ASCII letter or `_`
-abbrev pub is_name_start : ℕ → Bool
-is_name_start c = (nat_le 65 c && nat_le c 90) || (nat_le 97 c && nat_le c 122) || (c == 95)
-
--- an ASCII letter, a digit, `.`, `-` or `_`
-abbrev pub is_name_character : ℕ → Bool
-is_name_character c = is_name_start c || (nat_le 48 c && nat_le c 57) || (c == 46) || (c == 45)
-
--- a name: an NCName of ASCII characters, other than the word `xmlns`
-abbrev pub is_name : List ℕ → Bool
-is_name [] = false
-is_name (c ∷ cs) = is_name_start c && list_all is_name_character cs && not (bytes_eq (c ∷ cs) (codes "xmlns"))
-
--- a character of XML 1.0 (its production Char)
-abbrev pub is_xml_character : ℕ → Bool
-is_xml_character c = (c == 9) || (c == 10) || (c == 13) || (nat_le 32 c && nat_le c 0xD7FF) || (nat_le 0xE000 c && nat_le c 0xFFFD) || (nat_le 0x10000 c && nat_le c 0x10FFFF)
+use Rattle.std.specs.Str.{chars}
+use Rattle.trees.specs.Characters.{is_name, is_xml_character}
 
 -- a character that stands for itself between two `"`
 abbrev pub is_plain_character : ℕ → Bool

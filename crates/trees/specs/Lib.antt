@@ -1,0 +1,10 @@
+pub mod Characters
+pub mod Trees
+pub mod Changes
+pub mod Order
+pub mod Tidy
+pub mod Forest
+pub mod Names
+pub mod Walks
+pub mod Flat
+pub mod Inside

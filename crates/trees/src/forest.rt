@@ -1,0 +1,464 @@
+//! Forests: trees of nodes, documents by name, and the next identity.
+
+ghost use Rattle.std.specs.Prelude.{◌≡◌, ◌≢◌, ℕ, ◌+◌, ◌<◌, ◌≤◌, ◌^◌, ◌↔◌, Option, Some, None, IfOk, OnOk, OnErr, IfSome, IsErrOf, IsSome, List, [], ◌∷◌, ◌++◌, length, map, is_some, string_bytes, IsTrue};
+ghost use Rattle.std.specs.Map.{lookup};
+ghost use Rattle.std.specs.Str.{bytes_eq};
+ghost use Rattle.trees.specs.Trees.{no_trees, append, leaf, find, count, size, children_of, attributes_of, parent_of, string_value_of, IsAt, Content as NodeContent};
+ghost use Rattle.trees.specs.Changes.{with_children, with_attributes, with_content, splice, taken_out, all_moved_below, CanAllMoveBelow, pick, renumbered};
+ghost use Rattle.trees.specs.declared.node.Part.TheVariants.{Attributes, Children};
+ghost use Rattle.trees.specs.Order.{precedes};
+ghost use Rattle.trees.specs.Forest.{ForestTerm, IsForest, IsDocument, document_node, opening_forest};
+ghost use Rattle.trees.specs.Walks.{root_of};
+ghost use Rattle.trees.specs.Flat.{entry_in};
+ghost use Rattle.trees.specs.Inside.{entry_of_row};
+
+use super::names::Names;
+use super::node::{Content, Kind, NodeId, Part};
+use super::table::{Row, Rows};
+use super::{copy, table, walk};
+use indexmap::IndexMap;
+use std::alloc::{AllocError, Global};
+use std::collections::BTreeMap;
+use std::marker::Model;
+
+/// Trees of nodes with distinct identities, documents by name in order, and the next identity.
+///
+/// Nodes lie in one flat table; a node that has no parent is the root of a tree of its own.
+#[derive(Drop)]
+pub struct Forest {
+    rows: Rows,
+    documents: IndexMap<String, NodeId>,
+    next: u64,
+    nodes: u64,
+}
+
+impl Model for Forest {
+    ghost use Rattle.trees.specs.Forest.{ForestTerm, forest_code};
+
+    ghost Value = { ForestTerm };
+
+    ghost coded = { forest_code };
+
+    ghost use Rattle.trees.specs.Inside.{term_of, IsSound};
+
+    ghost view = { term_of };
+
+    ghost invariant = { IsSound };
+}
+
+/// No identity reaches this number.
+const LIMIT: u64 = 1 << 62;
+
+/// Why no node was made.
+#[derive(Clone, Copy, PartialEq, Eq, Debug)]
+pub enum MakeFault {
+    /// Memory was refused (1).
+    Memory,
+    /// The next identity would pass 2^62 (2).
+    Limit,
+}
+
+impl Forest {
+    /// A forest with no nodes.
+    fn empty(alloc: Global) -> Forest
+        ensures { result ≡ record { trees = no_trees; documents = []; next = 1 } }
+    {
+        Forest {
+            rows: BTreeMap::new(alloc),
+            documents: IndexMap::new(alloc),
+            next: 1,
+            nodes: 0,
+        }
+    }
+
+    /// Makes an empty document.
+    fn add_document(&mut self, alloc: Global, name: &String) -> Result<(), AllocError>
+        requires room { self.old.next < 2 ^ 62 }
+        requires other { lookup (λ key. bytes_eq (string_bytes name.now) key) self.old.documents ≡ None }
+        ensures { OnOk result
+            (self.new
+            ≡ record {
+              trees = append self.old.trees (leaf (document_node self.old.next));
+              documents = self.old.documents ++ (string_bytes name.now, self.old.next) ∷ [];
+              next = self.old.next + 1;
+            }) }
+    {
+        let name = name.clone()?;
+        match self.make(
+            alloc,
+            Kind::Document,
+            String::new(alloc),
+            String::new(alloc),
+        ) {
+            Ok(root) => {
+                self.documents.insert(name, root)?;
+                Ok(())
+            }
+            Err(_) => Err(AllocError),
+        }
+    }
+
+    /// A forest with an empty document for each name, in their order, with the identities 1, 2 and so on.
+    pub fn new(alloc: Global, names: &Names) -> Result<Forest, AllocError>
+        ensures opening { IfOk result (λ f. f ≡ opening_forest names.now) }
+        ensures next { IfOk result (λ f. f.next ≤ 65) }
+    {
+        let mut forest = Forest::empty(alloc);
+        for name in names.as_slice() {
+            forest.add_document(alloc, name)?;
+        }
+        Ok(forest)
+    }
+
+    /// The document of that name.
+    pub fn document(&self, name: &str) -> Option<NodeId>
+        ensures found { result ≡ lookup (λ key. bytes_eq name.now key) self.now.documents }
+        ensures stands { IfSome result (IsDocument self.now.trees) }
+        ensures sound { IsForest self.now }
+    {
+        self.documents.get(name).copied()
+    }
+
+    /// How many nodes there are, attributes and documents counted. It does not count them anew.
+    pub fn len(&self) -> u64
+        ensures { result ≡ size self.now.trees }
+    {
+        self.nodes
+    }
+
+    /// The identity that the next node takes.
+    pub fn next(&self) -> NodeId
+        ensures { result ≡ self.now.next }
+    {
+        NodeId::new(self.next)
+    }
+
+    /// Whether a node of that identity stands here.
+    pub fn has(&self, id: NodeId) -> bool
+        ensures { result ≡ is_some (find id self.now.trees) }
+    {
+        self.rows.contains_key(&id.number())
+    }
+
+    /// What the table has of a node.
+    fn row(&self, id: NodeId) -> &Row
+        requires { IsSome (find id self.now.trees) }
+        ensures { entry_in id self.now.trees ≡ Some (entry_of_row result.now) }
+    {
+        &self.rows[&id.number()]
+    }
+
+    /// The kind of a node.
+    pub fn kind(&self, id: NodeId) -> Kind
+        requires { IsSome (find id self.now.trees) }
+        ensures { IsAt (find id self.now.trees) (λ c. result ≡ c.kind) }
+    {
+        self.row(id).kind
+    }
+
+    /// The name of a node, empty where its kind has none.
+    pub fn name(&self, id: NodeId) -> &str
+        requires { IsSome (find id self.now.trees) }
+        ensures { IsAt (find id self.now.trees) (λ c. result.now ≡ c.name) }
+    {
+        self.row(id).name.as_str()
+    }
+
+    /// The text of an attribute, a text, a comment or a processing instruction; empty for other kinds.
+    pub fn text(&self, id: NodeId) -> &str
+        requires { IsSome (find id self.now.trees) }
+        ensures { IsAt (find id self.now.trees) (λ c. result.now ≡ c.text) }
+    {
+        self.row(id).text.as_str()
+    }
+
+    /// The parent of a node.
+    pub fn parent(&self, id: NodeId) -> Option<NodeId>
+        requires { IsSome (find id self.now.trees) }
+        ensures { result ≡ parent_of id self.now.trees }
+    {
+        self.row(id).parent
+    }
+
+    /// The children of a node, in document order.
+    pub fn children(&self, id: NodeId) -> &[NodeId]
+        requires { IsSome (find id self.now.trees) }
+        ensures { result.now ≡ children_of id self.now.trees }
+    {
+        self.row(id).children.as_slice()
+    }
+
+    /// The attributes of a node, in their list's order.
+    pub fn attributes(&self, id: NodeId) -> &[NodeId]
+        requires { IsSome (find id self.now.trees) }
+        ensures { result.now ≡ attributes_of id self.now.trees }
+    {
+        self.row(id).attributes.as_slice()
+    }
+
+    /// The string value of a node (XQuery 1.0 and XPath 2.0 Data Model, section 5.13).
+    pub fn string_value(&self, alloc: Global, id: NodeId) -> Result<String, AllocError>
+        requires { IsSome (find id self.now.trees) }
+        ensures { IfOk result (λ s. string_bytes s ≡ string_value_of id self.now.trees) }
+    {
+        let mut value = String::new(alloc);
+        let row = self.row(id);
+        if row.kind.is_inner() {
+            walk::add_text(&self.rows, &row.children, self.next, &mut value)?;
+        } else {
+            value.push_str(&row.text)?;
+        }
+        Ok(value)
+    }
+
+    /// Identities are distinct and below the next one, and the documents stand here. It does nothing.
+    pub fn facts(&self)
+        ensures { IsForest self.now }
+    {
+        let _next = &self.next;
+    }
+
+    /// The root of the tree in which a node stands.
+    fn root(&self, id: NodeId) -> NodeId
+        requires { IsSome (find id self.now.trees) }
+        ensures { result ≡ root_of id self.now.trees }
+    {
+        self.facts();
+        let mut at = id;
+        while let Some(parent) = self.parent(at) {
+            at = parent;
+        }
+        at
+    }
+
+    /// Whether the node `a` comes before the node `b` in document order. It walks up from both, and where they stand in one tree also through that tree.
+    pub fn before(&self, a: NodeId, b: NodeId) -> bool
+        requires has_a { IsSome (find a self.now.trees) }
+        requires has_b { IsSome (find b self.now.trees) }
+        ensures { result ≡ precedes a b self.now.trees }
+    {
+        let levels = self.next;
+        let first = self.root(a);
+        let second = self.root(b);
+        if first != second {
+            return first < second;
+        }
+        walk::first_of(&self.rows, &[first], levels, a, b).unwrap_or(false)
+    }
+
+    /// Makes a node with no parent, which takes the next identity.
+    ///
+    /// Where memory is refused (`Memory`) or the next identity would pass 2^62 (`Limit`), all stays as it was.
+    pub fn make(
+        &mut self,
+        alloc: Global,
+        kind: Kind,
+        name: String,
+        text: String,
+    ) -> Result<NodeId, MakeFault>
+        ensures made { IfOk result
+            (λ i. (i ≡ self.old.next)
+            × (self.new
+            ≡ record self.old {
+              trees =
+                  append
+                  self.old.trees
+                  (leaf
+                  (record {
+                    identity = i;
+                    kind = kind;
+                    name = string_bytes name;
+                    text = string_bytes text;
+                  }));
+              next = i + 1;
+            })) }
+        ensures limit { IsErrOf result MakeFault.Limit ↔ (2 ^ 62 ≤ self.old.next) }
+        ensures refused { OnErr result (self.new ≡ self.old) }
+    {
+        let id = self.next;
+        if id >= LIMIT {
+            return Err(MakeFault::Limit);
+        }
+        let row = Row {
+            kind,
+            name,
+            text,
+            parent: None,
+            attributes: Vec::new(alloc),
+            children: Vec::new(alloc),
+        };
+        match self.rows.insert(id, row) {
+            Ok(_) => {
+                self.next = id + 1;
+                self.nodes += 1;
+                Ok(NodeId::new(id))
+            }
+            Err(_) => Err(MakeFault::Memory),
+        }
+    }
+
+    /// Makes a node as a child of another, before which `index` children stand.
+    ///
+    /// Its identity is the next one or a later one; the next identity follows it. Where memory is refused, all stays as it was.
+    pub fn make_child(
+        &mut self,
+        alloc: Global,
+        parent: NodeId,
+        index: usize,
+        node: Content,
+    ) -> Result<(), AllocError>
+        requires has { IsSome (find parent self.old.trees) }
+        requires within { index ≤ length (children_of parent self.old.trees) }
+        requires fresh { self.old.next ≤ node.identity }
+        requires room { node.identity < 2 ^ 62 }
+        ensures made { OnOk result
+            (self.new
+            ≡ record self.old {
+              trees = with_children parent (splice index (leaf node)) self.old.trees;
+              next = node.identity + 1;
+            }) }
+        ensures refused { OnErr result (self.new ≡ self.old) }
+    {
+        let next = node.identity.number() + 1;
+        table::make_below(&mut self.rows, alloc, Part::Children, parent, index, node)?;
+        self.next = next;
+        self.nodes += 1;
+        Ok(())
+    }
+
+    /// Makes the tree of a node that has a parent a tree of its own.
+    pub fn take_out(&mut self, id: NodeId)
+        requires has { IsSome (find id self.old.trees) }
+        requires below { IsSome (parent_of id self.old.trees) }
+        ensures { self.new ≡ record self.old { trees = taken_out id self.old.trees } }
+    {
+        if let Some(parent) = self.parent(id) {
+            table::drop_child(&mut self.rows, parent, id);
+            table::set_parent(&mut self.rows, id, None);
+        }
+    }
+
+    /// Puts trees of their own into a list below a node, one after the other.
+    fn put_below(
+        &mut self,
+        part: Part,
+        parent: NodeId,
+        index: usize,
+        nodes: &[NodeId],
+    ) -> Result<(), AllocError>
+        requires { CanAllMoveBelow part parent index nodes.now self.old.trees }
+        ensures put { OnOk result (self.new ≡ record self.old { trees = all_moved_below part parent index nodes.now self.old.trees }) }
+        ensures refused { OnErr result (self.new ≡ self.old) }
+    {
+        table::reserve(&mut self.rows, part, parent, nodes.len())?;
+        let mut at = index;
+        for node in nodes {
+            table::move_below(&mut self.rows, part, parent, at, *node);
+            at += 1;
+        }
+        Ok(())
+    }
+
+    /// Puts trees of their own below a node, one after the other, as children before which `index` others stand.
+    ///
+    /// Where memory is refused, all stays as it was.
+    pub fn put_children(
+        &mut self,
+        parent: NodeId,
+        index: usize,
+        nodes: &[NodeId],
+    ) -> Result<(), AllocError>
+        requires { CanAllMoveBelow Children parent index nodes.now self.old.trees }
+        ensures put { OnOk result (self.new ≡ record self.old { trees = all_moved_below Children parent index nodes.now self.old.trees }) }
+        ensures refused { OnErr result (self.new ≡ self.old) }
+    {
+        self.put_below(Part::Children, parent, index, nodes)
+    }
+
+    /// Puts trees of their own below a node, one after the other, as attributes before which `index` others stand.
+    ///
+    /// Where memory is refused, all stays as it was.
+    pub fn put_attributes(
+        &mut self,
+        parent: NodeId,
+        index: usize,
+        nodes: &[NodeId],
+    ) -> Result<(), AllocError>
+        requires { CanAllMoveBelow Attributes parent index nodes.now self.old.trees }
+        ensures put { OnOk result (self.new ≡ record self.old { trees = all_moved_below Attributes parent index nodes.now self.old.trees }) }
+        ensures refused { OnErr result (self.new ≡ self.old) }
+    {
+        self.put_below(Part::Attributes, parent, index, nodes)
+    }
+
+    /// Gives a node another text.
+    pub fn set_text(&mut self, id: NodeId, text: String)
+        requires { IsSome (find id self.old.trees) }
+        ensures { self.new ≡ record self.old { trees = with_content id (λ c. record c { text = string_bytes text }) self.old.trees } }
+    {
+        table::set_text(&mut self.rows, id, text);
+    }
+
+    /// Gives a node another name.
+    pub fn set_name(&mut self, id: NodeId, name: String)
+        requires { IsSome (find id self.old.trees) }
+        ensures { self.new ≡ record self.old { trees = with_content id (λ c. record c { name = string_bytes name }) self.old.trees } }
+    {
+        table::set_name(&mut self.rows, id, name);
+    }
+
+    /// Whether a copy of the tree of a node can be numbered.
+    fn has_room(&self, id: NodeId) -> bool
+        requires { IsSome (find id self.now.trees) }
+        ensures { IsTrue result ↔ (self.now.next + size (pick id self.now.trees) ≤ 2 ^ 62) }
+    {
+        let room = LIMIT - self.next;
+        // The whole tree is counted only where the identities run out.
+        self.nodes <= room || walk::count(&self.rows, &[id], self.next) <= room
+    }
+
+    /// Makes a copy of the tree of a node, with no parent. Its nodes take the identities from the next one on, in document order.
+    ///
+    /// It gives the copy's root. Where memory is refused (`Memory`) or the next identity would pass 2^62 (`Limit`), all stays as it was.
+    pub fn copy(&mut self, alloc: Global, id: NodeId) -> Result<NodeId, MakeFault>
+        requires { IsSome (find id self.old.trees) }
+        ensures made { IfOk result
+            (λ i. (i ≡ self.old.next)
+            × (self.new
+            ≡ record self.old {
+              trees = append self.old.trees (renumbered self.old.next (pick id self.old.trees));
+              next = self.old.next + size (pick id self.old.trees);
+            })) }
+        ensures limit { IsErrOf result MakeFault.Limit ↔ (2 ^ 62 < self.old.next + size (pick id self.old.trees)) }
+        ensures refused { OnErr result (self.new ≡ self.old) }
+    {
+        if !self.has_room(id) {
+            return Err(MakeFault::Limit);
+        }
+        let first = self.next;
+        let mut next = first;
+        match copy::copy_all(&mut self.rows, alloc, &[id], None, first, &mut next) {
+            Ok(_) => {
+                self.nodes += next - first;
+                self.next = next;
+                Ok(NodeId::new(first))
+            }
+            Err(_) => {
+                copy::remove_range(&mut self.rows, first, next);
+                Err(MakeFault::Memory)
+            }
+        }
+    }
+
+    /// An equal forest of its own.
+    pub fn duplicate(&self) -> Result<Forest, AllocError>
+        ensures { IfOk result (λ f. f ≡ self.now) }
+    {
+        Ok(Forest {
+            rows: self.rows.clone()?,
+            documents: self.documents.clone()?,
+            next: self.next,
+            nodes: self.nodes,
+        })
+    }
+}
