@@ -1,0 +1,25 @@
+-- Values as contracts see them.
+use Rattle.std.specs.Prelude.{Bool, false, ◌&&◌, ◌==◌, IsSome}
+use Rattle.query_forms.specs.Forms.{insertion_of}
+use Rattle.sessions.specs.RequestTerm.{RequestTerm}
+use Rattle.sessions.specs.declared.request.Value.{Value}
+use Rattle.sessions.specs.declared.request.Value.TheVariants.{NoOp, Request}
+use Rattle.sessions.specs.declared.request.RequestId.{RequestId}
+
+-- the client and the number of a request
+abbrev pub id_of : RequestTerm → RequestId
+id_of r = record { client = r.client; number = r.number }
+
+-- whether two requests are the same
+abbrev pub is_same : RequestId → RequestId → Bool
+is_same a b = (a.client == b.client) && (a.number == b.number)
+
+-- whether a value is that request
+abbrev pub is_of : RequestId → Value → Bool
+is_of id NoOp = false
+is_of id (Request r) = is_same id (id_of r)
+
+-- a request's text is an insertion
+abbrev pub HasForm : Value → Type 0
+HasForm NoOp = Unit {0}
+HasForm (Request r) = IsSome (insertion_of r.text)

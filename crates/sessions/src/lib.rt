@@ -1,0 +1,16 @@
+//! Requests run once, in order, over a store, and questions answered from it.
+//!
+//! The meaning of a list of values (`specs/Meaning.antt`) is a fold over the list; `State` keeps a table of
+//! replies and reads no earlier value again.
+#![tactic(auto)]
+
+mod answer;
+mod execute;
+pub mod laws;
+mod request;
+mod state;
+#[cfg(test)]
+mod tests;
+
+pub use request::{Answer, Code, MAX_TEXT, Reply, Request, RequestFault, RequestId, Value};
+pub use state::{NoMemory, State};
