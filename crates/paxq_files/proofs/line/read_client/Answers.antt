@@ -1,0 +1,7 @@
+use Rattle.std.proofs.Common.{◌∙◌}
+use Rattle.paxq_files.proofs.Numbers.{number_below-from_parse}
+use Rattle.paxq_files.proofs.line.read_client.Goals as goal
+
+pub returns-then-are_digits : goal.returns-then-are_digits
+returns-then-are_digits c =
+    c.ok.ensures.value ∙ number_below-from_parse 32 c.args.digits.now c.parse.result c.parse.ensures.value.0 (cc)

@@ -1,0 +1,4 @@
+pub mod Commands
+pub mod Lines
+pub mod Script
+pub mod ScriptCode

@@ -1,0 +1,88 @@
+-- The script that a text is: lines that end with line feeds, each a command.
+use Rattle.std.specs.Prelude.{ℕ, ◌+◌, ◌*◌, ◌^◌, ◌-◌, Bool, ◌&&◌, not, nat_lt, nat_le, ◌==◌, if◌then◌else◌, List, [], ◌∷◌, ◌++◌, length, filter, fold, codes, Option, Some, None, is_some}
+use Rattle.std.specs.Option.{option_map, option_map_or}
+use Rattle.std.specs.List.{list_all, slice_split, before_first, after_first, enumerate_from, starts_with}
+use Rattle.trees.specs.Characters.{is_digit}
+use Rattle.trees.specs.Names.{are_document_names}
+use Rattle.query_forms.specs.Forms.{insertion_of, path_of, text_after, ◌>>=◌}
+use Rattle.sessions.specs.RequestTerm.{RequestTerm}
+
+-- what a line asks for
+pub data Command : Type 0 where
+  submit : RequestTerm → Command
+  ask : List ℕ → Command
+
+-- the names of the documents, and the commands in order
+pub record ScriptTerm : Type 0 where
+  pub names : List (List ℕ)
+  pub commands : List Command
+
+-- a script, or the number of the first wrong line
+pub data ScriptRead : Type 0 where
+  script : ScriptTerm → ScriptRead
+  wrong : ℕ → ScriptRead
+
+-- the number that digits stand for
+abbrev pub digits_value : List ℕ → ℕ
+digits_value = fold (λ n b. 10 * n + (b - 48)) 0
+
+-- a number below a limit, in decimal and without a sign
+abbrev pub number_below : ℕ → List ℕ → Option ℕ
+number_below limit bs = if nat_lt 0 (length bs) && list_all is_digit bs && nat_lt (digits_value bs) limit then Some (digits_value bs) else None
+
+abbrev pub is_space : ℕ → Bool
+is_space b = b == 32
+
+-- 1 to 4,096 bytes
+abbrev pub has_text_length : List ℕ → Bool
+has_text_length text = nat_lt 0 (length text) && nat_le (length text) 4096
+
+-- a request at level 1, whose text is an insertion
+abbrev pub submit_with : ℕ → ℕ → List ℕ → Option Command
+submit_with client number text =
+    if has_text_length text && is_some (insertion_of text) then Some (submit (record { client = client; number = number; level = 1; text = text })) else None
+
+-- `CLIENT NUMBER TEXT`
+abbrev pub submit_of : List ℕ → Option Command
+submit_of parts = do
+  client ← number_below (2 ^ 32) (before_first is_space parts)
+  number ← number_below (2 ^ 64) (before_first is_space (after_first is_space parts))
+  submit_with client number (after_first is_space (after_first is_space parts))
+
+-- a question at level 1, which is a path
+abbrev pub ask_of : List ℕ → Option Command
+ask_of text = if has_text_length text && is_some (path_of text) then Some (ask text) else None
+
+-- `submit CLIENT NUMBER TEXT` or `ask TEXT`
+unfoldable pub command_of : List ℕ → Option Command
+command_of line = option_map_or submit_of (text_after (codes "submit ") line) (text_after (codes "ask ") line >>= ask_of)
+
+-- the names of a line `docs NAME ..`
+abbrev pub docs_of : List ℕ → Option (List (List ℕ))
+docs_of line = option_map (slice_split is_space) (text_after (codes "docs ") line)
+
+-- empty lines and lines that begin with `#` say nothing
+abbrev pub says_something : ℕ × List ℕ → Bool
+says_something line = not (starts_with ◌==◌ line.1 (35 ∷ [])) && nat_lt 0 (length line.1)
+
+-- the lines that say something, with their numbers from 1
+unfoldable pub lines_of : List ℕ → List (ℕ × List ℕ)
+lines_of bytes = filter says_something (enumerate_from 1 (slice_split (λ b. b == 10) bytes))
+
+-- the script of these names whose commands are some, and then those of these lines
+abbrev pub commands_from : List (List ℕ) → List Command → List (ℕ × List ℕ) → ScriptRead
+commands_from names done [] = script (record { names = names; commands = done })
+commands_from names done (line ∷ lines) = option_map_or (λ command. commands_from names (done ++ command ∷ []) lines) (command_of line.1) (wrong line.0)
+
+-- the lines after a first one that gives these names
+abbrev pub after_docs : ℕ → List (List ℕ) → List (ℕ × List ℕ) → ScriptRead
+after_docs number names lines = if are_document_names names then commands_from names [] lines else wrong number
+
+-- the first line may give the names of the documents; else there is `db`
+abbrev pub script_from : List (ℕ × List ℕ) → ScriptRead
+script_from [] = script (record { names = codes "db" ∷ []; commands = [] })
+script_from (line ∷ lines) = option_map_or (λ names. after_docs line.0 names lines) (docs_of line.1) (commands_from (codes "db" ∷ []) [] (line ∷ lines))
+
+-- the script of a text
+unfoldable pub script_of : List ℕ → ScriptRead
+script_of bytes = script_from (lines_of bytes)

@@ -1,0 +1,30 @@
+-- How the logic stores a script.
+use Rattle.std.specs.Prelude.{◌≡◌, ◌⊎◌, ℕ, List, refl}
+use Rattle.std.proofs.Common.{inl, inr}
+use Rattle.std.specs.Coded.{Coded, code_by, coded×, coded⊎, coded_ℕ, coded_list}
+use Rattle.sessions.specs.RequestTerm.{RequestTerm, request_code}
+use Rattle.paxq_files.specs.Script.{Command, submit, ask, ScriptTerm}
+
+-- a command as one of two
+abbrev pub parts_of : Command → RequestTerm ⊎ List ℕ
+parts_of (submit r) = inl r
+parts_of (ask text) = inr text
+
+-- the command of those parts
+abbrev pub command_from : RequestTerm ⊎ List ℕ → Command
+command_from (inl r) = submit r
+command_from (inr text) = ask text
+
+-- the parts of a command make it again
+pub command_from-parts_of : (c : Command) → command_from (parts_of c) ≡ c
+command_from-parts_of (submit r) = refl
+command_from-parts_of (ask text) = refl
+
+-- how a command is stored
+abbrev pub command_code : Coded Command
+command_code = code_by (RequestTerm ⊎ List ℕ) (coded⊎ request_code (coded_list coded_ℕ)) parts_of command_from command_from-parts_of
+
+-- how a script is stored
+abbrev pub script_code : Coded ScriptTerm
+script_code =
+    code_by (List (List ℕ) × List Command) (coded× (coded_list (coded_list coded_ℕ)) (coded_list command_code)) (λ s. (s.names, s.commands)) (λ p. record { names = p.0; commands = p.1 }) (λ _. refl)
