@@ -1,0 +1,81 @@
+//! `paxq`: reads the command line and runs what it asks for.
+#![tactic(auto)]
+
+mod print;
+mod run;
+mod words;
+
+ghost use Rattle.std.specs.Prelude.{◌≡◌, ◌≢◌};
+ghost use Rattle.std.specs.IoError.{error_kind};
+ghost use Rattle.std.specs.declared.io.ErrorKind.TheVariants.{OutOfMemory};
+
+use run::{cannot_read, run_script};
+use std::io::{BufWriter, Write};
+use std::process::ExitCode;
+use std::{fs, io};
+use words::{Form, WordsFault};
+
+/// Runs the form that the command line asks for, and ends with its exit status: 0 done, 1 a file that
+/// cannot be read or is wrong, 2 words of no form, 3 no answer, 4 want of memory.
+///
+/// Where standard output or standard error cannot be written, the status is 1 too.
+fn main(rt: HostRuntime) -> ExitCode {
+    match run_words(&rt) {
+        Ok(status) => ExitCode::from(status),
+        Err(error) => ExitCode::from(failed(&rt, &error)),
+    }
+}
+
+/// Reads the words and runs their form.
+fn run_words(rt: &HostRuntime) -> io::Result<u8> {
+    let words: Vec<String> = std::env::args(rt)?.collect(rt.alloc())?;
+    let words = match words.as_slice() {
+        [_, words @ ..] => words,
+        [] => &[],
+    };
+    match words::read_words(rt.alloc(), words) {
+        Ok(Form::Run { script }) => run_file(rt, script.as_str()),
+        Err(fault) => {
+            eprintln!(rt; "paxq: {fault}")?;
+            Ok(status_of(fault))
+        }
+    }
+}
+
+/// Runs the script in a file.
+fn run_file(rt: &HostRuntime, script: &str) -> io::Result<u8> {
+    let mut output = BufWriter::new(rt.alloc(), io::writer(rt))?;
+    let mut errors = rt.stderr();
+    let status = match fs::open(rt, script) {
+        Ok(mut file) => run_script(rt.alloc(), script, &mut file, &mut output, &mut errors)?,
+        Err(error) if error.kind() == io::ErrorKind::OutOfMemory => return Err(error),
+        Err(_) => cannot_read(rt.alloc(), script, &mut errors)?,
+    };
+    output.flush()?;
+    Ok(status)
+}
+
+/// Reports what ended the program before its time, where there is a report for it, and gives the
+/// exit status.
+fn failed(rt: &impl Eprint, error: &io::Error) -> u8
+    ensures memory { error_kind error.now ≡ OutOfMemory → result ≡ 4 }
+    ensures other { error_kind error.now ≢ OutOfMemory → result ≡ 1 }
+{
+    if error.kind() != io::ErrorKind::OutOfMemory {
+        return 1;
+    }
+    // Nothing is left to do where even this cannot be written.
+    let _ = eprintln!(rt; "paxq: no memory");
+    4
+}
+
+/// The exit status of words that were not read.
+fn status_of(fault: WordsFault) -> u8
+    ensures usage { fault ≡ WordsFault.Usage → result ≡ 2 }
+    ensures memory { fault ≡ WordsFault.Memory → result ≡ 4 }
+{
+    match fault {
+        WordsFault::Usage => 2,
+        WordsFault::Memory => 4,
+    }
+}

@@ -1,0 +1,56 @@
+//! The words that are a form, and those that are none.
+use super::{Form, WordsFault, read_words};
+use std::alloc::Global;
+
+fn read(alloc: Global, words: &[&str]) -> Result<Form, WordsFault> {
+    let mut owned = Vec::new(alloc);
+    for word in words {
+        let word = String::from_str(alloc, word).map_err(|_| WordsFault::Memory)?;
+        owned.push(word).map_err(|_| WordsFault::Memory)?;
+    }
+    read_words(alloc, owned.as_slice())
+}
+
+fn is_usage(alloc: Global, words: &[&str]) -> bool {
+    matches!(read(alloc, words), Err(WordsFault::Usage))
+}
+
+fn is_run(alloc: Global, words: &[&str], wanted: &str) -> bool {
+    match read(alloc, words) {
+        Ok(Form::Run { script }) => script.as_str() == wanted,
+        Err(_) => false,
+    }
+}
+
+#[test]
+fn run_names_a_script(rt: HostRuntime) {
+    assert!(rt; is_run(rt.alloc(), &["run", "S"], "S"));
+    assert!(rt; is_run(rt.alloc(), &["run", "-"], "-"));
+    assert!(rt; is_run(rt.alloc(), &["run", ""], ""));
+    assert!(rt; is_run(rt.alloc(), &["run", "run"], "run"));
+}
+
+#[test]
+fn other_words_are_no_form(rt: HostRuntime) {
+    assert!(rt; is_usage(rt.alloc(), &[]));
+    assert!(rt; is_usage(rt.alloc(), &["run"]));
+    assert!(rt; is_usage(rt.alloc(), &["run", "a", "b"]));
+    assert!(rt; is_usage(rt.alloc(), &["ran", "a"]));
+    assert!(rt; is_usage(rt.alloc(), &["sim", "E"]));
+}
+
+#[test]
+fn options_are_no_form(rt: HostRuntime) {
+    assert!(rt; is_usage(rt.alloc(), &["run", "-x"]));
+    assert!(rt; is_usage(rt.alloc(), &["run", "--", "S"]));
+    assert!(rt; is_usage(rt.alloc(), &["run", "S", "--"]));
+    assert!(rt; is_usage(rt.alloc(), &["-V"]));
+}
+
+#[test]
+fn help_is_no_form(rt: HostRuntime) {
+    assert!(rt; is_usage(rt.alloc(), &["--help"]));
+    assert!(rt; is_usage(rt.alloc(), &["-h"]));
+    assert!(rt; is_usage(rt.alloc(), &["help"]));
+    assert!(rt; is_usage(rt.alloc(), &["run", "--help"]));
+}
