@@ -1,0 +1,282 @@
+-- Every event keeps the invariant, so it holds after every list of events; agreement and P2c follow.
+use Rattle.std.proofs.Common.{◌<◌, ◌≡◌, ℕ, zero, suc, ◌≤◌, Bool, true, false, cond, arith, refl, ◌⊎◌, inl, inr, sym, subst, ap, ◌∙◌, Option, Some, None, ⊎_elim, List, [], ◌∷◌, ◌++◌, length, ap₂, option_to_list}
+use Rattle.std.proofs.lemmas.Option.{none-some, same_Some}
+use Rattle.paxos.specs.Lists.{at, Has}
+use Rattle.paxos.specs.Ballot.{below}
+use Rattle.paxos.specs.Values.{Value, Vote, Application}
+use Rattle.paxos.specs.Messages.{Packet, packet, Body, Promise, Accept, Accepted, Chosen, Submit, Ask}
+use Rattle.paxos.specs.Records.{Record, vote_at}
+use Rattle.paxos.specs.Knowledge.{news, learnt, prefix, values_to}
+use Rattle.paxos.specs.Step.{Running, Effect, quiet, on_message, may_begin, begins, on_begin}
+use Rattle.paxos.specs.World.{Member, World, started, fresh, start, Event, Deliver, Begin, Resend, CatchUp, Submits, Asks, StopInDeliver, StopInBegin, Stop, Start, Choice, stops_in, settles, runs, takes, acts, delivers, begins_in, asks, restarts, starts, happens, Happening, run, Run}
+use Rattle.paxos.specs.Agreement.{HasVoted, IsChosen, IsTold, Agreement, IsRunning}
+use Rattle.paxos.specs.Proposable.{IsFree, IsOfHighest, IsProposable, IsIssued, P2c}
+use Rattle.paxos.proofs.Order.{below_self}
+use Rattle.paxos.proofs.Safe.{NotAbove, above_trans, Backed, accepted_one}
+use Rattle.paxos.proofs.Moves.{Moves, safe_after}
+use Rattle.paxos.proofs.Lists.{has_left, has_cases, at_has, at_replicate}
+use Rattle.paxos.proofs.Votes.{Rising}
+use Rattle.paxos.proofs.News.{prefix_learnt}
+use Rattle.paxos.proofs.Kept.{kept_in, slot_of, Voted, Asked, Reported, reports_in, Invariant, invariant_after}
+use Rattle.paxos.proofs.Effects.{Stands, Good, None_new, nothing_new, quiet_good, stops_in_good, settles_good, started_good}
+use Rattle.paxos.proofs.Leading.{begins_good, begin_good, resend_good}
+use Rattle.paxos.proofs.Answering.{message_good, catch_up_tick_good}
+
+some_member : (ms : List Member) (m : ℕ) (x : Member) → at ms m ≡ Some x → (k : ℕ) × (length ms ≡ suc k)
+some_member ms zero x h = absurd (none-some x h)
+some_member [] (suc i) x h = absurd (none-some x h)
+some_member (y ∷ ms) (suc i) x h = (length ms, refl)
+
+stands : (w : World) → Invariant w → (m : ℕ) (x : Member) (u : Running) → at w.members m ≡ Some x → x.running ≡ Some u → Stands w m x.kept u []
+stands w i m x u h r = record {
+  invariant = i;
+  some = some_member w.members m x h;
+  kept = ap kept_in h;
+  rising = i.rising m x h;
+  leads = λ l k. i.leads m x u l h r k;
+  heard = λ p k. i.heard m x u p h r k;
+  applied = i.applied m x u h r;
+  told = λ p value l. inl (i.learnt m x u p value h r l);
+}
+
+-- a step is good wherever a running member takes it
+acts_keeps : (w : World) → Invariant w → (m : ℕ) (step : Record → Running → Effect) → ((r : Record) (u : Running) → Stands w m r u [] → Good w m r (step r u)) → Invariant (acts w m step)
+acts_keeps w i m step good = taken (at w.members m) refl
+  where
+    ran : (x : Member) → at w.members m ≡ Some x → (o : Option Running) → x.running ≡ o → Invariant (runs w m x.kept step o)
+    ran x h None r = i
+    ran x h (Some u) r = let g = good x.kept u (stands w i m x u h r) in invariant_after w m x g.New (step x.kept u) i h g.fine
+
+    taken : (o : Option Member) → at w.members m ≡ o → Invariant (takes w m step o)
+    taken None h = i
+    taken (Some x) h = ran x h x.running refl
+
+delivers_keeps : (w : World) → Invariant w → (app : Application) (how : Effect → Effect)
+    → ((m : ℕ) (r : Record) (e : Effect) → Rising r.votes → Good w m r e → Good w m r (how e))
+    → (o : Option Packet) → ((k : Packet) → o ≡ Some k → Has w.sent k) → Invariant (delivers app w how o)
+delivers_keeps w i app how keeps None h = i
+delivers_keeps w i app how keeps (Some k) h = acts_keeps w i k.target (λ r u. how (on_message app (length w.members) k.target k r u))
+    (λ r u s. keeps k.target r (on_message app (length w.members) k.target k r u) s.rising (message_good w k.target r u app k (h k refl) s))
+
+begins_in_good : (w : World) (c : Choice) (m : ℕ) (r : Record) (u : Running) → Stands w m r u [] → Good w m r (begins_in w c m r u)
+begins_in_good w c m r u s = one (may_begin (length w.members) r u)
+  where
+    one : (t : Bool) → Good w m r (cond t (settles (length w.members) c (begins (length w.members) m r u)) (quiet u))
+    one true = settles_good w m r c _ s.rising (begins_good w m r u s)
+    one false = quiet_good w m r u s
+
+restarts_keeps : (w : World) → Invariant w → (fails : Option Bool) (m : ℕ) (x : Member) → at w.members m ≡ Some x → (o : Option Running) → Invariant (restarts w fails m x.kept o)
+restarts_keeps w i fails m x h (Some u) = i
+restarts_keeps w i (Some kept) m x h None = i
+restarts_keeps w i None m x h None = let g = started_good w m x.kept (i.rising m x h) in invariant_after w m x g.New _ i h g.fine
+
+starts_keeps : (w : World) → Invariant w → (fails : Option Bool) (m : ℕ) (o : Option Member) → at w.members m ≡ o → Invariant (starts w fails m o)
+starts_keeps w i fails m None h = i
+starts_keeps w i fails m (Some x) h = restarts_keeps w i fails m x h x.running
+
+-- a kind of message that the acceptors, leaders and learners don't send one another
+abbrev IsPlain : Body → Type 0
+IsPlain (Promise x) = ⊥
+IsPlain (Accept p v) = ⊥
+IsPlain (Accepted p v) = ⊥
+IsPlain (Chosen pairs) = ⊥
+IsPlain body = Unit {0}
+
+-- such a message more among those sent
+module _ (w : World) (m : ℕ) (body : Body) (plain : IsPlain body) (i : Invariant w) where
+  more : World
+  more = record { members = w.members; sent = w.sent ++ packet 0 body m ∷ []; votes = w.votes; told = w.told }
+
+  -- of another kind nothing is new
+  still : (k : Packet) (other : Body) → (IsPlain other → ⊥) → Has more.sent k → k.body ≡ other → Has w.sent k
+  unfolding more
+  still k other d h e = ⊎_elim
+      (λ (o : Has w.sent k). o)
+      (λ (o : Has (packet 0 body m ∷ []) k). ⊎_elim (λ (q : packet 0 body m ≡ k). absurd (d (subst IsPlain (ap (λ (x : Packet). x.body) q ∙ e) plain))) (λ (n : ⊥). absurd n) o)
+      (has_cases w.sent (packet 0 body m ∷ []) k h)
+
+  grown : (k : Packet) → Has w.sent k → Has more.sent k
+  unfolding more
+  grown k h = has_left w.sent (packet 0 body m ∷ []) k h
+
+  asked_before : (p : ℕ) (v : Vote) → Asked more p v → Asked w p v
+  asked_before p v a = record { packet = a.packet; sent = still a.packet (Accept p v) (λ x. x) a.sent a.body; body = a.body }
+
+  asked_more : (p : ℕ) (v : Vote) → Asked w p v → Asked more p v
+  asked_more p v a = record { packet = a.packet; sent = grown a.packet a.sent; body = a.body }
+
+  moves_more : (p : ℕ) → Moves (length w.members) m (None_new p) (slot_of w p) (slot_of w p) (Voted w p) (Voted w p) (Asked w p) (Asked more p) (Reported w p) (Reported more p)
+  moves_more p = record {
+    other = λ k d. refl;
+    leaves = record { grows = below_self (slot_of w p m).promise; vote = inl refl };
+    voted_old = λ k v h. h;
+    voted_new = λ v h. (i.safe p).kept_voted m v h;
+    voted_is = λ k v h. inl h;
+    asked_old = λ v a. asked_more p v a;
+    asked_is = λ v a. inl (asked_before p v a);
+    new_one = λ v x h k. nothing_new p v h;
+    may_ask = λ v h. nothing_new p v h;
+    reported_old = λ k b r h. reports_in w.sent more.sent p k b r h (grown h.packet h.sent);
+    reported_is = λ k b r h. inl (reports_in more.sent w.sent p k b r h (still h.packet (Promise h.window) (λ x. x) h.sent h.body));
+  }
+
+  chosen_more : (p : ℕ) (value : Value) → IsChosen w p value → IsChosen more p value
+  unfolding more
+  chosen_more p value c = record { ballot = c.ballot; set = c.set; majority = c.majority; voted = c.voted }
+
+  more_keeps : Invariant more
+  unfolding more
+  more_keeps = record {
+    safe = λ p. safe_after (length w.members) m (None_new p) (slot_of w p) (slot_of w p) (Voted w p) (Voted w p) (Asked w p) (Asked more p) (Reported w p) (Reported more p) (i.safe p) (moves_more p);
+    rising = i.rising;
+    leads = λ k x u l h r q. let g = i.leads k x u l h r q in record {
+      own = g.own;
+      kept = g.kept;
+      based = g.based;
+      asked = λ p v a b. g.asked p v (asked_before p v a) b;
+      proposed = λ p value a. asked_more p _ (g.proposed p value a);
+    };
+    heard = λ k x u p h r q. grown p (i.heard k x u p h r q);
+    applied = i.applied;
+    learnt = i.learnt;
+    accepted = λ k p v h e. i.accepted k p v (still k (Accepted p v) (λ x. x) h e) e;
+    chosen = λ k pairs e h q a. chosen_more e.position e.value (i.chosen k pairs e (still k (Chosen pairs) (λ x. x) h q) q a);
+    told = λ k e h. chosen_more e.position e.value (i.told k e h);
+  }
+
+asks_keeps : (w : World) → Invariant w → (m : ℕ) (body : Body) → IsPlain body → (o : Option Member) → Invariant (asks w m body o)
+unfolding more
+asks_keeps w i m body plain None = i
+asks_keeps w i m body plain (Some x) = more_keeps w m body plain i
+
+happens_keeps : (app : Application) (w : World) (c : Choice) (e : Event) → Invariant w → Invariant (happens app w c e)
+happens_keeps app w c (Deliver k) i = delivers_keeps w i app (settles (length w.members) c) (λ m r e rising g. settles_good w m r c e rising g) (at w.sent k) (λ p h. at_has w.sent k p h)
+happens_keeps app w c (Begin m) i = acts_keeps w i m (begins_in w c m) (λ r u s. begins_in_good w c m r u s)
+happens_keeps app w c (Resend m) i = acts_keeps w i m _ (λ r u s. settles_good w m r c _ s.rising (resend_good w m r u s))
+happens_keeps app w c (CatchUp m) i = acts_keeps w i m _ (λ r u s. settles_good w m r c _ s.rising (catch_up_tick_good w m r u s))
+happens_keeps app w c (Submits m q) i = asks_keeps w i m (Submit q) tt (at w.members m)
+happens_keeps app w c (Asks m q) i = asks_keeps w i m (Ask q) tt (at w.members m)
+happens_keeps app w c (StopInDeliver k kept) i = delivers_keeps w i app (stops_in kept) (λ m r e rising g. stops_in_good w m r kept e rising g) (at w.sent k) (λ p h. at_has w.sent k p h)
+happens_keeps app w c (StopInBegin m kept) i = acts_keeps w i m _ (λ r u s. stops_in_good w m r kept (on_begin (length w.members) m r u) s.rising (begin_good w m r u s))
+happens_keeps app w c (Stop m) i = acts_keeps w i m _ (λ r u s. stops_in_good w m r false (quiet u) s.rising (quiet_good w m r u s))
+happens_keeps app w c (Start m) i = starts_keeps w i c.fails m (at w.members m) refl
+
+run_keeps : (app : Application) (w : World) (hs : List Happening) → Invariant w → Invariant (run app w hs)
+run_keeps app w [] i = i
+run_keeps app w (h ∷ hs) i = run_keeps app (happens app w h.choice h.event) hs (happens_keeps app w h.choice h.event i)
+
+start_holds : (n : ℕ) → Invariant (start n)
+start_holds n = record {
+  safe = λ p. record {
+    voted_kept = λ m v h. absurd h;
+    kept_promised = λ m v e. absurd (none-some v (sym (nobody p m (at (start n).members m) refl) ∙ e));
+    kept_voted = λ m v e. absurd (none-some v (sym (nobody p m (at (start n).members m) refl) ∙ e));
+    voted_asked = λ m v h. absurd h;
+    reported_promised = λ m b r h. absurd h.sent;
+    reported_most = λ m b v h. absurd h.sent;
+    reported_voted = λ m b v h. absurd h.sent;
+    reported_highest = λ m b r v h k l. absurd h.sent;
+    asked_promised = λ v h. absurd h.sent;
+    asked_one = λ v w h k e. absurd h.sent;
+    asked_backed = λ v h. absurd h.sent;
+  };
+  rising = λ m x h. subst (λ (y : Member). Rising y.kept.votes) (at_replicate n m fresh x h) tt;
+  leads = λ m x u l h r k. absurd (none-some l (ap (λ (y : Running). y.leader) (is_started m x u h r) ∙ k));
+  heard = λ m x u p h r k. absurd (subst (λ (y : Running). Has y.heard p) (sym (is_started m x u h r)) k);
+  applied = λ m x u h r. subst (λ (y : Running). y.applied ≤ prefix (length (start n).members) (news y.heard)) (is_started m x u h r) (omega arith);
+  learnt = λ m x u p value h r l. absurd (none-some value (subst (λ (y : Running). learnt (length (start n).members) p (news y.heard) ≡ Some value) (sym (is_started m x u h r)) l));
+  accepted = λ k p v h e. absurd h;
+  chosen = λ k pairs e h q a. absurd h;
+  told = λ m e h. absurd h;
+}
+  where
+    is_started : (m : ℕ) (x : Member) (u : Running) → at (start n).members m ≡ Some x → x.running ≡ Some u → started ≡ u
+    is_started m x u h r = same_Some _ _ (ap (λ (y : Member). y.running) (at_replicate n m fresh x h) ∙ r)
+
+    nobody : (p m : ℕ) (o : Option Member) → at (start n).members m ≡ o → (slot_of (start n) p m).vote ≡ None
+    nobody p m None h = rw h refl
+    nobody p m (Some x) h = rw h (subst (λ (y : Member). vote_at p y.kept.votes ≡ None) (at_replicate n m fresh x h) refl)
+
+-- what holds after every list of events
+always : (app : Application) (n : ℕ) (hs : List Happening) → Invariant (run app (start n) hs)
+always app n hs = run_keeps app (start n) hs (start_holds n)
+
+module _ (w : World) (i : Invariant w) where
+  one_chosen : (p : ℕ) (a b : Value) → IsChosen w p a → IsChosen w p b → a ≡ b
+  one_chosen p a b c d =
+      accepted_one (length w.members) (slot_of w p) (Voted w p) (Asked w p) (Reported w p) (i.safe p)
+      (record { ballot = c.ballot; value = a }) (record { ballot = d.ballot; value = b })
+      (record { set = c.set; majority = c.majority; voted = c.voted }) (record { set = d.set; majority = d.majority; voted = d.voted })
+
+  told_chosen : (m p : ℕ) (value : Value) → IsTold w m p value → IsChosen w p value
+  told_chosen m p value h = i.told m (record { position = p; value = value }) h
+
+  learnt_told : (m p : ℕ) (u : Running) (value : Value) → IsRunning w m u → learnt (length w.members) p (news u.heard) ≡ Some value → IsTold w m p value
+  learnt_told m p u value r l = i.learnt m r.is u p value r.there r.running l
+
+  applied_learnt : (m p : ℕ) (u : Running) → IsRunning w m u → 0 < p → p ≤ u.applied → (value : Value) × (learnt (length w.members) p (news u.heard) ≡ Some value)
+  applied_learnt m p u r l h = prefix_learnt (length w.members) (news u.heard) p l (let most = i.applied m r.is u r.there r.running in omega arith)
+
+  same_values : (k m j : ℕ) (u v : Running) → IsRunning w k u → IsRunning w m v → j ≤ u.applied → j ≤ v.applied → values_to (length w.members) (news u.heard) j ≡ values_to (length w.members) (news v.heard) j
+  same_values k m zero u v r s a b = refl
+  same_values k m (suc j) u v r s a b =
+      let x = applied_learnt k (suc j) u r (omega arith) a in
+      let y = applied_learnt m (suc j) v s (omega arith) b in
+      let e = one_chosen (suc j) x.0 y.0 (told_chosen k (suc j) x.0 (learnt_told k (suc j) u x.0 r x.1)) (told_chosen m (suc j) y.0 (learnt_told m (suc j) v y.0 s y.1)) in
+      ap₂ (λ (vs : List Value) (o : Option Value). vs ++ option_to_list o) (same_values k m j u v r s (omega arith) (omega arith)) (x.1 ∙ ap Some e ∙ sym y.1)
+
+  agrees : Agreement w
+  agrees = record {
+    one_value = one_chosen;
+    told = told_chosen;
+    told_one = λ k m p a b h q. one_chosen p a b (told_chosen k p a h) (told_chosen m p b q);
+    learnt = learnt_told;
+    applied = applied_learnt;
+    same_values = same_values;
+  }
+
+  -- the votes of the quorum below the ballot, against the report that counts
+  most : (p : ℕ) (vote : Vote) (k : Backed (length w.members) (Reported w p) vote) (m : ℕ) (v : Vote) → k.quorum m ≡ true → HasVoted w m p v → below v.ballot vote.ballot ≡ true → NotAbove (Some v) k.top
+  most p vote k m v q h l =
+      let r = k.each m q in
+      above_trans (Some v) r.0 k.top ((i.safe p).reported_highest m vote.ballot r.0 v r.1 h l) r.2
+
+  free_or_bound : (p : ℕ) (vote : Vote) (k : Backed (length w.members) (Reported w p) vote) (top : Option Vote) → k.top ≡ top → IsFree w k.quorum vote.ballot p ⊎ IsOfHighest w k.quorum vote.ballot p vote.value
+  free_or_bound p vote k None e = inl (λ m v q h. one m v q h (below v.ballot vote.ballot) refl)
+    where
+      one : (m : ℕ) (v : Vote) → k.quorum m ≡ true → HasVoted w m p v → (t : Bool) → below v.ballot vote.ballot ≡ t → below v.ballot vote.ballot ≡ false
+      one m v q h true l = absurd (subst (NotAbove (Some v)) e (most p vote k m v q h l))
+      one m v q h false l = l
+  free_or_bound p vote k (Some t) e = let h = k.held t e in inr (record {
+    highest = t;
+    same_value = h.same_value;
+    lower = h.lower;
+    member = h.member;
+    in_set = h.in_quorum;
+    accepted = (i.safe p).reported_voted h.member vote.ballot t h.reported;
+    reported = h.reported;
+    most = λ m v q a l. subst (NotAbove (Some v)) e (most p vote k m v q a l);
+  })
+
+  proposable : (p : ℕ) (vote : Vote) → IsIssued w p vote → IsProposable w p vote
+  proposable p vote a = let k = (i.safe p).asked_backed vote a in record {
+    set = k.quorum;
+    majority = k.majority;
+    promised = λ m q. let r = k.each m q in (r.0, r.1);
+    free_or_bound = free_or_bound p vote k k.top refl;
+  }
+
+  p2c : P2c w
+  p2c = record { proposable = proposable; one_value = λ p a b h k e. (i.safe p).asked_one a b h k e }
+
+-- Agreement after every list of events.
+pub run_agrees : (app : Application) (n : ℕ) (hs : List Happening) → Agreement (run app (start n) hs)
+run_agrees app n hs = agrees (run app (start n) hs) (always app n hs)
+
+-- P2c after every list of events.
+pub run_p2c : (app : Application) (n : ℕ) (hs : List Happening) → P2c (run app (start n) hs)
+run_p2c app n hs = p2c (run app (start n) hs) (always app n hs)
+
+-- Agreement after each run of the events.
+pub each_run_agrees : (app : Application) (n : ℕ) (events : List Event) (end : World) → Run app (start n) events end → Agreement end
+each_run_agrees app n events end r = subst Agreement r.2 (run_agrees app n r.0)

@@ -1,0 +1,36 @@
+-- Ballots, their order, and majorities.
+-- "Paxos Made Simple" (Lamport, 2001) calls a ballot a proposal number; that each proposer has numbers of its own is its section 2.5.
+use Rattle.std.specs.Prelude.{ℕ, zero, suc, ◌+◌, ◌-◌, ◌*◌, ◌<◌, ◌^◌, Bool, cond, ◌&&◌, ◌||◌, ◌==◌, nat_lt}
+
+-- rounds are 1 to this (our own choice)
+unfoldable pub last_round : ℕ
+last_round = 2 ^ 40 - 1
+
+-- a round, and the member that began it
+pub record Ballot : Type 0 where
+  pub round : ℕ
+  pub member : ℕ
+
+-- stands for none; below each ballot of a member
+abbrev pub no_ballot : Ballot
+no_ballot = record { round = 0; member = 0 }
+
+-- the round decides first
+abbrev pub below : Ballot → Ballot → Bool
+below a b = nat_lt a.round b.round || (a.round == b.round && nat_lt a.member b.member)
+
+abbrev pub same_ballot : Ballot → Ballot → Bool
+same_ballot a b = a.round == b.round && a.member == b.member
+
+-- how many of the members 1 to n are in the set
+abbrev pub count : ℕ → (ℕ → Bool) → ℕ
+count zero set = 0
+count (suc n) set = cond (set (suc n)) 1 0 + count n set
+
+-- more than half of n members (section 2.2: any two majorities have a member in common)
+abbrev pub IsMajority : ℕ → (ℕ → Bool) → Type 0
+IsMajority n set = n < 2 * count n set
+
+-- the same as a test
+abbrev pub is_majority : ℕ → (ℕ → Bool) → Bool
+is_majority n set = nat_lt n (2 * count n set)

@@ -1,0 +1,12 @@
+pub mod Lists
+pub mod Ballot
+pub mod Values
+pub mod Messages
+pub mod Records
+pub mod Knowledge
+pub mod Proposing
+pub mod Step
+pub mod World
+pub mod Agreement
+pub mod Proposable
+pub mod Examples

@@ -1,0 +1,89 @@
+//! Paxos at many positions: its definitions stand in `specs`, and its laws are the contracts of functions with empty bodies.
+//!
+//! Nothing here runs. The members' parts (acceptor, proposer, learner) and the world that runs them cite the definitions, and so
+//! get the laws.
+#![tactic(auto)]
+
+ghost use Rattle.std.specs.Prelude.{◌≡◌, ℕ, suc, ◌<◌, ◌≤◌, Bool, true, false, List, [], ◌∷◌, ◌++◌, length, take, Option, Some, None, IsSome};
+ghost use Rattle.paxos.specs.Lists.{at};
+ghost use Rattle.paxos.specs.Agreement.{Agreement};
+ghost use Rattle.paxos.specs.Examples.{asked, ballot, vote, votes_to, after_stop};
+ghost use Rattle.paxos.specs.Knowledge.{Heard, AcceptedBy, learnt, IsHeard, prefix};
+ghost use Rattle.paxos.specs.Messages.{Promise};
+ghost use Rattle.paxos.specs.Proposable.{P2c};
+ghost use Rattle.paxos.specs.Proposing.{turns, WentOn};
+ghost use Rattle.paxos.specs.Records.{window};
+ghost use Rattle.paxos.specs.Values.{Application, Value, Vote, Pair, positions};
+ghost use Rattle.paxos.specs.World.{World, start, Event, Happening, run, Run};
+
+/// No position has two chosen values; what a member has learnt it was told, and what it was told is chosen; and members that
+/// have applied as many positions have applied the same values.
+///
+/// This holds for every number of members and every list of events, whatever each event left open, after each beginning of the
+/// list: the first `k` events.
+pub fn agreement()
+    ensures after_each_beginning { (app : Application) (members : ℕ) (events : List Happening) (k : ℕ) → Agreement (run app (start members) (take k events)) }
+    ensures after_each_run { (app : Application) (members : ℕ) (events : List Event) (end : World) → Run app (start members) events end → Agreement end }
+{}
+
+/// Why a value may be proposed ("Paxos Made Simple", section 2.2, P2c), at each position and for each Accept that was ever sent.
+///
+/// A majority has promised its ballot there, and either none of it has accepted a proposal of a lower ballot, or the value is
+/// that of the highest such proposal. One ballot has one value at a position.
+pub fn promised_or_free()
+    ensures { (app : Application) (members : ℕ) (events : List Happening) (k : ℕ) → P2c (run app (start members) (take k events)) }
+{}
+
+/// A position is learnt exactly where a majority was heard to have accepted one vote there, or its value was told as chosen; the
+/// first of these gives the value. The prefix is the longest beginning without a gap.
+///
+/// This holds for all that a learner may have heard, whoever said it; a list has the newest first.
+pub fn learning()
+    ensures has_a_reason { (members : ℕ) (position : ℕ) (heard : List Heard) (value : Value)
+        → learnt members position heard ≡ Some value → IsHeard members position heard value }
+    ensures is_learnt { (members : ℕ) (position : ℕ) (heard : List Heard) (value : Value)
+        → IsHeard members position heard value → IsSome (learnt members position heard) }
+    ensures stays { (members : ℕ) (position : ℕ) (newer : List Heard) (older : List Heard) (value : Value)
+        → learnt members position older ≡ Some value → learnt members position (newer ++ older) ≡ Some value }
+    ensures prefix_learnt { (members : ℕ) (heard : List Heard) (position : ℕ)
+        → 0 < position → position ≤ prefix members heard → IsSome (learnt members position heard) }
+    ensures prefix_longest { (members : ℕ) (heard : List Heard)
+        → prefix members heard < positions → learnt members (suc (prefix members heard)) heard ≡ None }
+{}
+
+/// Proposing goes on until it has a reason to stop; each value is proposed for its reason, and no position is passed without one.
+///
+/// This holds whatever the windows cover and report, whatever is learnt, and whatever was proposed before.
+pub fn proposing()
+    ensures { (members : ℕ) (cover : ℕ → ℕ) (report : ℕ → Option Vote) (is_learnt : ℕ → Bool) (next : ℕ) (proposals : List Pair) → 0 < next
+        → WentOn members cover report is_learnt
+        (record { next = next; proposals = proposals; made = [] })
+        (turns members cover report is_learnt positions (record { next = next; proposals = proposals; made = [] })) }
+{}
+
+#[tactic(auto, unfolding(crate::specs::Values::positions))]
+/// Worked examples of windows: votes at 1 to 9, asked for from position 1 and from position 9.
+pub fn windows_of_nine_votes()
+    ensures first_eight { (window (ballot 2 2) 1 (votes_to 9)).entries ≡ votes_to 8 }
+    ensures up_to_the_eighth { (window (ballot 2 2) 1 (votes_to 9)).covered ≡ 8 }
+    ensures the_last { length ((window (ballot 2 2) 9 (votes_to 9)).entries) ≡ 1 }
+    ensures to_the_end { (window (ballot 2 2) 9 (votes_to 9)).covered ≡ 1000000 }
+{}
+
+/// Worked examples of learning with four members: two Accepted tell nothing, the third of the same ballot tells, and those of
+/// different ballots don't add up.
+pub fn majority_of_four()
+    ensures half { learnt 4 1 (AcceptedBy 2 1 (vote (ballot 1 1)) ∷ AcceptedBy 1 1 (vote (ballot 1 1)) ∷ []) ≡ None }
+    ensures repeated { learnt 4 1 (AcceptedBy 2 1 (vote (ballot 1 1)) ∷ AcceptedBy 2 1 (vote (ballot 1 1)) ∷ AcceptedBy 1 1 (vote (ballot 1 1)) ∷ []) ≡ None }
+    ensures three { learnt 4 1 (AcceptedBy 3 1 (vote (ballot 1 1)) ∷ AcceptedBy 2 1 (vote (ballot 1 1)) ∷ AcceptedBy 1 1 (vote (ballot 1 1)) ∷ []) ≡ Some (asked 1) }
+    ensures two_ballots { learnt 4 1 (AcceptedBy 3 1 (vote (ballot 2 2)) ∷ AcceptedBy 2 1 (vote (ballot 1 1)) ∷ AcceptedBy 1 1 (vote (ballot 1 1)) ∷ []) ≡ None }
+{}
+
+/// Worked examples of a stop inside a write: the Promise after the next start reports the vote if it was kept, and none if it
+/// was lost; no Accepted was sent in either.
+pub fn stop_inside_a_write()
+    ensures kept { at (after_stop true).sent 3 ≡ Some (record { sender = 2; target = 3; body = Promise (window (ballot 2 3) 1 (votes_to 1)) }) }
+    ensures lost { at (after_stop false).sent 3 ≡ Some (record { sender = 2; target = 3; body = Promise (window (ballot 2 3) 1 []) }) }
+    ensures nothing_else_kept { length (after_stop true).sent ≡ 3 }
+    ensures nothing_else_lost { length (after_stop false).sent ≡ 3 }
+{}
