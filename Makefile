@@ -1,0 +1,32 @@
+# `make` alone lists the targets.
+
+.PHONY: help demo test paxq bench sweep clean
+
+help:
+	@echo 'make demo   builds paxq without waiting for its proof, and runs examples/first.pxq'
+	@echo 'make test   proves everything from nothing and runs every test (the gate; last line "N passed, M failed")'
+	@echo 'make paxq   proves paxq and what it stands on, and leaves the program at bin/paxq'
+	@echo 'make bench  measures bin/paxq (figures for docs/BENCHMARKS.md)'
+	@echo 'make sweep  refuses each allocation of a run in turn, and looks at how the run ends'
+	@echo 'make clean  removes what builds made'
+
+demo:
+	@echo 'This is the unproved build: the same code, not yet proved. `make paxq` builds the proved program.'
+	@cd crates/paxq && rt try -- run "$(CURDIR)/examples/first.pxq"
+
+test:
+	rt ci
+
+paxq:
+	cd crates/paxq && rt run -- run "$(CURDIR)/examples/first.pxq"
+	mkdir -p bin && cp crates/paxq/out/paxq bin/paxq
+
+bench: paxq
+	bench/run bin/paxq
+	bench/limits bin/paxq
+
+sweep:
+	bench/sweep
+
+clean:
+	rm -rf bin crates/*/out
