@@ -6,3 +6,4 @@ pub mod Meaning
 pub mod Answers
 pub mod Session
 pub mod Inside
+pub mod Examples

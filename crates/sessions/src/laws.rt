@@ -1,6 +1,6 @@
 //! Laws of the meaning of a list of values, each the contract of a function that does nothing.
 
-ghost use Rattle.std.specs.Prelude.{◌≡◌, ℕ, ◌+◌, List, [], ◌∷◌, ◌++◌, length, Some, None, true, false};
+ghost use Rattle.std.specs.Prelude.{codes, ◌≡◌, ℕ, ◌+◌, List, [], ◌∷◌, ◌++◌, length, Some, None, true, false};
 ghost use Rattle.std.specs.List.{list_any};
 ghost use Rattle.trees.specs.Forest.{opening_forest};
 ghost use Rattle.sessions.specs.declared.request.Value.{Value};
@@ -8,7 +8,13 @@ ghost use Rattle.sessions.specs.declared.request.Value.TheVariants.{NoOp, Reques
 ghost use Rattle.sessions.specs.declared.request.RequestId.{RequestId};
 ghost use Rattle.sessions.specs.RequestTerm.{RequestTerm};
 ghost use Rattle.sessions.specs.Terms.{id_of, is_of};
-ghost use Rattle.sessions.specs.Run.{run};
+ghost use Rattle.trees.specs.Forest.{document_node};
+ghost use Rattle.trees.specs.Trees.{tree, no_trees, leaf};
+ghost use Rattle.sessions.specs.declared.request.Code.TheVariants.{FODC0002};
+ghost use Rattle.sessions.specs.declared.request.Reply.TheVariants.{Done, Fault};
+ghost use Rattle.sessions.specs.Run.{run, element};
+ghost use Rattle.sessions.specs.Answers.{answer, text};
+ghost use Rattle.sessions.specs.Examples.{names, values, asks};
 ghost use Rattle.sessions.specs.Meaning.{store_of, kept_reply, reply_for, text_of_value};
 
 /// The kept reply of a client and number is how the first occurrence of that request ended, run on the
@@ -33,4 +39,16 @@ pub fn stores()
     ensures first { (names : List (List ℕ)) (values : List Value) (request : RequestTerm)
         → list_any (is_of (id_of request)) values ≡ false
         → store_of names (values ++ Request request ∷ []) ≡ (run (store_of names values) request.text).forest }
+{}
+
+/// Worked examples: what four values mean from the opening store of `db` (the first insertion of an `a`, a
+/// repeat with another text, a no-op, and an insertion into a document that is not there).
+pub fn examples()
+    ensures stored { store_of names values
+        ≡ record { trees = tree (document_node 1) no_trees (leaf (element 3 (codes "a"))) no_trees; documents = (codes "db", 1) ∷ []; next = 4 } }
+    ensures first { kept_reply names values (record { client = 1; number = 1 }) ≡ Some (Done 1) }
+    ensures second { kept_reply names values (record { client = 1; number = 2 }) ≡ Some (Fault FODC0002 4) }
+    ensures other { kept_reply names values (record { client = 2; number = 1 }) ≡ None }
+    ensures found { answer (store_of names values) (asks (codes "a")) ≡ text (codes "element a {}") }
+    ensures repeated { answer (store_of names values) (asks (codes "b")) ≡ text [] }
 {}
