@@ -25,8 +25,9 @@ bench: paxq
 	bench/run bin/paxq
 	bench/limits bin/paxq
 
-sweep:
-	bench/sweep
+sweep: paxq
+	cc -shared -fPIC -O1 -o bin/refuse.so bench/refuse.c -ldl
+	bench/sweep bin/paxq bin/refuse.so
 
 clean:
 	rm -rf bin crates/*/out
