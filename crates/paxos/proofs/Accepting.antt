@@ -6,7 +6,7 @@ use Rattle.paxos.specs.Lists.{Has}
 use Rattle.paxos.specs.Ballot.{Ballot, below}
 use Rattle.paxos.specs.Values.{Vote, Entry}
 use Rattle.paxos.specs.Messages.{Packet, packet, Promise, Accepted, up_to, to_all}
-use Rattle.paxos.specs.Records.{Record, vote_at, with_vote, window, Write, Nothing, NewPromise, NewVote, written, on_prepare_write, has_vote, on_accept_write}
+use Rattle.paxos.specs.Records.{Record, vote_at, with_vote, window, Write, Nothing, NewPromise, NewVote, written, prepare_write, has_vote, accept_write}
 use Rattle.paxos.specs.Step.{Leader, Running, Effect, quiet, yields, yielding, on_prepare, on_accept}
 use Rattle.paxos.specs.World.{casts, World}
 use Rattle.paxos.proofs.Order.{below_self, most_trans, most_antisym, same_vote_equal}
@@ -15,6 +15,7 @@ use Rattle.paxos.proofs.Votes.{vote_same, vote_other, rising_with, window_says}
 use Rattle.paxos.proofs.Kept.{slot, Asked, Leads, MaySay}
 use Rattle.paxos.proofs.Effects.{Stands, None_new, Good, plain_good, weaker_leads, nothing_new, sent_to_each, same_heard, same_applied, same_told, quiet_good}
 
+-- a leader that did not yield is the one from before, of no lower ballot
 yields_is : (b : Ballot) (o : Option Leader) (l : Leader) → yields b o ≡ Some l → (o ≡ Some l) × (below l.ballot b ≡ false)
 yields_is b None l h = absurd (none-some l h)
 yields_is b (Some k) l h = one k l (below k.ballot b) refl h
@@ -46,6 +47,7 @@ module _ (w : World) (m : ℕ) (r : Record) (u : Running) (s : Stands w m r u []
     tells = λ t h. absurd h;
   })
 
+  -- a Prepare
   pub prepare_good : (b : Ballot) (from : ℕ) → Good w m r (on_prepare m r u b from)
   prepare_good b from = one (below b r.promise) refl
     where
@@ -57,10 +59,11 @@ module _ (w : World) (m : ℕ) (r : Record) (u : Running) (s : Stands w m r u []
       two e true l = answers_good b (NewPromise b) _ refl (λ c h. h) e (promises (written (NewPromise b) r) refl refl)
       two e false l = answers_good b Nothing _ refl (λ c h. h) (below_self r.promise) (promises r refl (most_antisym b r.promise e l))
 
-      one : (t : Bool) → below b r.promise ≡ t → Good w m r (cond t (quiet u) (record { write = on_prepare_write r b; running = Some (yielding b u); sends = packet m (Promise (window b from r.votes)) b.member ∷ []; tells = [] }))
+      one : (t : Bool) → below b r.promise ≡ t → Good w m r (cond t (quiet u) (record { write = prepare_write r b; running = Some (yielding b u); sends = packet m (Promise (window b from r.votes)) b.member ∷ []; tells = [] }))
       one true e = quiet_good w m r u s
       one false e = two e (below r.promise b) refl
 
+  -- the test of a vote tells that it stands there
   had : (o : Option Vote) (vote : Vote) → has_vote o vote ≡ true → o ≡ Some vote
   had None vote h = absurd (false≢true h)
   had (Some old) vote h = ap Some (same_vote_equal old vote h)
@@ -114,6 +117,7 @@ module _ (w : World) (m : ℕ) (r : Record) (u : Running) (s : Stands w m r u []
       casts_are q v (inl h) = at_p q (sym (ap (λ (x : Entry). x.position) h)) ∙ ap (λ (x : Entry). Some x.vote) h
       casts_are q v (inr h) = absurd h
 
+  -- an Accept that was sent
   pub accept_good : (p : ℕ) (vote : Vote) → Asked w p vote → Good w m r (on_accept (length w.members) m r u p vote)
   accept_good p vote asked = one (below vote.ballot r.promise) refl
     where
@@ -122,6 +126,6 @@ module _ (w : World) (m : ℕ) (r : Record) (u : Running) (s : Stands w m r u []
           (λ k q. sent_to_each w m None_new r (Accepted p vote) (up_to (length w.members)) (had (vote_at p r.votes) vote h) k q)
       two e false h = votes_good p vote asked e
 
-      one : (t : Bool) → below vote.ballot r.promise ≡ t → Good w m r (cond t (quiet u) (record { write = on_accept_write r p vote; running = Some (yielding vote.ballot u); sends = to_all (length w.members) m (Accepted p vote); tells = [] }))
+      one : (t : Bool) → below vote.ballot r.promise ≡ t → Good w m r (cond t (quiet u) (record { write = accept_write r p vote; running = Some (yielding vote.ballot u); sends = to_all (length w.members) m (Accepted p vote); tells = [] }))
       one true e = quiet_good w m r u s
       one false e = two e (has_vote (vote_at p r.votes) vote) refl

@@ -40,18 +40,22 @@ module _ (w : World) (m : ℕ) (r : Record) (u : Running) (s : Stands w m r u []
   one_says : (body : Body) (target : ℕ) → MaySay w None_new r body → (k : Packet) → Has (packet m body target ∷ []) k → (k.sender ≡ m) × MaySay w None_new r k.body
   one_says body target may k h = sent_to_each w m None_new r body (target ∷ []) may k h
 
+  -- chosen values may be told
   chosen_says : (target : ℕ) (pairs : List Pair) → ((e : Pair) → Has pairs e → IsChosen w e.position e.value) → (k : Packet) → Has (chosen_packet m target pairs) k → (k.sender ≡ m) × MaySay w None_new r k.body
   chosen_says target [] h k q = absurd q
   chosen_says target (e ∷ es) h k q = one_says (Chosen (e ∷ es)) target h k q
 
+  -- a CatchUp
   catch_up_good : (sender from : ℕ) → Good w m r (on_catch_up (size w) m u sender from)
   catch_up_good sender from = says_good w m r u s _ (chosen_says sender (take 8 (learnt_from (size w) (news u.heard) from (suc positions - from)))
       (λ e h. learnt_from_chosen w (news u.heard) from (suc positions - from) (heard_truth w s.invariant u.heard s.heard) e (has_take 8 _ e h)))
 
+  -- a Submit
   submit_good : (q : Request) (o : Option Kept) → Good w m r (on_submit (size w) m r u q o)
   submit_good q (Some reply) = says_good w m r u s _ (one_says (Reply q.client q.number reply) 0 tt)
   submit_good q None = new_request_good w m r u s q u.leader refl
 
+  -- an Ask
   ask_good : (app : Application) (q : Question) → Good w m r (on_ask app (size w) m u q)
   ask_good app q = one (nat_lt u.applied q.floor)
     where
@@ -65,6 +69,7 @@ module _ (w : World) (m : ℕ) (r : Record) (u : Running) (s : Stands w m r u []
       one true = says_good w m r u s _ (one_says behind 0 tt)
       one false = says_good w m r u s _ (one_says answer 0 tt)
 
+  -- the tick CatchUp
   pub catch_up_tick_good : Good w m r (on_catch_up_tick (size w) m u)
   catch_up_tick_good = says_good w m r u s _ (one (nat_lt (prefix (size w) (news u.heard)) positions))
     where
@@ -78,11 +83,13 @@ owed_of n older sender (Accepted p vote) = newly n (AcceptedBy sender p vote) (n
 owed_of n older sender (Chosen pairs) = newly n (ChosenAre pairs) (news older)
 owed_of n older sender body = []
 
+-- an Accepted or a Chosen that was sent
 news_good : (w : World) (m : ℕ) (r : Record) (u : Running) (older : List Packet) → ((k : Packet) → Has older k → Has w.sent k) → (sender : ℕ) (body : Body) → Comes w sender body → (h : Heard) → Has (news_of sender body) h
     → Stands w m r u (newly (size w) h (news older)) → Good w m r (on_news (size w) m older u h)
 news_good w m r u older sent sender body c h told s = learns_good w m r u (newly (size w) h (news older)) s
     (newly_chosen w h (news older) (newer_truth w s.invariant sender body c h told (news older) (heard_truth w s.invariant older sent))) u.leader refl
 
+-- each kind of message that was sent
 body_good : (w : World) (m : ℕ) (r : Record) (u : Running) (app : Application) (older : List Packet) → ((k : Packet) → Has older k → Has w.sent k) → (sender : ℕ) (body : Body) → Comes w sender body
     → Stands w m r u (owed_of (size w) older sender body) → Good w m r (on_body app (size w) m older r u sender body)
 body_good w m r u app older sent sender (Prepare b from) c s = prepare_good w m r u s b from
@@ -95,6 +102,7 @@ body_good w m r u app older sent sender (Submit q) c s = submit_good w m r u s q
 body_good w m r u app older sent sender (Ask q) c s = ask_good w m r u s app q
 body_good w m r u app older sent sender body c s = quiet_good w m r u s
 
+-- what is learnt with a message was learnt before or is told now
 owed_told : (n : ℕ) (older : List Packet) (sender : ℕ) (body : Body) (p : ℕ) (value : Value) → learnt n p (news_of sender body ++ news older) ≡ Some value → (learnt n p (news older) ≡ Some value) ⊎ Has (owed_of n older sender body) (pair_of p value)
 owed_told n older sender (Accepted q vote) p value e = newly_or_older n (AcceptedBy sender q vote) (news older) p value e
 owed_told n older sender (Chosen pairs) p value e = newly_or_older n (ChosenAre pairs) (news older) p value e
@@ -116,6 +124,7 @@ hears w m r u k h s = record {
       (owed_told (size w) u.heard k.sender k.body p value e);
 }
 
+-- each message that was sent
 pub message_good : (w : World) (m : ℕ) (r : Record) (u : Running) (app : Application) (k : Packet) → Has w.sent k → Stands w m r u [] → Good w m r (on_message app (length w.members) m k r u)
 message_good w m r u app k h s = body_good w m r (record { heard = k ∷ u.heard; leader = u.leader; applied = u.applied }) app u.heard s.heard k.sender k.body
     (record { packet = k; sent = h; from = refl; says = refl }) (hears w m r u k h s)

@@ -33,10 +33,12 @@ pub record Stands (w : World) (m : ℕ) (r : Record) (u : Running) (owed : List 
 pub None_new : ℕ → Vote → Type 0
 None_new p v = ⊥
 
+-- a step that keeps the invariant, with what it newly asks for
 pub record Good (w : World) (m : ℕ) (r : Record) (e : Effect) : Type 1 where
   pub New : ℕ → Vote → Type 0
   pub fine : Fine w m r New e
 
+-- a leader leads on where nothing is newly asked for
 pub weaker_leads : (w : World) (e : Effect) (m : ℕ) (r : Record) (l : Leader) → Leads (Asked w) (Asked w) m r l → Leads (λ p v. Asked w p v ⊎ None_new p v) (λ p v. Asked w p v ⊎ Asks e p v) m r l
 unfolding None_new
 weaker_leads w e m r l h = record {
@@ -47,6 +49,7 @@ weaker_leads w e m r l h = record {
   proposed = λ p value a. inl (h.proposed p value a);
 }
 
+-- what is nothing gives anything
 pub nothing_new : {A : Type 0} (p : ℕ) (v : Vote) → None_new p v → A
 unfolding None_new
 nothing_new p v h = absurd h
@@ -63,6 +66,7 @@ pub record Plain (w : World) (m : ℕ) (r : Record) (e : Effect) : Type 0 where
   pub learnt : (u : Running) (p : ℕ) (value : Value) → e.running ≡ Some u → learnt_at (length w.members) p (news u.heard) ≡ Some value → Has w.told (told_to m (pair_of p value)) ⊎ Has e.tells (pair_of p value)
   pub tells : (t : Pair) → Has e.tells t → IsChosen w t.position t.value
 
+-- a plain step is good
 pub plain_good : (w : World) (m : ℕ) (r : Record) (e : Effect) → Rising r.votes → Plain w m r e → Good w m r e
 unfolding None_new
 plain_good w m r e rising c = record {
@@ -106,13 +110,16 @@ module _ (w : World) (m : ℕ) (r : Record) (u : Running) (owed : List Pair) (s 
   pub same_heard : (o : Option Leader) (v : Running) (k : Packet) → Some (record { heard = u.heard; leader = o; applied = u.applied }) ≡ Some v → Has v.heard k → Has w.sent k
   same_heard o v k e h = s.heard k (subst (λ (x : Running). Has x.heard k) (sym (same_Some _ _ e)) h)
 
+  -- no more is applied than is learnt
   pub same_applied : (o : Option Leader) (v : Running) → Some (record { heard = u.heard; leader = o; applied = u.applied }) ≡ Some v → v.applied ≤ prefix (length w.members) (news v.heard)
   same_applied o v e = subst (λ (x : Running). x.applied ≤ prefix (length w.members) (news x.heard)) (same_Some _ _ e) s.applied
 
+  -- what is learnt was told or is owed
   pub same_told : (o : Option Leader) (v : Running) → Some (record { heard = u.heard; leader = o; applied = u.applied }) ≡ Some v → (p : ℕ) (value : Value) → learnt_at (length w.members) p (news v.heard) ≡ Some value
       → Has w.told (told_to m (pair_of p value)) ⊎ Has owed (pair_of p value)
   same_told o v e p value l = s.told p value (subst (λ (x : Running). learnt_at (length w.members) p (news x.heard) ≡ Some value) (sym (same_Some _ _ e)) l)
 
+  -- the same leader leads on
   same_leads : (v : Running) (l : Leader) → Some u ≡ Some v → v.leader ≡ Some l → Leads (Asked w) (Asked w) m r l
   same_leads v l e h = s.leads l (ap (λ (x : Running). x.leader) (same_Some u v e) ∙ h)
 
@@ -131,9 +138,11 @@ module _ (w : World) (m : ℕ) (r : Record) (u : Running) (owed : List Pair) (s 
   })
 
 module _ (w : World) (m : ℕ) (r : Record) (u : Running) (s : Stands w m r u []) where
+  -- a step that only says is good
   pub says_good : (sends : List Packet) → ((k : Packet) → Has sends k → (k.sender ≡ m) × MaySay w None_new r k.body) → Good w m r (says u sends)
   says_good sends said = tells_good w m r u [] s sends said (λ t h. absurd h)
 
+  -- a quiet step is good
   pub quiet_good : Good w m r (quiet u)
   quiet_good = says_good [] (λ k h. absurd h)
 
@@ -157,6 +166,7 @@ stopped_good w m r e g = record {
   };
 }
 
+-- a member may stop without a write
 left_good : (w : World) (m : ℕ) (r : Record) → Rising r.votes → Good w m r (record { write = Nothing; running = None; sends = []; tells = [] })
 left_good w m r rising = plain_good w m r _ rising (record {
   votes = refl;
@@ -170,10 +180,12 @@ left_good w m r rising = plain_good w m r _ rising (record {
   tells = λ t h. absurd h;
 })
 
+-- a stop inside a step is good
 pub stops_in_good : (w : World) (m : ℕ) (r : Record) (kept : Bool) (e : Effect) → Rising r.votes → Good w m r e → Good w m r (stops_in kept e)
 stops_in_good w m r true e rising g = stopped_good w m r e g
 stops_in_good w m r false e rising g = left_good w m r rising
 
+-- a step whose store may fail is good
 may_fail_good : (w : World) (m : ℕ) (r : Record) (fails : Option Bool) (e : Effect) → Rising r.votes → Good w m r e → Good w m r (may_fail fails e)
 may_fail_good w m r None e rising g = g
 may_fail_good w m r (Some kept) e rising g = one (writes e.write)
@@ -188,10 +200,12 @@ record Applied (n k : ℕ) (o : Option Running) (v : Running) : Type 0 where
   was : o ≡ Some before
   is : applies_to n k before ≡ v
 
+-- who runs after more is applied ran before
 applied_is : (n k : ℕ) (o : Option Running) (v : Running) → option_map (applies_to n k) o ≡ Some v → Applied n k o v
 applied_is n k None v h = absurd (none-some v h)
 applied_is n k (Some u) v h = record { before = u; was = refl; is = same_Some _ _ h }
 
+-- a step after which more is applied is good
 applies_good : (w : World) (m : ℕ) (r : Record) (k : ℕ) (e : Effect) → Good w m r e → Good w m r (applies (length w.members) k e)
 applies_good w m r k e g = record {
   New = g.New;

@@ -25,19 +25,24 @@ size w = length w.members
 abbrev pub slot : ℕ → Record → Slot
 slot p r = record { promise = r.promise; vote = vote_at p r.votes }
 
+-- the record of a member, or a fresh one where there is none
 abbrev pub kept_in : Option Member → Record
 kept_in None = fresh.kept
 kept_in (Some x) = x.kept
 
+-- what member m keeps for position p
 abbrev pub slot_of : World → ℕ → ℕ → Slot
 slot_of w p m = slot p (kept_in (at w.members m))
 
+-- the votes recorded at a position
 abbrev pub Voted : World → ℕ → ℕ → Vote → Type 0
 Voted w p m v = HasVoted w m p v
 
+-- the votes asked for at a position
 abbrev pub Asked : World → ℕ → Vote → Type 0
 Asked w p v = IsIssued w p v
 
+-- the reports made at a position
 abbrev pub Reported : World → ℕ → ℕ → Ballot → Option Vote → Type 0
 Reported w p m b report = HasPromised w.sent m b p report
 
@@ -50,6 +55,7 @@ pub record Leads (Not Is : ℕ → Vote → Type 0) (m : ℕ) (r : Record) (l : 
   pub asked : (p : ℕ) (v : Vote) → Not p v → v.ballot ≡ l.ballot → p < l.next
   pub proposed : (p : ℕ) (value : Value) → Has l.proposals (record { position = p; value = value }) → Is p (record { ballot = l.ballot; value = value })
 
+-- what holds after every list of events
 pub record Invariant (w : World) : Type 0 where
   pub safe : (p : ℕ) → Safe (length w.members) (slot_of w p) (Voted w p) (Asked w p) (Reported w p)
   pub rising : (m : ℕ) (x : Member) → at w.members m ≡ Some x → Rising x.kept.votes
@@ -69,6 +75,7 @@ MaySay w New r (Accepted p v) = vote_at p r.votes ≡ Some v
 MaySay w New r (Chosen pairs) = (e : Pair) → Has pairs e → IsChosen w e.position e.value
 MaySay w New r body = Unit {0}
 
+-- the step asks for the vote
 abbrev pub Asks : Effect → ℕ → Vote → Type 0
 Asks e p v = (k : Packet) × Has e.sends k × (k.body ≡ Accept p v)
 
@@ -87,57 +94,71 @@ pub record Fine (w : World) (m : ℕ) (old : Record) (New : ℕ → Vote → Typ
   pub learnt : (u : Running) (p : ℕ) (value : Value) → e.running ≡ Some u → learnt_at (length w.members) p (news u.heard) ≡ Some value → Has w.told (told_to m (pair_of p value)) ⊎ Has e.tells (pair_of p value)
   pub tells : (t : Pair) → Has e.tells t → IsChosen w t.position t.value
 
+-- a cast vote is of the member that casts it
 cast_in : (m k : ℕ) (es : List Entry) (e : Entry) → Has (map (cast_by m) es) (cast_by k e) → (k ≡ m) × Has es e
 cast_in m k [] e h = absurd h
 cast_in m k (d ∷ es) e (inl q) = (sym (ap (λ (x : Cast). x.member) q), inl (ap (λ (x : Cast). x.entry) q))
 cast_in m k (d ∷ es) e (inr h) = let r = cast_in m k es e h in (r.0, inr r.1)
 
+-- each vote of a step is cast
 in_cast : (m : ℕ) (es : List Entry) (e : Entry) → Has es e → Has (map (cast_by m) es) (cast_by m e)
 in_cast m [] e h = absurd h
 in_cast m (d ∷ es) e (inl q) = inl (ap (cast_by m) q)
 in_cast m (d ∷ es) e (inr h) = inr (in_cast m es e h)
 
+-- a told value is one of the step
 told_in : (m k : ℕ) (es : List Pair) (e : Pair) → Has (map (told_to m) es) (told_to k e) → Has es e
 told_in m k [] e h = absurd h
 told_in m k (d ∷ es) e (inl q) = inl (ap (λ (x : Told). x.pair) q)
 told_in m k (d ∷ es) e (inr h) = inr (told_in m k es e h)
 
+-- each value of a step is told
 in_told : (m : ℕ) (es : List Pair) (e : Pair) → Has es e → Has (map (told_to m) es) (told_to m e)
 in_told m [] e h = absurd h
 in_told m (d ∷ es) e (inl q) = inl (ap (told_to m) q)
 in_told m (d ∷ es) e (inr h) = inr (in_told m es e h)
 
+-- a promise among some messages is one among others that have it
 pub reports_in : (xs ys : List Packet) (p m : ℕ) (b : Ballot) (o : Option Vote) → (r : HasPromised xs m b p o) → Has ys r.packet → HasPromised ys m b p o
 reports_in xs ys p m b o r h = record { packet = r.packet; window = r.window; sent = h; sender = r.sender; body = r.body; of_ballot = r.of_ballot; from = r.from; covered = r.covered; reports = r.reports }
 
+-- a promise stays with more messages
 pub reports_left : (xs ys : List Packet) (p m : ℕ) (b : Ballot) (o : Option Vote) → HasPromised xs m b p o → HasPromised (xs ++ ys) m b p o
 reports_left xs ys p m b o r = reports_in xs (xs ++ ys) p m b o r (has_left xs ys r.packet r.sent)
 
 module _ (w : World) (m : ℕ) (x : Member) (New : ℕ → Vote → Type 0) (e : Effect) (i : Invariant w) (here : at w.members m ≡ Some x) (f : Fine w m x.kept New e) where
+  -- the world after the step
   w' : World
   w' = after w m x.kept e
 
+  -- the record after the step
   abbrev new : Record
   new = written e.write x.kept
 
+  -- the member after the step
   abbrev y' : Member
   y' = record { kept = new; running = e.running }
 
+  -- what the member kept before
   slot_before : (p : ℕ) → slot_of w p m ≡ slot p x.kept
   slot_before p = ap (λ o. slot p (kept_in o)) here
 
+  -- what the member keeps after
   slot_after : (p : ℕ) → slot_of w' p m ≡ slot p new
   unfolding w'
   slot_after p = ap (λ o. slot p (kept_in o)) (at_put w.members m x y' here)
 
+  -- what was asked for stays
   asked_old : (p : ℕ) (v : Vote) → Asked w p v → Asked w' p v
   unfolding w'
   asked_old p v a = record { packet = a.packet; sent = has_left w.sent e.sends a.packet a.sent; body = a.body }
 
+  -- what the step asks for is asked for
   asked_new : (p : ℕ) (v : Vote) → Asks e p v → Asked w' p v
   unfolding w'
   asked_new p v a = record { packet = a.0; sent = has_right w.sent e.sends a.0 a.1; body = a.2 }
 
+  -- what is asked for was before, or is new
   asked_is : (p : ℕ) (v : Vote) → Asked w' p v → Asked w p v ⊎ New p v
   unfolding w'
   asked_is p v a = ⊎_elim
@@ -145,10 +166,12 @@ module _ (w : World) (m : ℕ) (x : Member) (New : ℕ → Vote → Type 0) (e :
       (λ (o : Has e.sends a.packet). subst (MaySay w New new) a.body (f.sends a.packet o).1)
       (has_cases w.sent e.sends a.packet a.sent)
 
+  -- recorded votes stay
   voted_old : (p k : ℕ) (v : Vote) → Voted w p k v → Voted w' p k v
   unfolding w'
   voted_old p k v h = has_left w.votes (map (cast_by m) (casts e.write)) _ h
 
+  -- the votes kept are recorded
   voted_new : (p : ℕ) (v : Vote) → vote_at p new.votes ≡ Some v → Voted w' p m v
   unfolding w'
   voted_new p v h = ⊎_elim
@@ -156,6 +179,7 @@ module _ (w : World) (m : ℕ) (x : Member) (New : ℕ → Vote → Type 0) (e :
       (λ (o : Has (casts e.write) (record { position = p; vote = v })). has_right w.votes _ _ (in_cast m (casts e.write) (record { position = p; vote = v }) o))
       (f.casts_new p v h)
 
+  -- what is reported was before, or is what the member keeps
   reported_is : (p k : ℕ) (b : Ballot) (report : Option Vote) → Reported w' p k b report → Reported w p k b report ⊎ ((k ≡ m) × (b ≡ (slot_of w' p m).promise) × (report ≡ (slot_of w' p m).vote))
   unfolding w'
   reported_is p k b report r = ⊎_elim
@@ -166,6 +190,7 @@ module _ (w : World) (m : ℕ) (x : Member) (New : ℕ → Vote → Type 0) (e :
       inr (sym r.sender ∙ s.0, sym r.of_ballot ∙ t.0 ∙ sym (ap (λ (z : Slot). z.promise) (slot_after p)), sym r.reports ∙ t.1 p r.from r.covered ∙ sym (ap (λ (z : Slot). z.vote) (slot_after p))))
       (has_cases w.sent e.sends r.packet r.sent)
 
+  -- the step at one position
   moves : (p : ℕ) → Moves (length w.members) m (New p) (slot_of w p) (slot_of w' p) (Voted w p) (Voted w' p) (Asked w p) (Asked w' p) (Reported w p) (Reported w' p)
   unfolding w'
   moves p = record {
@@ -186,11 +211,13 @@ module _ (w : World) (m : ℕ) (x : Member) (New : ℕ → Vote → Type 0) (e :
     reported_is = reported_is p;
   }
 
+  -- each position is safe after the step
   safe' : (p : ℕ) → Safe (length w'.members) (slot_of w' p) (Voted w' p) (Asked w' p) (Reported w' p)
   unfolding w'
   safe' p = subst (λ n. Safe n (slot_of w' p) (Voted w' p) (Asked w' p) (Reported w' p)) (sym (length_put w.members m y'))
       (safe_after (length w.members) m (New p) (slot_of w p) (slot_of w' p) (Voted w p) (Voted w' p) (Asked w p) (Asked w' p) (Reported w p) (Reported w' p) (i.safe p) (moves p))
 
+  -- what is chosen stays
   chosen_old : (p : ℕ) (value : Value) → IsChosen w p value → IsChosen w' p value
   unfolding w'
   chosen_old p value c = record {
@@ -211,6 +238,7 @@ module _ (w : World) (m : ℕ) (x : Member) (New : ℕ → Vote → Type 0) (e :
       (λ (d : k ≡ m → ⊥). others k y d (sym (at_put_other w.members m k y' d) ∙ h))
       (cases_eq k m)
 
+  -- the member leads on
   lead_own : (l : Leader) → Leads (λ p v. Asked w p v ⊎ New p v) (λ p v. Asked w p v ⊎ Asks e p v) m new l → Leads (Asked w') (Asked w') m new l
   lead_own l g = record {
     own = g.own;
@@ -220,6 +248,7 @@ module _ (w : World) (m : ℕ) (x : Member) (New : ℕ → Vote → Type 0) (e :
     proposed = λ p value h. ⊎_elim (λ (o : Asked w p (record { ballot = l.ballot; value = value })). asked_old p _ o) (λ (o : Asks e p (record { ballot = l.ballot; value = value })). asked_new p _ o) (g.proposed p value h);
   }
 
+  -- another member leads on
   lead_other : (k : ℕ) (r : Record) → (k ≡ m → ⊥) → (l : Leader) → Leads (Asked w) (Asked w) k r l → Leads (Asked w') (Asked w') k r l
   lead_other k r d l g = record {
     own = g.own;
@@ -237,6 +266,7 @@ module _ (w : World) (m : ℕ) (x : Member) (New : ℕ → Vote → Type 0) (e :
   unfolding w'
   before u p value l = subst (λ n. learnt_at n p (news u.heard) ≡ Some value) (length_put w.members m y') l
 
+  -- A fine step keeps the invariant.
   pub invariant_after : Invariant (after w m x.kept e)
   unfolding w'
   invariant_after = record {

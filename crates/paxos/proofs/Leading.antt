@@ -70,6 +70,7 @@ module _ (w : World) (m : ℕ) (r : Record) (u : Running) (owed : List Pair) (s 
           absurd (omega arith))
           (cases_Bool (below t.ballot l.ballot))
 
+  -- A leader that proposes keeps the invariant.
   pub leading_good : (l : Leader) → Leads (Asked w) (Asked w) m r l → (before : List Packet) (t : Turn)
       → ((k : Packet) → Has before k → (k.sender ≡ m) × ((New : ℕ → Vote → Type 0) → MaySay w New r k.body)) → ((e : Pair) → Has owed e → IsChosen w e.position e.value)
       → Turned (size w) (cover_heard u.heard l) (report_heard u.heard l) l.next l.proposals t → Good w m r (leading (size w) m u l t before owed)
@@ -126,6 +127,7 @@ module _ (w : World) (m : ℕ) (r : Record) (u : Running) (owed : List Pair) (s 
   goes_on_good l g before said told = leading_good l g before (goes_on (size w) u.heard l) said told
       (turns_turned (size w) (cover_heard u.heard l) (report_heard u.heard l) (is_learnt_heard (size w) u.heard) l.next l.proposals positions (turn_of l) (unturned (size w) (cover_heard u.heard l) (report_heard u.heard l) l.next l.proposals))
 
+  -- a leader may ask on
   asks_on_says : (l : Leader) (j : ℕ) (k : Packet) → Has (asks_on m u.heard l j) k → (k.sender ≡ m) × ((New : ℕ → Vote → Type 0) → MaySay w New r k.body)
   asks_on_says l j k h = one (nat_lt (cover_heard u.heard l j) positions) h
     where
@@ -137,6 +139,7 @@ module _ (w : World) (m : ℕ) (r : Record) (u : Running) (owed : List Pair) (s 
       one true (inr e) = absurd e
       one false e = absurd e
 
+  -- a leader leads on where proposals are closed
   closes_leads : (l : Leader) → Leads (Asked w) (Asked w) m r l → Leads (Asked w) (Asked w) m r (closes (size w) u.heard l)
   closes_leads l g = record { own = g.own; kept = g.kept; based = g.based; asked = g.asked; proposed = λ p value h. g.proposed p value (has_filter (λ (e : Pair). not (is_learnt_heard (size w) u.heard e.position)) l.proposals _ h) }
 
@@ -147,6 +150,7 @@ learns_good w m r u (d ∷ ds) s chosen None e = tells_good w m r u (d ∷ ds) s
 learns_good w m r u (d ∷ ds) s chosen (Some l) e = goes_on_good w m r u (d ∷ ds) s (closes (length w.members) u.heard l) (closes_leads w m r u (d ∷ ds) s l (s.leads l e)) [] (λ k h. absurd h) chosen
 
 module _ (w : World) (m : ℕ) (r : Record) (u : Running) (s : Stands w m r u []) where
+  -- a Promise
   pub promise_good : (older : List Packet) (sender : ℕ) (x : Window) (o : Option Leader) → u.leader ≡ o → Good w m r (on_promise (size w) m older u sender x o)
   promise_good older sender x None e = quiet_good w m r u s
   promise_good older sender x (Some l) e = one (joins l.ballot (cover_heard older l sender) x)
@@ -170,6 +174,7 @@ module _ (w : World) (m : ℕ) (r : Record) (u : Running) (s : Stands w m r u []
       three None top e q = none-some top e
       three (Some x) top e q = false≢true q
 
+  -- a new request
   pub new_request_good : (q : Request) (o : Option Leader) → u.leader ≡ o → Good w m r (on_new_request (size w) m r u q o)
   new_request_good q None e = says_good w m r u s _ (λ k h. sent_to_each w m None_new r (Elsewhere q.client q.number r.promise.member) (0 ∷ []) tt k h)
   new_request_good q (Some l) e = one (not (has_open q l.proposals) && has_free_place (size w) (cover_heard u.heard l) (report_heard u.heard l) (is_learnt_heard (size w) u.heard) (turn_of l)) refl
@@ -184,6 +189,7 @@ module _ (w : World) (m : ℕ) (r : Record) (u : Running) (s : Stands w m r u []
           (unturned (size w) (cover_heard u.heard l) (report_heard u.heard l) l.next l.proposals))
       one false h = quiet_good w m r u s
 
+  -- a Begin that is not refused
   pub begins_good : Good w m r (begins (size w) m r u)
   begins_good = plain_good w m r (begins (size w) m r u) s.rising (record {
     votes = refl;
@@ -216,6 +222,7 @@ module _ (w : World) (m : ℕ) (r : Record) (u : Running) (s : Stands w m r u []
       leads v l e h = subst (Leads (Asked w) (Asked w) m (record { promise = next_ballot m r; votes = r.votes })) (same_Some lead l (ap (λ (x : Running). x.leader) (same_Some _ _ e) ∙ h))
           (record { own = refl; kept = below_self (next_ballot m r); based = omega arith; asked = λ p x a q. absurd (none p x a q); proposed = λ p value a. absurd a })
 
+  -- a Begin
   pub begin_good : Good w m r (on_begin (size w) m r u)
   begin_good = one (may_begin (size w) r u)
     where
@@ -223,6 +230,7 @@ module _ (w : World) (m : ℕ) (r : Record) (u : Running) (s : Stands w m r u []
       one true = begins_good
       one false = quiet_good w m r u s
 
+  -- a leader may send again what it proposed
   resent_says : (o : Option Leader) → u.leader ≡ o → (k : Packet) → Has (resent (size w) m u.heard o) k → (k.sender ≡ m) × MaySay w None_new r k.body
   resent_says None e k h = absurd h
   resent_says (Some l) e k h = ⊎_elim
@@ -233,5 +241,6 @@ module _ (w : World) (m : ℕ) (r : Record) (u : Running) (s : Stands w m r u []
       let a = asks_on_says w m r u [] s l f.0 k f.2 in (a.0, a.1 None_new))
       (has_cases (accepts (size w) m l.ballot l.proposals) (flat_map (asks_on m u.heard l) (up_to (size w))) k h)
 
+  -- the tick Resend
   pub resend_good : Good w m r (on_resend (size w) m u)
   resend_good = says_good w m r u s _ (resent_says u.leader refl)

@@ -20,6 +20,7 @@ count_more (suc n) s t h = one (s (suc n)) (t (suc n)) (h (suc n)) (count_more n
     one false true g q = omega arith
     one false false g q = omega arith
 
+-- a reason to learn stays with more heard
 newer_heard : (n p : ℕ) (h : Heard) (older : List Heard) (value : Value) → IsHeard n p older value → IsHeard n p (h ∷ older) value
 newer_heard n p h older value (ByMajority vote same majority) = ByMajority vote same
     (let more = count_more n (accepted_by p vote older) (accepted_by p vote (h ∷ older)) (λ m q. rw q (either (is_accepted_by p vote m h))) in omega arith)
@@ -29,6 +30,7 @@ newer_heard n p h older value (ByMajority vote same majority) = ByMajority vote 
     either false = refl
 newer_heard n p h older value (AsChosen pairs told there) = AsChosen pairs (inr told) there
 
+-- what the newest completes has a reason
 completed_heard : (n p : ℕ) (h : Heard) (heard : List Heard) (value : Value) → Has heard h → completed n p h heard ≡ Some value → IsHeard n p heard value
 completed_heard n p (AcceptedBy m q vote) heard value here e =
     let c = cond_some (p == q && is_majority n (accepted_by q vote heard)) vote.value value e in
@@ -36,6 +38,7 @@ completed_heard n p (AcceptedBy m q vote) heard value here e =
     ByMajority vote c.1 (subst (λ x. IsMajority n (accepted_by x vote heard)) (sym (eqb-true p q a.0)) (ltb-true _ _ a.1))
 completed_heard n p (ChosenAre pairs) heard value here e = AsChosen pairs here e
 
+-- What is learnt has a reason.
 pub learnt_heard : (n p : ℕ) (heard : List Heard) (value : Value) → learnt n p heard ≡ Some value → IsHeard n p heard value
 learnt_heard n p [] value e = absurd (none-some value e)
 learnt_heard n p (h ∷ older) value e = ⊎_elim
@@ -43,10 +46,12 @@ learnt_heard n p (h ∷ older) value e = ⊎_elim
     (λ (o : completed n p h (h ∷ older) ≡ Some value). completed_heard n p h (h ∷ older) value (inl refl) o)
     (first_is (learnt n p older) (completed n p h (h ∷ older)) value e)
 
+-- there is a first where there is a later
 some_first : (a b : Option Value) → is_some b ≡ true → is_some (first a b) ≡ true
 some_first (Some x) b h = refl
 some_first None b h = h
 
+-- what was learnt stays learnt
 some_older : (n p : ℕ) (h : Heard) (older : List Heard) → is_some (learnt n p older) ≡ true → is_some (learnt n p (h ∷ older)) ≡ true
 some_older n p h older q = one (learnt n p older) q
   where
@@ -59,9 +64,11 @@ count_same : (n : ℕ) (s t : ℕ → Bool) → ((m : ℕ) → s m ≡ t m) → 
 count_same zero s t h = refl
 count_same (suc n) s t h = rw (h (suc n), count_same n s t h) refl
 
+-- a message that does not tell of the vote leaves who accepted it
 without : (p : ℕ) (vote : Vote) (h : Heard) (older : List Heard) → ((m : ℕ) → is_accepted_by p vote m h ≡ false) → (m : ℕ) → accepted_by p vote (h ∷ older) m ≡ accepted_by p vote older m
 without p vote h older none m = rw (none m) refl
 
+-- what a majority accepted is learnt
 majority_learnt : (n p : ℕ) (vote : Vote) (heard : List Heard) → IsMajority n (accepted_by p vote heard) → is_some (learnt n p heard) ≡ true
 majority_learnt n p vote [] h = absurd (empty n h)
   where
@@ -92,11 +99,13 @@ majority_learnt n p vote (AcceptedBy k q other ∷ older) h = one (λ g. majorit
         let there : IsMajority n (accepted_by q other (AcceptedBy k q other ∷ older)) = subst (λ x. IsMajority n (accepted_by x other (AcceptedBy k q other ∷ older))) here (subst (λ v. IsMajority n (accepted_by p v (AcceptedBy k q other ∷ older))) same h) in
         some_first (learnt n p older) _ (rw a.0 (rw (lt-ltb _ _ there) refl))
 
+-- what was told as chosen is learnt
 chosen_learnt : (n p : ℕ) (pairs : List Pair) (value : Value) (heard : List Heard) → Has heard (ChosenAre pairs) → value_at p pairs ≡ Some value → is_some (learnt n p heard) ≡ true
 chosen_learnt n p pairs value [] h e = absurd h
 chosen_learnt n p pairs value (x ∷ older) (inl q) e = some_first (learnt n p older) _ (subst (λ y. is_some (completed n p y (x ∷ older)) ≡ true) (sym q) (rw e refl))
 chosen_learnt n p pairs value (x ∷ older) (inr q) e = some_older n p x older (chosen_learnt n p pairs value older q e)
 
+-- What has a reason is learnt.
 pub heard_learnt : (n p : ℕ) (heard : List Heard) (value : Value) → IsHeard n p heard value → is_some (learnt n p heard) ≡ true
 heard_learnt n p heard value (ByMajority vote same majority) = majority_learnt n p vote heard majority
 heard_learnt n p heard value (AsChosen pairs told there) = chosen_learnt n p pairs value heard told there
@@ -111,6 +120,7 @@ run_ends test (suc k) p l = one (λ q. run_ends test k (suc p) q) (test (suc p))
     one rest true e q = rest (omega arith)
     one rest false e q = e
 
+-- what is not some is none
 not_some : (o : Option Value) → is_some o ≡ false → o ≡ None
 not_some None e = refl
 not_some (Some v) e = absurd (false≢true (sym e))

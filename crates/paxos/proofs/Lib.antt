@@ -17,3 +17,4 @@ pub mod Leading
 pub mod Answering
 pub mod Runs
 pub mod Worlds
+pub mod Straight

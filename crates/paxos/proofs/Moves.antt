@@ -20,6 +20,7 @@ pub record Leaves (old new : Slot) (Asked : Vote → Type 0) : Type 0 where
   pub vote : (new.vote ≡ old.vote) ⊎ ((v : Vote) × (new.vote ≡ Some v) × (v.ballot ≡ new.promise) × Asked v)
 
 module _ (n : ℕ) (m : ℕ) (New : Vote → Type 0) (kept kept' : ℕ → Slot) (Voted Voted' : ℕ → Vote → Type 0) (Asked Asked' : Vote → Type 0) (Reported Reported' : ℕ → Ballot → Option Vote → Type 0) where
+  -- how one step of member m changes the votes, proposals and reports at a position
   pub record Moves : Type 0 where
     pub other : (k : ℕ) → (k ≡ m → ⊥) → kept' k ≡ kept k
     pub leaves : Leaves (kept m) (kept' m) Asked

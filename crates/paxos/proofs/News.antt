@@ -13,6 +13,7 @@ use Rattle.paxos.specs.Agreement.{HasVoted, IsChosen}
 use Rattle.paxos.proofs.Order.{same_vote_equal}
 use Rattle.paxos.proofs.Lists.{any_has, has_cases, flat_has}
 
+-- the test tells what was heard
 is_accepted : (p : ℕ) (v : Vote) (m : ℕ) (h : Heard) → is_accepted_by p v m h ≡ true → h ≡ AcceptedBy m p v
 is_accepted p v m (AcceptedBy k q u) h =
     let a = and_parts _ _ h in
@@ -20,6 +21,7 @@ is_accepted p v m (AcceptedBy k q u) h =
     ap (λ (x : ℕ). AcceptedBy x q u) (eqb-true k m a.0) ∙ ap (λ (x : ℕ). AcceptedBy m x u) (sym (eqb-true p q b.0)) ∙ ap (λ (x : Vote). AcceptedBy m p x) (sym (same_vote_equal v u b.1))
 is_accepted p v m (ChosenAre pairs) h = absurd (false≢true h)
 
+-- a value told for a position is among the pairs
 pair_has : (p : ℕ) (pairs : List Pair) (value : Value) → value_at p pairs ≡ Some value → Has pairs (record { position = p; value = value })
 pair_has p [] value h = absurd (none-some value h)
 pair_has p (e ∷ es) value h = one (pair_has p es value) (p == e.position) refl h
@@ -33,6 +35,7 @@ pub record IsTruth (w : World) (heard : List Heard) : Type 0 where
   pub accepted : (m p : ℕ) (v : Vote) → Has heard (AcceptedBy m p v) → HasVoted w m p v
   pub chosen : (pairs : List Pair) (e : Pair) → Has heard (ChosenAre pairs) → Has pairs e → IsChosen w e.position e.value
 
+-- what a majority was truly heard to accept is chosen
 majority_chosen : (w : World) (p : ℕ) (heard : List Heard) (v : Vote) → IsTruth w heard → is_majority (length w.members) (accepted_by p v heard) ≡ true → IsChosen w p v.value
 majority_chosen w p heard v t h = record {
   ballot = v.ballot;
@@ -43,6 +46,7 @@ majority_chosen w p heard v t h = record {
       t.accepted m p v (subst (Has heard) (is_accepted p v m a.0 a.2) a.1);
 }
 
+-- what the newest completes is chosen
 completed_chosen : (w : World) (p : ℕ) (h : Heard) (heard : List Heard) (value : Value) → IsTruth w heard → Has heard h → completed (length w.members) p h heard ≡ Some value → IsChosen w p value
 completed_chosen w p (AcceptedBy m q v) heard value t here e =
     let c = cond_some (p == q && is_majority (length w.members) (accepted_by q v heard)) v.value value e in
@@ -50,6 +54,7 @@ completed_chosen w p (AcceptedBy m q v) heard value t here e =
     subst (IsChosen w p) c.1 (subst (λ x. IsChosen w x v.value) (sym (eqb-true p q a.0)) (majority_chosen w q heard v t a.1))
 completed_chosen w p (ChosenAre pairs) heard value t here e = t.chosen pairs (record { position = p; value = value }) here (pair_has p pairs value e)
 
+-- the first is one of the two
 pub first_is : (a b : Option Value) (v : Value) → first a b ≡ Some v → (a ≡ Some v) ⊎ (b ≡ Some v)
 first_is (Some x) b v h = inl h
 first_is None b v h = inr h
@@ -69,6 +74,7 @@ pair_chosen w p heard None t q e h = absurd h
 pair_chosen w p heard (Some v) t q e (inl h) = subst (λ (x : Pair). IsChosen w x.position x.value) h (learnt_chosen w p heard v t q)
 pair_chosen w p heard (Some v) t q e (inr h) = absurd h
 
+-- what is news at a position is chosen
 newly_at_chosen : (w : World) (k : Heard) (older : List Heard) (p : ℕ) → IsTruth w (k ∷ older) → (e : Pair) → Has (newly_at (length w.members) k older p) e → IsChosen w e.position e.value
 newly_at_chosen w k older p t e h = one (is_none (learnt (length w.members) p older)) h
   where
@@ -76,6 +82,7 @@ newly_at_chosen w k older p t e h = one (is_none (learnt (length w.members) p ol
     one true q = pair_chosen w p (k ∷ older) (learnt (length w.members) p (k ∷ older)) t refl e q
     one false q = absurd q
 
+-- what is news at some positions is chosen
 each_newly_chosen : (w : World) (k : Heard) (older : List Heard) (pairs : List Pair) → IsTruth w (k ∷ older) → (e : Pair) → Has (flat_map (λ (d : Pair). newly_at (length w.members) k older d.position) pairs) e → IsChosen w e.position e.value
 each_newly_chosen w k older [] t e h = absurd h
 each_newly_chosen w k older (d ∷ ds) t e h = ⊎_elim
@@ -100,6 +107,7 @@ learnt_from_chosen w heard p (suc k) t e h = ⊎_elim
 pub learnt_more : (n p : ℕ) (k : Heard) (older : List Heard) (value : Value) → learnt n p older ≡ Some value → learnt n p (k ∷ older) ≡ Some value
 learnt_more n p k older value h = rw h refl
 
+-- what was learnt stays learnt, however much more is heard
 pub learnt_stays : (n p : ℕ) (more older : List Heard) (value : Value) → learnt n p older ≡ Some value → learnt n p (more ++ older) ≡ Some value
 learnt_stays n p [] older value h = h
 learnt_stays n p (k ∷ more) older value h = learnt_more n p k (more ++ older) value (learnt_stays n p more older value h)
@@ -113,10 +121,12 @@ newly_at_has n h older p value a b = one (is_none (learnt n p older)) (ap is_non
     one true e (Some x) q = inl (ap (pair_of p) (same_Some x value q))
     one false e o q = absurd (false≢true e)
 
+-- without a first the later is left
 none_first : (a b : Option Value) (value : Value) → a ≡ None → first a b ≡ Some value → b ≡ Some value
 none_first None b value e h = h
 none_first (Some x) b value e h = absurd (none-some x (sym e))
 
+-- what the newest completes is news
 newly_when : (n : ℕ) (h : Heard) (older : List Heard) (p : ℕ) (value : Value) → learnt n p older ≡ None → learnt n p (h ∷ older) ≡ Some value → completed n p h (h ∷ older) ≡ Some value → Has (newly n h older) (pair_of p value)
 newly_when n (AcceptedBy m q vote) older p value a b c =
     let d = cond_some (p == q && is_majority n (accepted_by q vote (AcceptedBy m q vote ∷ older))) vote.value value c in
@@ -166,6 +176,7 @@ run_longer f g more (suc k) p = one (run_longer f g more k (suc p)) (f (suc p)) 
     one rest true e = two rest (g (suc p)) (more (suc p) e)
     one rest false e = run_from g (suc k) p
 
+-- a learnt position stays learnt
 some_stays : (n p : ℕ) (more older : List Heard) → is_some (learnt n p older) ≡ true → is_some (learnt n p (more ++ older)) ≡ true
 some_stays n p more older h = one (learnt n p older) refl h
   where
@@ -177,6 +188,7 @@ some_stays n p more older h = one (learnt n p older) refl h
 pub prefix_grows : (n : ℕ) (more older : List Heard) → prefix n older ≤ prefix n (more ++ older)
 prefix_grows n more older = run_longer (λ p. is_some (learnt n p older)) (λ p. is_some (learnt n p (more ++ older))) (λ q h. some_stays n q more older h) positions 0
 
+-- what is some has a value
 is_some_value : (o : Option Value) → is_some o ≡ true → (value : Value) × (o ≡ Some value)
 is_some_value None h = absurd (false≢true h)
 is_some_value (Some v) h = (v, refl)
@@ -191,6 +203,7 @@ pub record Gave (packets : List Packet) (h : Heard) : Type 0 where
   pub there : Has packets packet
   pub gives : Has (news_of packet.sender packet.body) h
 
+-- news comes from a message
 pub news_given : (packets : List Packet) (h : Heard) → Has (news packets) h → Gave packets h
 news_given [] h q = absurd q
 news_given (k ∷ older) h q = ⊎_elim
@@ -217,6 +230,7 @@ said_accepted sender (Chosen pairs) m p v (inl h) = absurd (no h)
 said_accepted sender (Chosen pairs) m p v (inr h) = absurd h
 said_accepted sender body m p v h = absurd h
 
+-- news of chosen values comes from a Chosen
 pub said_chosen : (sender : ℕ) (body : Body) (pairs : List Pair) → Has (news_of sender body) (ChosenAre pairs) → body ≡ Chosen pairs
 said_chosen sender (Accepted q u) pairs (inl h) = absurd (no h)
   where

@@ -22,11 +22,13 @@ use Rattle.paxos.proofs.Effects.{Stands, Good, None_new, nothing_new, quiet_good
 use Rattle.paxos.proofs.Leading.{begins_good, begin_good, resend_good}
 use Rattle.paxos.proofs.Answering.{message_good, catch_up_tick_good}
 
+-- where a member is there, there is one
 some_member : (ms : List Member) (m : ℕ) (x : Member) → at ms m ≡ Some x → (k : ℕ) × (length ms ≡ suc k)
 some_member ms zero x h = absurd (none-some x h)
 some_member [] (suc i) x h = absurd (none-some x h)
 some_member (y ∷ ms) (suc i) x h = (length ms, refl)
 
+-- a running member stands
 stands : (w : World) → Invariant w → (m : ℕ) (x : Member) (u : Running) → at w.members m ≡ Some x → x.running ≡ Some u → Stands w m x.kept u []
 stands w i m x u h r = record {
   invariant = i;
@@ -51,6 +53,7 @@ acts_keeps w i m step good = taken (at w.members m) refl
     taken None h = i
     taken (Some x) h = ran x h x.running refl
 
+-- a delivery
 delivers_keeps : (w : World) → Invariant w → (app : Application) (how : Effect → Effect)
     → ((m : ℕ) (r : Record) (e : Effect) → Rising r.votes → Good w m r e → Good w m r (how e))
     → (o : Option Packet) → ((k : Packet) → o ≡ Some k → Has w.sent k) → Invariant (delivers app w how o)
@@ -58,6 +61,7 @@ delivers_keeps w i app how keeps None h = i
 delivers_keeps w i app how keeps (Some k) h = acts_keeps w i k.target (λ r u. how (on_message app (length w.members) k.target k r u))
     (λ r u s. keeps k.target r (on_message app (length w.members) k.target k r u) s.rising (message_good w k.target r u app k (h k refl) s))
 
+-- a Begin, with what it leaves open
 begins_in_good : (w : World) (c : Choice) (m : ℕ) (r : Record) (u : Running) → Stands w m r u [] → Good w m r (begins_in w c m r u)
 begins_in_good w c m r u s = one (may_begin (length w.members) r u)
   where
@@ -65,11 +69,13 @@ begins_in_good w c m r u s = one (may_begin (length w.members) r u)
     one true = settles_good w m r c _ s.rising (begins_good w m r u s)
     one false = quiet_good w m r u s
 
+-- a start of a member that is there
 restarts_keeps : (w : World) → Invariant w → (fails : Option Bool) (m : ℕ) (x : Member) → at w.members m ≡ Some x → (o : Option Running) → Invariant (restarts w fails m x.kept o)
 restarts_keeps w i fails m x h (Some u) = i
 restarts_keeps w i (Some kept) m x h None = i
 restarts_keeps w i None m x h None = let g = started_good w m x.kept (i.rising m x h) in invariant_after w m x g.New _ i h g.fine
 
+-- a start
 starts_keeps : (w : World) → Invariant w → (fails : Option Bool) (m : ℕ) (o : Option Member) → at w.members m ≡ o → Invariant (starts w fails m o)
 starts_keeps w i fails m None h = i
 starts_keeps w i fails m (Some x) h = restarts_keeps w i fails m x h x.running
@@ -84,6 +90,7 @@ IsPlain body = Unit {0}
 
 -- such a message more among those sent
 module _ (w : World) (m : ℕ) (body : Body) (plain : IsPlain body) (i : Invariant w) where
+  -- the world with the message more
   more : World
   more = record { members = w.members; sent = w.sent ++ packet 0 body m ∷ []; votes = w.votes; told = w.told }
 
@@ -95,16 +102,20 @@ module _ (w : World) (m : ℕ) (body : Body) (plain : IsPlain body) (i : Invaria
       (λ (o : Has (packet 0 body m ∷ []) k). ⊎_elim (λ (q : packet 0 body m ≡ k). absurd (d (subst IsPlain (ap (λ (x : Packet). x.body) q ∙ e) plain))) (λ (n : ⊥). absurd n) o)
       (has_cases w.sent (packet 0 body m ∷ []) k h)
 
+  -- what was sent stays
   grown : (k : Packet) → Has w.sent k → Has more.sent k
   unfolding more
   grown k h = has_left w.sent (packet 0 body m ∷ []) k h
 
+  -- nothing more is asked for
   asked_before : (p : ℕ) (v : Vote) → Asked more p v → Asked w p v
   asked_before p v a = record { packet = a.packet; sent = still a.packet (Accept p v) (λ x. x) a.sent a.body; body = a.body }
 
+  -- what was asked for stays
   asked_more : (p : ℕ) (v : Vote) → Asked w p v → Asked more p v
   asked_more p v a = record { packet = a.packet; sent = grown a.packet a.sent; body = a.body }
 
+  -- the message at one position
   moves_more : (p : ℕ) → Moves (length w.members) m (None_new p) (slot_of w p) (slot_of w p) (Voted w p) (Voted w p) (Asked w p) (Asked more p) (Reported w p) (Reported more p)
   moves_more p = record {
     other = λ k d. refl;
@@ -120,10 +131,12 @@ module _ (w : World) (m : ℕ) (body : Body) (plain : IsPlain body) (i : Invaria
     reported_is = λ k b r h. inl (reports_in more.sent w.sent p k b r h (still h.packet (Promise h.window) (λ x. x) h.sent h.body));
   }
 
+  -- what is chosen stays
   chosen_more : (p : ℕ) (value : Value) → IsChosen w p value → IsChosen more p value
   unfolding more
   chosen_more p value c = record { ballot = c.ballot; set = c.set; majority = c.majority; voted = c.voted }
 
+  -- the message more keeps the invariant
   more_keeps : Invariant more
   unfolding more
   more_keeps = record {
@@ -144,11 +157,13 @@ module _ (w : World) (m : ℕ) (body : Body) (plain : IsPlain body) (i : Invaria
     told = λ k e h. chosen_more e.position e.value (i.told k e h);
   }
 
+-- a client's message
 asks_keeps : (w : World) → Invariant w → (m : ℕ) (body : Body) → IsPlain body → (o : Option Member) → Invariant (asks w m body o)
 unfolding more
 asks_keeps w i m body plain None = i
 asks_keeps w i m body plain (Some x) = more_keeps w m body plain i
 
+-- each event keeps the invariant
 happens_keeps : (app : Application) (w : World) (c : Choice) (e : Event) → Invariant w → Invariant (happens app w c e)
 happens_keeps app w c (Deliver k) i = delivers_keeps w i app (settles (length w.members) c) (λ m r e rising g. settles_good w m r c e rising g) (at w.sent k) (λ p h. at_has w.sent k p h)
 happens_keeps app w c (Begin m) i = acts_keeps w i m (begins_in w c m) (λ r u s. begins_in_good w c m r u s)
@@ -161,10 +176,12 @@ happens_keeps app w c (StopInBegin m kept) i = acts_keeps w i m _ (λ r u s. sto
 happens_keeps app w c (Stop m) i = acts_keeps w i m _ (λ r u s. stops_in_good w m r false (quiet u) s.rising (quiet_good w m r u s))
 happens_keeps app w c (Start m) i = starts_keeps w i c.fails m (at w.members m) refl
 
+-- so does each list of events
 run_keeps : (app : Application) (w : World) (hs : List Happening) → Invariant w → Invariant (run app w hs)
 run_keeps app w [] i = i
 run_keeps app w (h ∷ hs) i = run_keeps app (happens app w h.choice h.event) hs (happens_keeps app w h.choice h.event i)
 
+-- the invariant holds at the start
 start_holds : (n : ℕ) → Invariant (start n)
 start_holds n = record {
   safe = λ p. record {
@@ -202,21 +219,26 @@ always : (app : Application) (n : ℕ) (hs : List Happening) → Invariant (run 
 always app n hs = run_keeps app (start n) hs (start_holds n)
 
 module _ (w : World) (i : Invariant w) where
+  -- no position has two chosen values
   one_chosen : (p : ℕ) (a b : Value) → IsChosen w p a → IsChosen w p b → a ≡ b
   one_chosen p a b c d =
       accepted_one (length w.members) (slot_of w p) (Voted w p) (Asked w p) (Reported w p) (i.safe p)
       (record { ballot = c.ballot; value = a }) (record { ballot = d.ballot; value = b })
       (record { set = c.set; majority = c.majority; voted = c.voted }) (record { set = d.set; majority = d.majority; voted = d.voted })
 
+  -- what is told is chosen
   told_chosen : (m p : ℕ) (value : Value) → IsTold w m p value → IsChosen w p value
   told_chosen m p value h = i.told m (record { position = p; value = value }) h
 
+  -- what is learnt was told
   learnt_told : (m p : ℕ) (u : Running) (value : Value) → IsRunning w m u → learnt (length w.members) p (news u.heard) ≡ Some value → IsTold w m p value
   learnt_told m p u value r l = i.learnt m r.is u p value r.there r.running l
 
+  -- what is applied is learnt
   applied_learnt : (m p : ℕ) (u : Running) → IsRunning w m u → 0 < p → p ≤ u.applied → (value : Value) × (learnt (length w.members) p (news u.heard) ≡ Some value)
   applied_learnt m p u r l h = prefix_learnt (length w.members) (news u.heard) p l (let most = i.applied m r.is u r.there r.running in omega arith)
 
+  -- members that applied as many positions applied the same values
   same_values : (k m j : ℕ) (u v : Running) → IsRunning w k u → IsRunning w m v → j ≤ u.applied → j ≤ v.applied → values_to (length w.members) (news u.heard) j ≡ values_to (length w.members) (news v.heard) j
   same_values k m zero u v r s a b = refl
   same_values k m (suc j) u v r s a b =
@@ -225,6 +247,7 @@ module _ (w : World) (i : Invariant w) where
       let e = one_chosen (suc j) x.0 y.0 (told_chosen k (suc j) x.0 (learnt_told k (suc j) u x.0 r x.1)) (told_chosen m (suc j) y.0 (learnt_told m (suc j) v y.0 s y.1)) in
       ap₂ (λ (vs : List Value) (o : Option Value). vs ++ option_to_list o) (same_values k m j u v r s (omega arith) (omega arith)) (x.1 ∙ ap Some e ∙ sym y.1)
 
+  -- agreement, from the invariant
   agrees : Agreement w
   agrees = record {
     one_value = one_chosen;
@@ -241,6 +264,7 @@ module _ (w : World) (i : Invariant w) where
       let r = k.each m q in
       above_trans (Some v) r.0 k.top ((i.safe p).reported_highest m vote.ballot r.0 v r.1 h l) r.2
 
+  -- the set is free, or bound to the highest report
   free_or_bound : (p : ℕ) (vote : Vote) (k : Backed (length w.members) (Reported w p) vote) (top : Option Vote) → k.top ≡ top → IsFree w k.quorum vote.ballot p ⊎ IsOfHighest w k.quorum vote.ballot p vote.value
   free_or_bound p vote k None e = inl (λ m v q h. one m v q h (below v.ballot vote.ballot) refl)
     where
@@ -258,6 +282,7 @@ module _ (w : World) (i : Invariant w) where
     most = λ m v q a l. subst (NotAbove (Some v)) e (most p vote k m v q a l);
   })
 
+  -- each proposal has its reason
   proposable : (p : ℕ) (vote : Vote) → IsIssued w p vote → IsProposable w p vote
   proposable p vote a = let k = (i.safe p).asked_backed vote a in record {
     set = k.quorum;
@@ -266,6 +291,7 @@ module _ (w : World) (i : Invariant w) where
     free_or_bound = free_or_bound p vote k k.top refl;
   }
 
+  -- P2c, from the invariant
   p2c : P2c w
   p2c = record { proposable = proposable; one_value = λ p a b h k e. (i.safe p).asked_one a b h k e }
 

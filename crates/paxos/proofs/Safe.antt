@@ -12,10 +12,12 @@ NotAbove None b = Unit {0}
 NotAbove (Some a) None = ⊥
 NotAbove (Some a) (Some b) = below b.ballot a.ballot ≡ false
 
+-- no vote is above itself
 pub above_self : (a : Option Vote) → NotAbove a a
 above_self None = tt
 above_self (Some a) = below_self a.ballot
 
+-- not above is transitive
 pub above_trans : (a b c : Option Vote) → NotAbove a b → NotAbove b c → NotAbove a c
 above_trans None b c h k = tt
 above_trans (Some a) None c h k = absurd h
@@ -65,6 +67,7 @@ pub record Accepted (n : ℕ) (Voted : ℕ → Vote → Type 0) (v : Vote) : Typ
   pub voted : (m : ℕ) → set m ≡ true → Voted m v
 
 module _ (n : ℕ) (kept : ℕ → Slot) (Voted : ℕ → Vote → Type 0) (Asked : Vote → Type 0) (Reported : ℕ → Ballot → Option Vote → Type 0) (s : Safe n kept Voted Asked Reported) where
+  -- an accepted vote was asked for
   accepted_asked : (v : Vote) → Accepted n Voted v → Asked v
   accepted_asked v a =
       let m = majorities_share n a.set a.set a.majority a.majority in
@@ -74,6 +77,7 @@ module _ (n : ℕ) (kept : ℕ → Slot) (Voted : ℕ → Vote → Type 0) (Aske
   Later : Vote → Ballot → Type 0
   Later v b = (w : Vote) → Asked w → w.ballot ≡ b → below v.ballot b ≡ true → w.value ≡ v.value
 
+  -- a later vote has the value, by the highest report
   by_top : (v : Vote) → Accepted n Voted v → (b : Ballot) → ((a : Ballot) → below a b ≡ true → Later v a) → (w : Vote) → w.ballot ≡ b → (k : Backed n Reported w) → (m : ℕ) → (top : Option Vote) → k.top ≡ top → NotAbove (Some v) top → w.value ≡ v.value
   unfolding Later
   by_top v a b lower w e k m None p h = absurd h
@@ -86,6 +90,7 @@ module _ (n : ℕ) (kept : ℕ → Slot) (Voted : ℕ → Vote → Type 0) (Aske
       (λ (q : below v.ballot t.ballot ≡ false). s.asked_one t v asked (accepted_asked v a) (most_antisym t.ballot v.ballot h q))
       (cases_Bool (below v.ballot t.ballot))
 
+  -- a later vote has the value, if all votes between have it
   later_step : (v : Vote) → Accepted n Voted v → (b : Ballot) → ((a : Ballot) → below a b ≡ true → Later v a) → Later v b
   unfolding Later
   later_step v a b lower w asked e l =
@@ -96,6 +101,7 @@ module _ (n : ℕ) (kept : ℕ → Slot) (Voted : ℕ → Vote → Type 0) (Aske
       let high : NotAbove (Some v) r.0 = s.reported_highest m.member w.ballot r.0 v r.1 (a.voted m.member m.first) h in
       by_top v a b lower w e k m.member k.top refl (above_trans (Some v) r.0 k.top high r.2)
 
+  -- all later votes have the value
   later : (v : Vote) → Accepted n Voted v → (b : Ballot) → Later v b
   later v a b = by_ballot (Later v) (later_step v a) b
 

@@ -40,6 +40,7 @@ lies_nothing report learnt p h (suc k) = let u = h (p + suc k) (omega arith) in 
 -- Something lies above a position exactly where the last known position does.
 pub lies_below_last : (report : ℕ → Option Vote) (learnt : ℕ → Bool) (last : ℕ) → ((q : ℕ) → last < q → (report q ≡ None) × (learnt q ≡ false)) → (0 < last → IsSome (report last) ⊎ (learnt last ≡ true)) → last ≤ positions
     → (p : ℕ) → lies_above report learnt p ≡ nat_lt p last
+unfolding lies_above
 lies_below_last report learnt last none some most p = ⊎_elim
     (λ (l : p < last). lies_found report learnt p (positions - p) last l (omega arith) (some (omega arith)) ∙ sym (lt-ltb p last l))
     (λ (l : last ≤ p). lies_nothing report learnt p (λ q a. none q (omega arith)) (positions - p) ∙ sym (not_below l (nat_lt p last) refl))
@@ -56,24 +57,31 @@ pub record SameAbove (n low : ℕ) (cover cover' : ℕ → ℕ) (report report' 
   pub learns : (p : ℕ) → low < p → learnt p ≡ learnt' p
 
 module _ (n low : ℕ) (cover cover' : ℕ → ℕ) (report report' : ℕ → Option Vote) (learnt learnt' : ℕ → Bool) (s : SameAbove n low cover cover' report report' learnt learnt') where
+  -- there is place for both
   same_place : (t : Turn) → has_place n cover t ≡ has_place n cover' t
   same_place t = ap (λ (c : ℕ). nat_lt (length t.proposals) 16 && (nat_le t.next positions && nat_lt n (2 * c)))
       (count_agrees n (λ m. nat_le t.next (cover m)) (λ m. nat_le t.next (cover' m)) (λ m l g. ap (nat_le t.next) (s.covers m l g)))
 
+  -- the same lies above for both
   same_after : (p k : ℕ) → low ≤ p → lies_after report learnt p k ≡ lies_after report' learnt' p k
   same_after p zero l = refl
   same_after p (suc k) l = λ i. s.learns (p + suc k) (omega arith) i || (is_some (s.reports (p + suc k) (omega arith) i) || same_after p k l i)
 
+  -- both propose the same
   same_proposal : (t : Turn) → low < t.next → (o : Option Vote) → proposal report learnt t o ≡ proposal report' learnt' t o
+  unfolding lies_above
   same_proposal t l (Some vote) = refl
   same_proposal t l None = ap (λ (b : Bool). cond b (Some (proposes NoOp t)) None) (same_after t.next (positions - t.next) (omega arith))
 
+  -- a turn of both is the same
   pub turn_same : (t : Turn) → low < t.next → turn n cover report learnt t ≡ turn n cover' report' learnt' t
   turn_same t l = λ i. cond (same_place t i) (cond (s.learns t.next l i) (Some (passes t)) ((same_proposal t l (report t.next) ∙ ap (proposal report' learnt' t) (s.reports t.next l)) i)) None
 
+  -- the next position rises
   next_above : (t u : Turn) → low < t.next → turn n cover report learnt t ≡ Some u → low < u.next
   next_above t u l e = let x = turn_next n cover report learnt t u (turn n cover report learnt t) (turn_by n cover report learnt t) e in omega arith
 
+  -- All turns of both are the same.
   pub turns_same : (k : ℕ) (t : Turn) → low < t.next → turns n cover report learnt k t ≡ turns n cover' report' learnt' k t
   turns_same zero t l = refl
   turns_same (suc k) t l = one (λ u g. turns_same k u g) (turn n cover report learnt t) (λ u e. next_above t u l e)
@@ -84,5 +92,6 @@ module _ (n low : ℕ) (cover cover' : ℕ → ℕ) (report report' : ℕ → Op
       one rest None h = refl
       one rest (Some u) h = rest u (h u refl)
 
+  -- there is a free place for both
   pub free_place_same : (t : Turn) → low < t.next → has_free_place n cover report learnt t ≡ has_free_place n cover' report' learnt' t
   free_place_same t l = λ i. same_place t i && is_none (turn_same t l i)

@@ -17,6 +17,7 @@ module _ (n : ℕ) (cover : ℕ → ℕ) (report : ℕ → Option Vote) (learnt 
     Filled : has_place n cover t ≡ true → learnt t.next ≡ false → report t.next ≡ None → lies_above report learnt t.next ≡ true → Turns t (Some (proposes NoOp t))
     Nothing : has_place n cover t ≡ true → learnt t.next ≡ false → report t.next ≡ None → lies_above report learnt t.next ≡ false → Turns t None
 
+  -- a turn is one of its cases
   pub turn_by : (t : Turn) → Turns t (turn n cover report learnt t)
   turn_by t = one (has_place n cover t) refl
     where
@@ -36,6 +37,7 @@ module _ (n : ℕ) (cover : ℕ → ℕ) (report : ℕ → Option Vote) (learnt 
       one true e = two e (learnt t.next) refl
       one false e = NoPlace e
 
+  -- what the search finds lies above
   lies_is : (p k : ℕ) → lies_after report learnt p k ≡ true → LiesAbove report learnt p
   lies_is p zero h = absurd (false≢true h)
   lies_is p (suc k) h = ⊎_elim
@@ -46,14 +48,17 @@ module _ (n : ℕ) (cover : ℕ → ℕ) (report : ℕ → Option Vote) (learnt 
       (or_cases (is_some (report (p + suc k))) (lies_after report learnt p k) o))
       (or_cases (learnt (p + suc k)) (is_some (report (p + suc k)) || lies_after report learnt p k) h)
 
+  -- where no part holds, none does
   none_in : (a : Bool) (o : Option Vote) (b : Bool) → (a || (is_some o || b)) ≡ false → (a ≡ false) × (o ≡ None) × (b ≡ false)
   none_in true o b h = absurd (false≢true (sym h))
   none_in false (Some v) b h = absurd (false≢true (sym h))
   none_in false None b h = (refl, refl, h)
 
+  -- nothing is reported or learnt at the position
   Unknown : ℕ → Type 0
   Unknown q = (report q ≡ None) × (learnt q ≡ false)
 
+  -- where the search finds nothing, nothing lies above
   lies_not : (p k q : ℕ) → lies_after report learnt p k ≡ false → p < q → q ≤ p + k → Unknown q
   unfolding Unknown
   lies_not p zero q h l g = absurd (omega arith)
@@ -67,6 +72,7 @@ module _ (n : ℕ) (cover : ℕ → ℕ) (report : ℕ → Option Vote) (learnt 
       last : p + suc k ≤ q → q ≤ p + suc k → p + suc k ≡ q
       last a b = omega arith
 
+  -- where there is place, positions are left and a majority covers the next
   placed : (t : Turn) → has_place n cover t ≡ true → (t.next ≤ positions) × IsMajority n (λ m. nat_le t.next (cover m))
   placed t h = let a = and_parts _ _ (and_parts (nat_lt (length t.proposals) 16) (nat_le t.next positions && is_covered n cover t.next) h).1 in (leb-true _ _ a.0, ltb-true _ _ a.1)
 
@@ -74,6 +80,7 @@ module _ (n : ℕ) (cover : ℕ → ℕ) (report : ℕ → Option Vote) (learnt 
   AllProposed : Turn → Type 0
   AllProposed t = (e : Pair) → Has t.made e → IsProposed n cover report learnt e
 
+  -- a proposal more that has its reason
   one_more : (t : Turn) (value : Value) → IsProposed n cover report learnt (record { position = t.next; value = value }) → AllProposed t → AllProposed (proposes value t)
   unfolding AllProposed
   one_more t value p h e q = ⊎_elim
@@ -81,8 +88,9 @@ module _ (n : ℕ) (cover : ℕ → ℕ) (report : ℕ → Option Vote) (learnt 
       (λ (o : Has (record { position = t.next; value = value } ∷ []) e). ⊎_elim (λ (x : record { position = t.next; value = value } ≡ e). subst (IsProposed n cover report learnt) x p) (λ (x : ⊥). absurd x) o)
       (has_cases t.made (record { position = t.next; value = value } ∷ []) e q)
 
+  -- the proposals of a turn have their reasons
   turn_proposed : (t s : Turn) (o : Option Turn) → Turns t o → o ≡ Some s → AllProposed t → AllProposed s
-  unfolding AllProposed
+  unfolding AllProposed lies_above
   turn_proposed t s None (NoPlace h) e a = absurd (none-some s e)
   turn_proposed t s None (Nothing h l r x) e a = absurd (none-some s e)
   turn_proposed t s (Some x) (Passed h l) e a = subst AllProposed (same_Some _ s e) a
@@ -91,6 +99,7 @@ module _ (n : ℕ) (cover : ℕ → ℕ) (report : ℕ → Option Vote) (learnt 
   turn_proposed t s (Some x) (Filled h l r y) e a = subst AllProposed (same_Some _ s e) (one_more t NoOp
       (record { majority = (placed t h).1; unlearnt = l; reported = λ v q. absurd (none-some v (sym r ∙ q)); unreported = λ q. (refl, lies_is t.next (positions - t.next) y) }) a)
 
+  -- a turn passes one position
   pub turn_next : (t s : Turn) (o : Option Turn) → Turns t o → o ≡ Some s → s.next ≡ suc t.next
   turn_next t s None (NoPlace h) e = absurd (none-some s e)
   turn_next t s None (Nothing h l r x) e = absurd (none-some s e)
@@ -98,6 +107,7 @@ module _ (n : ℕ) (cover : ℕ → ℕ) (report : ℕ → Option Vote) (learnt 
   turn_next t s (Some x) (Reported h l vote r) e = ap (λ (y : Turn). y.next) (sym (same_Some _ s e))
   turn_next t s (Some x) (Filled h l r y) e = ap (λ (y : Turn). y.next) (sym (same_Some _ s e))
 
+  -- where there is no place, there is a reason to stop
   no_place : (t : Turn) → has_place n cover t ≡ false → HasStopped n cover report learnt t
   no_place t h = one (nat_lt (length t.proposals) 16) (nat_le t.next positions) (is_covered n cover t.next) refl refl refl h
     where
@@ -107,8 +117,9 @@ module _ (n : ℕ) (cover : ℕ → ℕ) (report : ℕ → Option Vote) (learnt 
       one true true false e f g q = Uncovered (λ m. absurd (let l = ltb-false _ _ g in omega arith))
       one true true true e f g q = absurd (false≢true (sym q))
 
+  -- a turn stops for a reason
   turn_stopped : (t : Turn) (o : Option Turn) → Turns t o → o ≡ None → HasStopped n cover report learnt t
-  unfolding Unknown
+  unfolding Unknown lies_above
   turn_stopped t None (NoPlace h) e = no_place t h
   turn_stopped t None (Nothing h l r x) e = NothingAbove (λ q a b. ⊎_elim
       (λ (c : t.next < q). lies_not t.next (positions - t.next) q x c (let d = (placed t h).0 in omega arith))
@@ -143,6 +154,7 @@ module _ (n : ℕ) (cover : ℕ → ℕ) (report : ℕ → Option Vote) (learnt 
   AllPassed : ℕ → Turn → Type 0
   AllPassed next t = (p : ℕ) → next ≤ p → p < t.next → (learnt p ≡ true) ⊎ ((value : Value) × Has t.made (record { position = p; value = value }))
 
+  -- a learnt position is passed
   pass_learnt : (next : ℕ) (t : Turn) → learnt t.next ≡ true → AllPassed next t → AllPassed next (passes t)
   unfolding AllPassed
   pass_learnt next t l a p low high = ⊎_elim
@@ -153,6 +165,7 @@ module _ (n : ℕ) (cover : ℕ → ℕ) (report : ℕ → Option Vote) (learnt 
       same : t.next ≤ p → p < suc t.next → t.next ≡ p
       same c d = omega arith
 
+  -- a position with a proposal is passed
   pass_proposed : (next : ℕ) (t : Turn) (value : Value) → AllPassed next t → AllPassed next (proposes value t)
   unfolding AllPassed
   pass_proposed next t value a p low high = ⊎_elim
@@ -169,6 +182,7 @@ module _ (n : ℕ) (cover : ℕ → ℕ) (report : ℕ → Option Vote) (learnt 
       same : t.next ≤ p → p < suc t.next → t.next ≡ p
       same c d = omega arith
 
+  -- a turn passes no position without a reason
   turn_passed : (next : ℕ) (t s : Turn) (o : Option Turn) → Turns t o → o ≡ Some s → AllPassed next t → AllPassed next s
   turn_passed next t s None (NoPlace h) e a = absurd (none-some s e)
   turn_passed next t s None (Nothing h l r x) e a = absurd (none-some s e)
@@ -176,6 +190,7 @@ module _ (n : ℕ) (cover : ℕ → ℕ) (report : ℕ → Option Vote) (learnt 
   turn_passed next t s (Some x) (Reported h l vote r) e a = subst (AllPassed next) (same_Some _ s e) (pass_proposed next t vote.value a)
   turn_passed next t s (Some x) (Filled h l r y) e a = subst (AllPassed next) (same_Some _ s e) (pass_proposed next t NoOp a)
 
+  -- all turns pass no position without a reason
   all_passed : (next : ℕ) (k : ℕ) (t : Turn) → AllPassed next t → AllPassed next (turns n cover report learnt k t)
   all_passed next zero t a = a
   all_passed next (suc k) t a = one (λ s b. all_passed next k s b) (turn n cover report learnt t) (turn_by t)
@@ -190,6 +205,7 @@ module _ (n : ℕ) (cover : ℕ → ℕ) (report : ℕ → Option Vote) (learnt 
     opens : (before : List Pair) → t.proposals ≡ before ++ t.made → s.proposals ≡ before ++ s.made
     most : length t.proposals ≤ 16 → length s.proposals ≤ 16
 
+  -- a proposal adds itself
   adds_proposal : (t : Turn) (value : Value) → has_place n cover t ≡ true → Adds t (proposes value t)
   adds_proposal t value h = record {
     on = omega arith;
@@ -203,6 +219,7 @@ module _ (n : ℕ) (cover : ℕ → ℕ) (report : ℕ → Option Vote) (learnt 
       few : length t.proposals < 16
       few = ltb-true _ _ (and_parts (nat_lt (length t.proposals) 16) (nat_le t.next positions && is_covered n cover t.next) h).0
 
+  -- a turn adds what it makes
   turn_adds : (t s : Turn) (o : Option Turn) → Turns t o → o ≡ Some s → Adds t s
   turn_adds t s None (NoPlace h) e = absurd (none-some s e)
   turn_adds t s None (Nothing h l r x) e = absurd (none-some s e)
@@ -210,9 +227,11 @@ module _ (n : ℕ) (cover : ℕ → ℕ) (report : ℕ → Option Vote) (learnt 
   turn_adds t s (Some x) (Reported h l vote r) e = subst (Adds t) (same_Some _ s e) (adds_proposal t vote.value h)
   turn_adds t s (Some x) (Filled h l r y) e = subst (Adds t) (same_Some _ s e) (adds_proposal t NoOp h)
 
+  -- what two steps add
   adds_both : (t s x : Turn) → Adds t s → Adds s x → Adds t x
   adds_both t s x a b = record { on = omega (arith, a.on, b.on); opens = λ before e. b.opens before (a.opens before e); most = λ l. b.most (a.most l) }
 
+  -- all turns add what they make
   turns_add : (k : ℕ) (t : Turn) → Adds t (turns n cover report learnt k t)
   turns_add zero t = record { on = omega arith; opens = λ before e. e; most = λ l. l }
   turns_add (suc k) t = one (λ s. turns_add k s) (turn n cover report learnt t) (turn_by t)

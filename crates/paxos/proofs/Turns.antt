@@ -21,6 +21,7 @@ pub record Turned (n : ℕ) (cover : ℕ → ℕ) (report : ℕ → Option Vote)
   pub one : (e d : Pair) → Has t.made e → Has t.made d → e.position ≡ d.position → e.value ≡ d.value
   pub known : (e : Pair) → Has t.proposals e → Has before e ⊎ Has t.made e
 
+-- before the first turn
 pub unturned : (n : ℕ) (cover : ℕ → ℕ) (report : ℕ → Option Vote) (next : ℕ) (before : List Pair) → Turned n cover report next before (record { next = next; proposals = before; made = [] })
 unturned n cover report next before = record {
   on = omega arith;
@@ -32,6 +33,7 @@ unturned n cover report next before = record {
 }
 
 module _ (n : ℕ) (cover : ℕ → ℕ) (report : ℕ → Option Vote) (learnt : ℕ → Bool) (next : ℕ) (before : List Pair) where
+  -- a position passed
   passes_turned : (t : Turn) → Turned n cover report next before t → Turned n cover report next before (passes t)
   passes_turned t c = record { on = omega (arith, c.on); low = c.low; under = λ e h. let u = c.under e h in omega arith; why = c.why; one = c.one; known = c.known }
 
@@ -42,6 +44,7 @@ module _ (n : ℕ) (cover : ℕ → ℕ) (report : ℕ → Option Vote) (learnt 
       (λ (o : Has (new ∷ []) e). ⊎_elim (λ (q : new ≡ e). inr q) (λ (q : ⊥). absurd q) o)
       (has_cases es (new ∷ []) e h)
 
+  -- a proposal more
   pub proposes_turned : (t : Turn) (value : Value) → Why n cover report (record { position = t.next; value = value }) → Turned n cover report next before t → Turned n cover report next before (proposes value t)
   proposes_turned t value why c = record {
     on = omega (arith, c.on);
@@ -67,6 +70,7 @@ module _ (n : ℕ) (cover : ℕ → ℕ) (report : ℕ → Option Vote) (learnt 
       new : Pair
       new = record { position = t.next; value = value }
 
+  -- a majority covers the next position
   Covered : Turn → Type 0
   Covered t = is_covered n cover t.next ≡ true
 
@@ -74,14 +78,17 @@ module _ (n : ℕ) (cover : ℕ → ℕ) (report : ℕ → Option Vote) (learnt 
   IfTurned : Option Turn → Type 0
   IfTurned o = (t : Turn) → o ≡ Some t → Turned n cover report next before t
 
+  -- a turn that is taken
   some_turned : (t : Turn) → Turned n cover report next before t → IfTurned (Some t)
   unfolding IfTurned
   some_turned t c s e = subst (Turned n cover report next before) (same_Some t s e) c
 
+  -- a turn that is not taken
   none_turned : IfTurned None
   unfolding IfTurned
   none_turned s e = absurd (none-some s e)
 
+  -- a proposal, by what is reported
   proposal_turned : (t : Turn) → Covered t → Turned n cover report next before t → (o : Option Vote) → report t.next ≡ o → IfTurned (proposal report learnt t o)
   unfolding Covered
   proposal_turned t covered c (Some top) q = some_turned _ (proposes_turned t top.value (record { covered = covered; value = λ x e. ap (λ (y : Vote). y.value) (same_Some _ _ (sym q ∙ e)) }) c)
@@ -91,6 +98,7 @@ module _ (n : ℕ) (cover : ℕ → ℕ) (report : ℕ → Option Vote) (learnt 
       one true = some_turned _ (proposes_turned t NoOp (record { covered = covered; value = λ x e. absurd (none-some x (sym q ∙ e)) }) c)
       one false = none_turned
 
+  -- one turn
   turn_turned : (t : Turn) → Turned n cover report next before t → IfTurned (turn n cover report learnt t)
   unfolding Covered
   turn_turned t c = one (has_place n cover t) refl
@@ -103,6 +111,7 @@ module _ (n : ℕ) (cover : ℕ → ℕ) (report : ℕ → Option Vote) (learnt 
       one true h = two (and_parts _ _ (and_parts _ _ h).1).1 (learnt t.next)
       one false h = none_turned
 
+  -- all turns
   pub turns_turned : (k : ℕ) (t : Turn) → Turned n cover report next before t → Turned n cover report next before (turns n cover report learnt k t)
   unfolding IfTurned
   turns_turned zero t c = c

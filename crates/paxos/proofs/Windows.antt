@@ -13,6 +13,7 @@ use Rattle.paxos.proofs.Order.{below_self, below_not, same_ballot_equal}
 use Rattle.paxos.proofs.Safe.{NotAbove, above_self, above_trans}
 use Rattle.paxos.proofs.Lists.{has_cases}
 
+-- the higher vote is not below the first
 higher_left : (a b : Option Vote) → NotAbove a (higher a b)
 higher_left None b = tt
 higher_left (Some a) None = below_self a.ballot
@@ -22,6 +23,7 @@ higher_left (Some a) (Some b) = left a b (below a.ballot b.ballot) refl
     left a b true h = below_not a.ballot b.ballot h
     left a b false h = below_self a.ballot
 
+-- the higher vote is not below the second
 higher_right : (a b : Option Vote) → NotAbove b (higher a b)
 higher_right None b = above_self b
 higher_right (Some a) None = tt
@@ -31,6 +33,7 @@ higher_right (Some a) (Some b) = right a b (below a.ballot b.ballot) refl
     right a b true h = below_self b.ballot
     right a b false h = h
 
+-- the higher vote is one of the two
 higher_is : (a b : Option Vote) (t : Vote) → higher a b ≡ Some t → (a ≡ Some t) ⊎ (b ≡ Some t)
 higher_is None b t h = inr h
 higher_is (Some a) None t h = inl h
@@ -46,6 +49,7 @@ pub record Joined (b : Ballot) (c : ℕ) (w : Window) : Type 0 where
   pub low : w.from ≤ suc c
   pub high : c < w.covered
 
+-- the test of a window that joins tells
 joined : (b : Ballot) (c : ℕ) (w : Window) → joins b c w ≡ true → Joined b c w
 joined b c w h =
     let k = and_parts _ _ h in
@@ -62,6 +66,7 @@ record Inside (ws : List Promised) (b : Ballot) (p m : ℕ) (report : Option Vot
   high : p ≤ of.window.covered
   reports : vote_at p of.window.entries ≡ report
 
+-- a window more
 longer : (x : Promised) (older : List Promised) (b : Ballot) (p m : ℕ) (o : Option Vote) → Inside older b p m o → Inside (x ∷ older) b p m o
 longer x older b p m o r = record { of = r.of; there = inr r.there; member = r.member; ballot = r.ballot; low = r.low; high = r.high; reports = r.reports }
 
@@ -73,6 +78,7 @@ covers_more b base m x older = one (x.member == m && joins b (cover b base m old
     one true h = let j : Joined b (cover b base m older) x.window = joined b (cover b base m older) x.window (and_parts (x.member == m) (joins b (cover b base m older) x.window) h).1 in omega (arith, j.high)
     one false h = omega arith
 
+-- the report that counts does not fall
 older_reports : (b : Ballot) (base p : ℕ) (x : Promised) (older : List Promised) → NotAbove (reported b base p older) (reported b base p (x ∷ older))
 older_reports b base p x older = one (joins b (cover b base x.member older) x.window)
   where
@@ -80,9 +86,11 @@ older_reports b base p x older = one (joins b (cover b base x.member older) x.wi
     one true = higher_left (reported b base p older) (report_in p x.window)
     one false = above_self (reported b base p older)
 
+-- the report that counts is not below that of the newest window
 new_reports : (b : Ballot) (base p : ℕ) (x : Promised) (older : List Promised) → joins b (cover b base x.member older) x.window ≡ true → NotAbove (report_in p x.window) (reported b base p (x ∷ older))
 new_reports b base p x older h = rw h (higher_right (reported b base p older) (report_in p x.window))
 
+-- inside a window its votes are reported
 inside_report : (p : ℕ) (w : Window) → w.from ≤ p → p ≤ w.covered → report_in p w ≡ vote_at p w.entries
 inside_report p w l h = rw (le-leb w.from p l, le-leb p w.covered h) refl
 
@@ -115,6 +123,7 @@ covered_reports b base m p (x ∷ older) l h = one (λ q. covered_reports b base
         (λ (y : p ≤ cover b base m older). old rest y)
         (cases_lt (cover b base m older) p)
 
+-- a report of the newest window, by a member that covers the position
 reports_new : (b : Ballot) (base p : ℕ) (x : Promised) (older : List Promised) (t : Vote) → joins b (cover b base x.member older) x.window ≡ true → report_in p x.window ≡ Some t
     → Inside (x ∷ older) b p x.member (Some t) × (p ≤ cover b base x.member (x ∷ older))
 reports_new b base p x older t h e =
@@ -155,11 +164,13 @@ record Told (packets : List Packet) (x : Promised) : Type 0 where
   sender : packet.sender ≡ x.member
   body : packet.body ≡ Promise x.window
 
+-- the window of one message
 one_told : (k : Packet) (older : List Packet) (body : Body) (x : Promised) → k.body ≡ body → Has (promised_of k.sender body) x → Told (k ∷ older) x
 one_told k older (Promise w) x e (inl h) = record { packet = k; there = inl refl; sender = ap (λ (y : Promised). y.member) h; body = e ∙ ap (λ (y : Promised). Promise y.window) h }
 one_told k older (Promise w) x e (inr h) = absurd h
 one_told k older body x e h = absurd h
 
+-- each window comes from a message
 windows_told : (packets : List Packet) (x : Promised) → Has (windows packets) x → Told packets x
 windows_told [] x h = absurd h
 windows_told (k ∷ older) x h = ⊎_elim
@@ -167,6 +178,7 @@ windows_told (k ∷ older) x h = ⊎_elim
     (λ (o : Has (windows older) x). let r = windows_told older x o in record { packet = r.packet; there = inr r.there; sender = r.sender; body = r.body })
     (has_cases (promised_of k.sender k.body) (windows older) x h)
 
+-- a window is a promise
 promised : (packets : List Packet) (b : Ballot) (p m : ℕ) (o : Option Vote) → Inside (windows packets) b p m o → HasPromised packets m b p o
 promised packets b p m o r =
     let t = windows_told packets r.of r.there in

@@ -24,9 +24,11 @@ Run-more app w end events event c r = (
     new : Happening
     new = record { event = event; choice = c }
 
+-- no event
 pub Run-none : (app : Application) (w : World) → Run app w [] w
 Run-none app w = ([], refl, refl)
 
+-- what is set in its own place changes nothing
 put_same : {A : Type 0} (xs : List A) (i : ℕ) (x : A) → slice_get xs i ≡ Some x → slice_set xs i x ≡ xs
 put_same [] i x h = refl
 put_same (y ∷ xs) zero x h = ap (λ z. z ∷ xs) (sym (same_Some y x h))

@@ -11,7 +11,7 @@ use Rattle.paxos.specs.World.{Member, World, cast_by, told_to}
 abbrev pub HasVoted : World → (member : ℕ) → (position : ℕ) → Vote → Type 0
 HasVoted w m p vote = Has w.votes (cast_by m (record { position = p; vote = vote }))
 
--- one ballot has recorded votes of a majority for the value at the position ("Paxos Made Simple", section 2.1)
+-- one ballot has recorded votes of a majority for the value at the position ("Paxos Made Simple", section 2.2)
 pub record IsChosen (w : World) (position : ℕ) (value : Value) : Type 0 where
   pub ballot : Ballot
   pub set : ℕ → Bool

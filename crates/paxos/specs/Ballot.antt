@@ -19,6 +19,7 @@ no_ballot = record { round = 0; member = 0 }
 abbrev pub below : Ballot → Ballot → Bool
 below a b = nat_lt a.round b.round || (a.round == b.round && nat_lt a.member b.member)
 
+-- the two are one ballot
 abbrev pub same_ballot : Ballot → Ballot → Bool
 same_ballot a b = a.round == b.round && a.member == b.member
 

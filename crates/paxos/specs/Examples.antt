@@ -1,24 +1,31 @@
 -- The data of the worked examples.
-use Rattle.std.specs.Prelude.{ℕ, zero, suc, Bool, List, [], ◌∷◌, ◌++◌, map, replicate, None}
+use Rattle.std.specs.Prelude.{ℕ, zero, suc, Bool, List, [], ◌∷◌, ◌++◌, map, replicate, None, option_map, Option}
 use Rattle.paxos.specs.Ballot.{Ballot}
-use Rattle.paxos.specs.Values.{Value, Of, Vote, Entry, Application, Found}
+use Rattle.paxos.specs.Values.{Request, NoOp, Of, Vote, Entry, Application, Found, positions}
 use Rattle.paxos.specs.Messages.{Prepare, Accept}
-use Rattle.paxos.specs.World.{World, fresh, Event, Deliver, StopInDeliver, Start, Happening, run}
+use Rattle.paxos.specs.Knowledge.{Heard, AcceptedBy, Promised}
+use Rattle.paxos.specs.Step.{Running}
+use Rattle.paxos.specs.World.{Member, World, fresh, start, Event, Deliver, Begin, Submits, StopInDeliver, Start, Happening, run}
 
 -- the application doesn't matter: nothing is known, and each answer is the empty text
 abbrev pub silent : Application
 silent = record { reply = λ values client number. None; answer = λ values level text. Found [] }
 
+-- the ballot of that round and member
 abbrev pub ballot : (round : ℕ) → (member : ℕ) → Ballot
 ballot r m = record { round = r; member = m }
 
--- the text 1 of client 7
-abbrev pub asked : (number : ℕ) → Value
-asked number = Of (record { client = 7; number = number; level = 1; text = 49 ∷ [] })
+-- the text 1 of client 7, numbered 1
+abbrev pub request : Request
+request = record { client = 7; number = 1; level = 1; text = 49 ∷ [] }
 
--- the first request, under the ballot
+-- the request, under the ballot
 abbrev pub vote : Ballot → Vote
-vote b = record { ballot = b; value = asked 1 }
+vote b = record { ballot = b; value = Of request }
+
+-- these members, the newest first, were heard to have accepted the request at position 1 under the ballot
+abbrev pub accepted_from : Ballot → (members : List ℕ) → List Heard
+accepted_from b ms = map (λ m. AcceptedBy m 1 (vote b)) ms
 
 -- votes at 1 to n, all of ballot (1,1)
 abbrev pub votes_to : (n : ℕ) → List Entry
@@ -41,3 +48,25 @@ on_their_way = record {
 -- member 2 stops inside its write of that vote, starts, and gets the Prepare
 abbrev pub after_stop : (kept : Bool) → World
 after_stop kept = run silent on_their_way (smoothly (StopInDeliver 1 kept ∷ Start 2 ∷ Deliver 2 ∷ []))
+
+-- of three members one begins, and all messages are delivered; the request is submitted to it, and all messages are delivered
+unfoldable pub straight : World
+straight = run silent (start 3) (smoothly (
+    Begin 1 ∷ Deliver 1 ∷ Deliver 2 ∷ Deliver 3 ∷ Deliver 4 ∷ Deliver 5 ∷ Deliver 6
+    ∷ Submits 1 request ∷ Deliver 7 ∷ Deliver 8 ∷ Deliver 9 ∷ Deliver 10 ∷ Deliver 11 ∷ Deliver 12 ∷ Deliver 13 ∷ Deliver 14
+    ∷ Deliver 15 ∷ Deliver 16 ∷ Deliver 17 ∷ Deliver 18 ∷ Deliver 19 ∷ []))
+
+-- how many positions each member has applied, where it runs
+abbrev pub applied_in : World → List (Option ℕ)
+applied_in w = map (λ (x : Member). option_map (λ (u : Running). u.applied) x.running) w.members
+
+-- a member's promise of ballot (3,3) for all positions, with one vote at position 1
+abbrev pub reporting : (member : ℕ) → Vote → Promised
+reporting m vote = record {
+  member = m;
+  window = record { ballot = ballot 3 3; from = 1; covered = positions; entries = record { position = 1; vote = vote } ∷ [] };
+}
+
+-- the no-op, under the ballot
+abbrev pub no_op : Ballot → Vote
+no_op b = record { ballot = b; value = NoOp }

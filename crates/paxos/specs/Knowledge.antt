@@ -20,9 +20,11 @@ news_of m (Accepted p vote) = AcceptedBy m p vote ∷ []
 news_of m (Chosen pairs) = ChosenAre pairs ∷ []
 news_of m body = []
 
+-- all that the messages tell, in their order
 abbrev pub news : List Packet → List Heard
 news packets = flat_map (λ (k : Packet). news_of k.sender k.body) packets
 
+-- what was heard is that this member accepted this very vote at the position
 abbrev pub is_accepted_by : (position : ℕ) → Vote → (member : ℕ) → Heard → Bool
 is_accepted_by p vote m (AcceptedBy k q other) = k == m && (p == q && same_vote vote other)
 is_accepted_by p vote m (ChosenAre pairs) = false
@@ -31,6 +33,7 @@ is_accepted_by p vote m (ChosenAre pairs) = false
 abbrev pub accepted_by : (position : ℕ) → Vote → List Heard → (member : ℕ) → Bool
 accepted_by p vote heard m = list_any (is_accepted_by p vote m) heard
 
+-- the value told for the position, if there is one
 abbrev pub value_at : (position : ℕ) → List Pair → Option Value
 value_at p [] = None
 value_at p (e ∷ es) = if p == e.position then Some e.value else value_at p es
@@ -40,6 +43,7 @@ abbrev pub completed : (members : ℕ) → (position : ℕ) → (newest : Heard)
 completed n p (AcceptedBy m q vote) heard = if p == q && is_majority n (accepted_by q vote heard) then Some vote.value else None
 completed n p (ChosenAre pairs) heard = value_at p pairs
 
+-- the first value, or else the later one
 abbrev pub first : {A : Type 0} → Option A → Option A → Option A
 first (Some x) later = Some x
 first None later = later
@@ -54,6 +58,7 @@ pub data IsHeard (members : ℕ) (position : ℕ) (heard : List Heard) (value : 
   ByMajority : (vote : Vote) (same : vote.value ≡ value) (majority : IsMajority members (accepted_by position vote heard)) → IsHeard members position heard value
   AsChosen : (pairs : List Pair) (told : Has heard (ChosenAre pairs)) (there : value_at position pairs ≡ Some value) → IsHeard members position heard value
 
+-- the value at the position
 abbrev pub pair_of : (position : ℕ) → Value → Pair
 pair_of p value = record { position = p; value = value }
 
@@ -66,7 +71,7 @@ abbrev pub newly : (members : ℕ) → (newest : Heard) → (older : List Heard)
 newly n (AcceptedBy m p vote) older = newly_at n (AcceptedBy m p vote) older p
 newly n (ChosenAre pairs) older = flat_map (λ (e : Pair). newly_at n (ChosenAre pairs) older e.position) pairs
 
--- from p on, the last of at most k positions that pass the test one after the other
+-- from p on, the last of at most k positions that pass the test one after the other (by cases, so that no more of them are tried)
 abbrev pub last_of_run : (ℕ → Bool) → (k : ℕ) → (p : ℕ) → ℕ
 last_of_run test zero p = p
 last_of_run test (suc k) p = elim (test (suc p)) as (λ x. ℕ) [ true ↦ last_of_run test k (suc p) | false ↦ p ]
@@ -92,10 +97,12 @@ pub record Promised : Type 0 where
   pub member : ℕ
   pub window : Window
 
+-- the window that a message promises, if it is a Promise
 abbrev pub promised_of : (sender : ℕ) → Body → List Promised
 promised_of m (Promise w) = record { member = m; window = w } ∷ []
 promised_of m body = []
 
+-- all windows that the messages promise, in their order
 abbrev pub windows : List Packet → List Promised
 windows packets = flat_map (λ (k : Packet). promised_of k.sender k.body) packets
 

@@ -19,6 +19,7 @@ pub record Question : Type 0 where
   pub level : ℕ
   pub text : List ℕ
 
+-- what a message says; the last six kinds are between clients and members
 pub data Body : Type 0 where
   Prepare : (ballot : Ballot) (from : ℕ) → Body
   Promise : (window : Window) → Body
@@ -33,12 +34,13 @@ pub data Body : Type 0 where
   Behind : (client : ℕ) (number : ℕ) (applied : ℕ) → Body
   Elsewhere : (client : ℕ) (number : ℕ) (member : ℕ) → Body
 
--- a message with its way; 0 stands for the clients
+-- a message on its way from a member to a member; 0 stands for the clients
 pub record Packet : Type 0 where
   pub sender : ℕ
   pub target : ℕ
   pub body : Body
 
+-- the message from this sender to this target
 abbrev pub packet : (sender : ℕ) → Body → (target : ℕ) → Packet
 packet sender body target = record { sender = sender; target = target; body = body }
 

@@ -45,7 +45,8 @@ abbrev pub lies_after : (report : ℕ → Option Vote) → (is_learnt : ℕ → 
 lies_after report is_learnt p zero = false
 lies_after report is_learnt p (suc k) = is_learnt (p + suc k) || (is_some (report (p + suc k)) || lies_after report is_learnt p k)
 
-abbrev pub lies_above : (report : ℕ → Option Vote) → (is_learnt : ℕ → Bool) → (position : ℕ) → Bool
+-- a vote is reported, or a value learnt, at a position above this one
+unfoldable pub lies_above : (report : ℕ → Option Vote) → (is_learnt : ℕ → Bool) → (position : ℕ) → Bool
 lies_above report is_learnt p = lies_after report is_learnt p (positions - p)
 
 -- at a position with a report, its value; below a report or a learnt position, the no-op; otherwise none
@@ -60,7 +61,7 @@ turn n cover report is_learnt t =
     then (if is_learnt t.next then Some (passes t) else proposal report is_learnt t (report t.next))
     else None
 
--- proposing goes on until it stops, by at most k positions
+-- proposing goes on until it stops, by at most k positions (by cases, so that no more of them are tried)
 abbrev pub turns : (members : ℕ) → (cover : ℕ → ℕ) → (report : ℕ → Option Vote) → (is_learnt : ℕ → Bool) → (k : ℕ) → Turn → Turn
 turns n cover report is_learnt zero t = t
 turns n cover report is_learnt (suc k) t = elim (turn n cover report is_learnt t) as (λ o. Turn) [ None ↦ t | Some t' ↦ turns n cover report is_learnt k t' ]
@@ -88,7 +89,7 @@ pub record IsProposed (members : ℕ) (cover : ℕ → ℕ) (report : ℕ → Op
 pub data HasStopped (members : ℕ) (cover : ℕ → ℕ) (report : ℕ → Option Vote) (is_learnt : ℕ → Bool) (t : Turn) : Type 0 where
   Full : (16 ≤ length t.proposals) → HasStopped members cover report is_learnt t
   Spent : (positions < t.next) → HasStopped members cover report is_learnt t
-  Uncovered : (IsMajority members (λ m. nat_le t.next (cover m)) → ⊥) → HasStopped members cover report is_learnt t
+  Uncovered : (¬ IsMajority members (λ m. nat_le t.next (cover m))) → HasStopped members cover report is_learnt t
   NothingAbove : ((p : ℕ) → t.next ≤ p → p ≤ positions → (report p ≡ None) × (is_learnt p ≡ false)) → HasStopped members cover report is_learnt t
 
 -- Proposing went on from one turn to another, and stopped: each value proposed has its reason and is open, at most 16 are, and the

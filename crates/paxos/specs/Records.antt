@@ -9,6 +9,7 @@ pub record Record : Type 0 where
   pub promise : Ballot
   pub votes : List Entry
 
+-- the vote at a position, if there is one
 abbrev pub vote_at : (position : ℕ) → List Entry → Option Vote
 vote_at p [] = None
 vote_at p (e ∷ es) = if p == e.position then Some e.vote else vote_at p es
@@ -43,6 +44,7 @@ pub data Write : Type 0 where
   NewPromise : (ballot : Ballot) → Write
   NewVote : (position : ℕ) (vote : Vote) → Write
 
+-- the write changes the record
 abbrev pub writes : Write → Bool
 writes Nothing = false
 writes (NewPromise b) = true
@@ -55,13 +57,14 @@ written (NewPromise b) r = record { promise = b; votes = r.votes }
 written (NewVote p vote) r = record { promise = vote.ballot; votes = with_vote p vote r.votes }
 
 -- a Prepare that is answered: a higher ballot is promised
-abbrev pub on_prepare_write : Record → Ballot → Write
-on_prepare_write r b = if below r.promise b then NewPromise b else Nothing
+abbrev pub prepare_write : Record → Ballot → Write
+prepare_write r b = if below r.promise b then NewPromise b else Nothing
 
+-- this very vote stands there
 abbrev pub has_vote : Option Vote → Vote → Bool
 has_vote None vote = false
 has_vote (Some old) vote = same_vote old vote
 
 -- an Accept that is answered: the vote is recorded, unless that very vote stands there
-abbrev pub on_accept_write : Record → (position : ℕ) → Vote → Write
-on_accept_write r p vote = if has_vote (vote_at p r.votes) vote then Nothing else NewVote p vote
+abbrev pub accept_write : Record → (position : ℕ) → Vote → Write
+accept_write r p vote = if has_vote (vote_at p r.votes) vote then Nothing else NewVote p vote

@@ -4,7 +4,7 @@ use Rattle.std.specs.Prelude.{ℕ, suc, ◌-◌, Bool, not, ◌&&◌, ◌==◌, 
 use Rattle.paxos.specs.Ballot.{Ballot, below, last_round}
 use Rattle.paxos.specs.Values.{Request, Value, Of, Vote, Pair, Kept, Application, positions}
 use Rattle.paxos.specs.Messages.{Window, Question, Body, Prepare, Promise, Accept, Accepted, Chosen, CatchUp, Submit, Reply, Ask, Answer, Behind, Elsewhere, Packet, packet, up_to, to_all}
-use Rattle.paxos.specs.Records.{Record, window, Write, Nothing, NewPromise, on_prepare_write, on_accept_write}
+use Rattle.paxos.specs.Records.{Record, window, Write, Nothing, NewPromise, prepare_write, accept_write}
 use Rattle.paxos.specs.Knowledge.{Heard, AcceptedBy, ChosenAre, news, learnt, newly, prefix, learnt_from, values_to, windows, joins, cover, reported}
 use Rattle.paxos.specs.Proposing.{Turn, proposes, still_open, has_open, turns, has_free_place}
 
@@ -21,6 +21,7 @@ pub record Running : Type 0 where
   pub leader : Option Leader
   pub applied : ℕ
 
+-- what a step writes, how the member runs on (or that it stops), what it sends in this order, and what it is told
 pub record Effect : Type 0 where
   pub write : Write
   pub running : Option Running
@@ -31,6 +32,7 @@ pub record Effect : Type 0 where
 abbrev pub says : Running → List Packet → Effect
 says u sends = record { write = Nothing; running = Some u; sends = sends; tells = [] }
 
+-- nothing at all
 abbrev pub quiet : Running → Effect
 quiet u = says u []
 
@@ -39,26 +41,29 @@ abbrev pub yields : Ballot → Option Leader → Option Leader
 yields b None = None
 yields b (Some l) = if below l.ballot b then None else Some l
 
+-- a member that promises the ballot
 abbrev pub yielding : Ballot → Running → Running
 yielding b u = record { heard = u.heard; leader = yields b u.leader; applied = u.applied }
 
 -- The acceptor (sections 2.2 and 2.5).
 
+-- a Prepare below the promise gets nothing; another gets the promise and what it covers
 abbrev pub on_prepare : (self : ℕ) → Record → Running → Ballot → (from : ℕ) → Effect
 on_prepare m r u b from =
     if below b r.promise then quiet u
     else record {
-      write = on_prepare_write r b;
+      write = prepare_write r b;
       running = Some (yielding b u);
       sends = packet m (Promise (window b from r.votes)) b.member ∷ [];
       tells = [];
     }
 
+-- an Accept below the promise gets nothing; of another all members hear that it is accepted
 abbrev pub on_accept : (members : ℕ) → (self : ℕ) → Record → Running → (position : ℕ) → Vote → Effect
 on_accept n m r u p vote =
     if below vote.ballot r.promise then quiet u
     else record {
-      write = on_accept_write r p vote;
+      write = accept_write r p vote;
       running = Some (yielding vote.ballot u);
       sends = to_all n m (Accepted p vote);
       tells = [];
@@ -66,23 +71,27 @@ on_accept n m r u p vote =
 
 -- The leader (section 3).
 
--- what the leader knows, read off what it heard
+-- how far the windows that a leader heard cover
 abbrev pub cover_heard : List Packet → Leader → (member : ℕ) → ℕ
 cover_heard heard l k = cover l.ballot l.base k (windows heard)
 
+-- the highest vote that they report at a position
 abbrev pub report_heard : List Packet → Leader → (position : ℕ) → Option Vote
 report_heard heard l p = reported l.ballot l.base p (windows heard)
 
+-- the position is learnt
 abbrev pub is_learnt_heard : (members : ℕ) → List Packet → (position : ℕ) → Bool
 is_learnt_heard n heard p = is_some (learnt n p (news heard))
 
+-- where proposing begins in a step
 abbrev pub turn_of : Leader → Turn
 turn_of l = record { next = l.next; proposals = l.proposals; made = [] }
 
--- what proposing comes to
+-- what proposing comes to, from what the leader knows
 abbrev pub goes_on : (members : ℕ) → List Packet → Leader → Turn
 goes_on n heard l = turns n (cover_heard heard l) (report_heard heard l) (is_learnt_heard n heard) positions (turn_of l)
 
+-- the Accepts of proposals, each to all members
 abbrev pub accepts : (members : ℕ) → (self : ℕ) → Ballot → List Pair → List Packet
 accepts n m b proposals = flat_map (λ (e : Pair). to_all n m (Accept e.position (record { ballot = b; value = e.value }))) proposals
 
@@ -110,6 +119,7 @@ on_promise n m older u sender w (Some l) =
 
 -- The learner (sections 2.3 and 3).
 
+-- the proposals at learnt positions are closed
 abbrev pub closes : (members : ℕ) → List Packet → Leader → Leader
 closes n heard l = record { ballot = l.ballot; base = l.base; next = l.next; proposals = still_open (is_learnt_heard n heard) l.proposals }
 
@@ -119,9 +129,11 @@ learns n m u [] lead = quiet u
 learns n m u (e ∷ es) None = record { write = Nothing; running = Some u; sends = []; tells = e ∷ es }
 learns n m u (e ∷ es) (Some l) = leading n m u (closes n u.heard l) (goes_on n u.heard (closes n u.heard l)) [] (e ∷ es)
 
+-- what a learner hears
 abbrev pub on_news : (members : ℕ) → (self : ℕ) → (older : List Packet) → Running → Heard → Effect
 on_news n m older u h = learns n m u (newly n h (news older)) u.leader
 
+-- one message that tells what is chosen, or none if there is nothing to tell
 abbrev pub chosen_packet : (self : ℕ) → (target : ℕ) → List Pair → List Packet
 chosen_packet m target [] = []
 chosen_packet m target (e ∷ es) = packet m (Chosen (e ∷ es)) target ∷ []
@@ -136,7 +148,8 @@ on_catch_up n m u sender from = says u (chosen_packet m sender (take 8 (learnt_f
 abbrev pub values_of : (members : ℕ) → Running → List Value
 values_of n u = values_to n (news u.heard) u.applied
 
--- a request that is new: a leader with place proposes it, unless the same client and number is open; another member names its promise's
+-- A new request: a leader with place proposes it, unless one of its client and number is open; another member names the member that
+-- it promised.
 abbrev pub on_new_request : (members : ℕ) → (self : ℕ) → Record → Running → Request → Option Leader → Effect
 on_new_request n m r u q None = says u (packet m (Elsewhere q.client q.number r.promise.member) 0 ∷ [])
 on_new_request n m r u q (Some l) =
@@ -149,11 +162,13 @@ abbrev pub on_submit : (members : ℕ) → (self : ℕ) → Record → Running �
 on_submit n m r u q (Some reply) = says u (packet m (Reply q.client q.number reply) 0 ∷ [])
 on_submit n m r u q None = on_new_request n m r u q u.leader
 
+-- a question gets its answer, or how far this member is where that is less than the floor
 abbrev pub on_ask : Application → (members : ℕ) → (self : ℕ) → Running → Question → Effect
 on_ask app n m u q =
     if nat_lt u.applied q.floor then says u (packet m (Behind q.client q.number u.applied) 0 ∷ [])
     else says u (packet m (Answer q.client q.number u.applied (app.answer (values_of n u) q.level q.text)) 0 ∷ [])
 
+-- what each kind of message does; the kinds for clients do nothing
 abbrev pub on_body : Application → (members : ℕ) → (self : ℕ) → (older : List Packet) → Record → Running → (sender : ℕ) → Body → Effect
 on_body app n m older r u sender (Prepare b from) = on_prepare m r u b from
 on_body app n m older r u sender (Promise w) = on_promise n m older u sender w u.leader
@@ -171,6 +186,7 @@ on_message app n m k r u = on_body app n m u.heard r (record { heard = k ∷ u.h
 
 -- Ticks.
 
+-- the ballot that a member begins
 abbrev pub next_ballot : (self : ℕ) → Record → Ballot
 next_ballot m r = record { round = suc r.promise.round; member = m }
 
@@ -189,6 +205,7 @@ begins n m r u =
       tells = [];
     }
 
+-- a Begin is refused where positions or rounds are spent
 abbrev pub on_begin : (members : ℕ) → (self : ℕ) → Record → Running → Effect
 on_begin n m r u = if may_begin n r u then begins n m r u else quiet u
 
@@ -197,6 +214,7 @@ abbrev pub resent : (members : ℕ) → (self : ℕ) → List Packet → Option 
 resent n m heard None = []
 resent n m heard (Some l) = accepts n m l.ballot l.proposals ++ flat_map (asks_on m heard l) (up_to n)
 
+-- a leader sends again what may be lost
 abbrev pub on_resend : (members : ℕ) → (self : ℕ) → Running → Effect
 on_resend n m u = says u (resent n m u.heard u.leader)
 

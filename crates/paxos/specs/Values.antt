@@ -14,6 +14,7 @@ pub record Request : Type 0 where
   pub level : ℕ
   pub text : List ℕ
 
+-- the two agree in all four
 abbrev pub same_request : Request → Request → Bool
 same_request a b = (a.client == b.client && a.number == b.number) && (a.level == b.level && pointwise nat_eq a.text b.text)
 
@@ -26,6 +27,7 @@ pub data Value : Type 0 where
   NoOp : Value
   Of : (request : Request) → Value
 
+-- the two are one value
 abbrev pub same_value : Value → Value → Bool
 same_value NoOp NoOp = true
 same_value (Of a) (Of b) = same_request a b
@@ -42,6 +44,7 @@ pub record Vote : Type 0 where
   pub ballot : Ballot
   pub value : Value
 
+-- the two are of one ballot and one value
 abbrev pub same_vote : Vote → Vote → Bool
 same_vote a b = same_ballot a.ballot b.ballot && same_value a.value b.value
 

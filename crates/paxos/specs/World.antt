@@ -23,6 +23,7 @@ pub record Told : Type 0 where
   pub member : ℕ
   pub pair : Pair
 
+-- of the members each its record and how it runs; all messages in the order of their numbers; all votes; all that was told
 pub record World : Type 0 where
   pub members : List Member
   pub sent : List Packet
@@ -33,6 +34,7 @@ pub record World : Type 0 where
 abbrev pub started : Running
 started = record { heard = []; leader = None; applied = 0 }
 
+-- a member that never did anything
 abbrev pub fresh : Member
 fresh = record { kept = record { promise = no_ballot; votes = [] }; running = Some started }
 
@@ -53,14 +55,17 @@ pub data Event : Type 0 where
   Stop : (member : ℕ) → Event
   Start : (member : ℕ) → Event
 
--- What an event leaves open: whether the store fails, and whether it then keeps what is written; how many positions are applied then.
+-- What an event leaves open: whether the store fails, and whether it then keeps what is written (at a start it fails to give the
+-- record); how many positions are applied then.
 pub record Choice : Type 0 where
   pub fails : Option Bool
   pub applied : ℕ
 
+-- the vote, as the member's
 abbrev pub cast_by : (member : ℕ) → Entry → Cast
 cast_by m e = record { member = m; entry = e }
 
+-- the value, as told to the member
 abbrev pub told_to : (member : ℕ) → Pair → Told
 told_to m e = record { member = m; pair = e }
 
@@ -88,7 +93,8 @@ abbrev pub may_fail : Option Bool → Effect → Effect
 may_fail None e = e
 may_fail (Some kept) e = if writes e.write then stops_in kept e else e
 
--- learnt positions are applied in order, up to the number chosen, if that many are learnt without a gap and no more were applied before
+-- Learnt positions are applied in order up to the number chosen, if that many are learnt without a gap and no more were applied
+-- before; otherwise none are.
 abbrev pub applies_to : (members : ℕ) → ℕ → Running → Running
 applies_to n k u = record {
   heard = u.heard;
@@ -96,6 +102,7 @@ applies_to n k u = record {
   applied = if nat_le u.applied k && nat_le k (prefix n (news u.heard)) then k else u.applied;
 }
 
+-- the same after a step
 abbrev pub applies : (members : ℕ) → ℕ → Effect → Effect
 applies n k e = record { write = e.write; running = option_map (applies_to n k) e.running; sends = e.sends; tells = e.tells }
 
@@ -108,10 +115,12 @@ abbrev pub runs : World → (member : ℕ) → Record → (Record → Running �
 runs w m r step None = w
 runs w m r step (Some u) = after w m r (step r u)
 
+-- a member that is there takes its step if it runs
 abbrev pub takes : World → (member : ℕ) → (Record → Running → Effect) → Option Member → World
 takes w m step None = w
 takes w m step (Some x) = runs w m x.kept step x.running
 
+-- the member of that number takes its step
 abbrev pub acts : World → (member : ℕ) → (Record → Running → Effect) → World
 acts w m step = takes w m step (at w.members m)
 
@@ -136,10 +145,12 @@ restarts w fails m r (Some u) = w
 restarts w (Some kept) m r None = w
 restarts w None m r None = after w m r (quiet started)
 
+-- a member that is there starts if it is stopped
 abbrev pub starts : World → (fails : Option Bool) → (member : ℕ) → Option Member → World
 starts w fails m None = w
 starts w fails m (Some x) = restarts w fails m x.kept x.running
 
+-- what an event does, with what it leaves open
 abbrev pub happens : Application → World → Choice → Event → World
 happens app w c (Deliver k) = delivers app w (settles (length w.members) c) (at w.sent k)
 happens app w c (Begin m) = acts w m (begins_in w c m)

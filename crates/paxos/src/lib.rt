@@ -7,14 +7,14 @@
 ghost use Rattle.std.specs.Prelude.{◌≡◌, ℕ, suc, ◌<◌, ◌≤◌, Bool, true, false, List, [], ◌∷◌, ◌++◌, length, take, Option, Some, None, IsSome};
 ghost use Rattle.paxos.specs.Lists.{at};
 ghost use Rattle.paxos.specs.Agreement.{Agreement};
-ghost use Rattle.paxos.specs.Examples.{asked, ballot, vote, votes_to, after_stop};
-ghost use Rattle.paxos.specs.Knowledge.{Heard, AcceptedBy, learnt, IsHeard, prefix};
-ghost use Rattle.paxos.specs.Messages.{Promise};
+ghost use Rattle.paxos.specs.Examples.{accepted_from, ballot, request, vote, no_op, votes_to, reporting, after_stop, straight, applied_in};
+ghost use Rattle.paxos.specs.Knowledge.{Heard, AcceptedBy, learnt, pair_of, IsHeard, prefix, reported};
+ghost use Rattle.paxos.specs.Messages.{Promise, packet};
 ghost use Rattle.paxos.specs.Proposable.{P2c};
 ghost use Rattle.paxos.specs.Proposing.{turns, WentOn};
 ghost use Rattle.paxos.specs.Records.{window};
-ghost use Rattle.paxos.specs.Values.{Application, Value, Vote, Pair, positions};
-ghost use Rattle.paxos.specs.World.{World, start, Event, Happening, run, Run};
+ghost use Rattle.paxos.specs.Values.{Application, Value, Of, Vote, Pair, positions};
+ghost use Rattle.paxos.specs.World.{World, told_to, start, Event, Happening, run, Run};
 
 /// No position has two chosen values; what a member has learnt it was told, and what it was told is chosen; and members that
 /// have applied as many positions have applied the same values.
@@ -22,8 +22,10 @@ ghost use Rattle.paxos.specs.World.{World, start, Event, Happening, run, Run};
 /// This holds for every number of members and every list of events, whatever each event left open, after each beginning of the
 /// list: the first `k` events.
 pub fn agreement()
-    ensures after_each_beginning { (app : Application) (members : ℕ) (events : List Happening) (k : ℕ) → Agreement (run app (start members) (take k events)) }
-    ensures after_each_run { (app : Application) (members : ℕ) (events : List Event) (end : World) → Run app (start members) events end → Agreement end }
+    ensures after_each_beginning { (app : Application) (members : ℕ) (events : List Happening) (k : ℕ)
+        → Agreement (run app (start members) (take k events)) }
+    ensures after_each_run { (app : Application) (members : ℕ) (events : List Event) (end : World)
+        → Run app (start members) events end → Agreement end }
 {}
 
 /// Why a value may be proposed ("Paxos Made Simple", section 2.2, P2c), at each position and for each Accept that was ever sent.
@@ -31,7 +33,8 @@ pub fn agreement()
 /// A majority has promised its ballot there, and either none of it has accepted a proposal of a lower ballot, or the value is
 /// that of the highest such proposal. One ballot has one value at a position.
 pub fn promised_or_free()
-    ensures { (app : Application) (members : ℕ) (events : List Happening) (k : ℕ) → P2c (run app (start members) (take k events)) }
+    ensures { (app : Application) (members : ℕ) (events : List Happening) (k : ℕ)
+        → P2c (run app (start members) (take k events)) }
 {}
 
 /// A position is learnt exactly where a majority was heard to have accepted one vote there, or its value was told as chosen; the
@@ -44,7 +47,8 @@ pub fn learning()
     ensures is_learnt { (members : ℕ) (position : ℕ) (heard : List Heard) (value : Value)
         → IsHeard members position heard value → IsSome (learnt members position heard) }
     ensures stays { (members : ℕ) (position : ℕ) (newer : List Heard) (older : List Heard) (value : Value)
-        → learnt members position older ≡ Some value → learnt members position (newer ++ older) ≡ Some value }
+        → learnt members position older ≡ Some value
+        → learnt members position (newer ++ older) ≡ Some value }
     ensures prefix_learnt { (members : ℕ) (heard : List Heard) (position : ℕ)
         → 0 < position → position ≤ prefix members heard → IsSome (learnt members position heard) }
     ensures prefix_longest { (members : ℕ) (heard : List Heard)
@@ -55,10 +59,12 @@ pub fn learning()
 ///
 /// This holds whatever the windows cover and report, whatever is learnt, and whatever was proposed before.
 pub fn proposing()
-    ensures { (members : ℕ) (cover : ℕ → ℕ) (report : ℕ → Option Vote) (is_learnt : ℕ → Bool) (next : ℕ) (proposals : List Pair) → 0 < next
+    ensures { (members : ℕ) (cover : ℕ → ℕ) (report : ℕ → Option Vote) (is_learnt : ℕ → Bool)
+        (next : ℕ) (proposals : List Pair) → 0 < next
         → WentOn members cover report is_learnt
         (record { next = next; proposals = proposals; made = [] })
-        (turns members cover report is_learnt positions (record { next = next; proposals = proposals; made = [] })) }
+        (turns members cover report is_learnt positions
+        (record { next = next; proposals = proposals; made = [] })) }
 {}
 
 #[tactic(auto, unfolding(crate::specs::Values::positions))]
@@ -73,17 +79,41 @@ pub fn windows_of_nine_votes()
 /// Worked examples of learning with four members: two Accepted tell nothing, the third of the same ballot tells, and those of
 /// different ballots don't add up.
 pub fn majority_of_four()
-    ensures half { learnt 4 1 (AcceptedBy 2 1 (vote (ballot 1 1)) ∷ AcceptedBy 1 1 (vote (ballot 1 1)) ∷ []) ≡ None }
-    ensures repeated { learnt 4 1 (AcceptedBy 2 1 (vote (ballot 1 1)) ∷ AcceptedBy 2 1 (vote (ballot 1 1)) ∷ AcceptedBy 1 1 (vote (ballot 1 1)) ∷ []) ≡ None }
-    ensures three { learnt 4 1 (AcceptedBy 3 1 (vote (ballot 1 1)) ∷ AcceptedBy 2 1 (vote (ballot 1 1)) ∷ AcceptedBy 1 1 (vote (ballot 1 1)) ∷ []) ≡ Some (asked 1) }
-    ensures two_ballots { learnt 4 1 (AcceptedBy 3 1 (vote (ballot 2 2)) ∷ AcceptedBy 2 1 (vote (ballot 1 1)) ∷ AcceptedBy 1 1 (vote (ballot 1 1)) ∷ []) ≡ None }
+    ensures half { learnt 4 1 (accepted_from (ballot 1 1) (2 ∷ 1 ∷ [])) ≡ None }
+    ensures repeated { learnt 4 1 (accepted_from (ballot 1 1) (2 ∷ 2 ∷ 1 ∷ [])) ≡ None }
+    ensures three { learnt 4 1 (accepted_from (ballot 1 1) (3 ∷ 2 ∷ 1 ∷ [])) ≡ Some (Of request) }
+    ensures two_ballots { learnt 4 1 (accepted_from (ballot 2 2) (3 ∷ []) ++ accepted_from (ballot 1 1) (2 ∷ 1 ∷ []))
+        ≡ None }
+{}
+
+#[tactic(auto, unfolding(crate::specs::Values::positions))]
+/// Worked examples of reports: of two votes reported at a position the one of the higher ballot counts, whichever came first.
+pub fn highest_report()
+    ensures later { reported (ballot 3 3) 0 1
+        (reporting 2 (no_op (ballot 2 2)) ∷ reporting 1 (vote (ballot 1 1)) ∷ [])
+        ≡ Some (no_op (ballot 2 2)) }
+    ensures earlier { reported (ballot 3 3) 0 1
+        (reporting 1 (vote (ballot 1 1)) ∷ reporting 2 (no_op (ballot 2 2)) ∷ [])
+        ≡ Some (no_op (ballot 2 2)) }
 {}
 
 /// Worked examples of a stop inside a write: the Promise after the next start reports the vote if it was kept, and none if it
 /// was lost; no Accepted was sent in either.
 pub fn stop_inside_a_write()
-    ensures kept { at (after_stop true).sent 3 ≡ Some (record { sender = 2; target = 3; body = Promise (window (ballot 2 3) 1 (votes_to 1)) }) }
-    ensures lost { at (after_stop false).sent 3 ≡ Some (record { sender = 2; target = 3; body = Promise (window (ballot 2 3) 1 []) }) }
+    ensures kept { at (after_stop true).sent 3
+        ≡ Some (packet 2 (Promise (window (ballot 2 3) 1 (votes_to 1))) 3) }
+    ensures lost { at (after_stop false).sent 3
+        ≡ Some (packet 2 (Promise (window (ballot 2 3) 1 [])) 3) }
     ensures nothing_else_kept { length (after_stop true).sent ≡ 3 }
     ensures nothing_else_lost { length (after_stop false).sent ≡ 3 }
+{}
+
+/// A worked example of a run: of three members one begins, and all is delivered; a request is submitted to it, and all is
+/// delivered. That takes 19 messages, and each member is told the request at position 1 and has applied it.
+pub fn straight_run_of_three()
+    ensures messages { length straight.sent ≡ 19 }
+    ensures told { straight.told
+        ≡ told_to 1 (pair_of 1 (Of request)) ∷ told_to 2 (pair_of 1 (Of request)) ∷
+        told_to 3 (pair_of 1 (Of request)) ∷ [] }
+    ensures applied { applied_in straight ≡ Some 1 ∷ Some 1 ∷ Some 1 ∷ [] }
 {}
