@@ -1,5 +1,5 @@
 -- The two forms of text, each as the texts that are spelt so. They are special cases of XQuery Update Facility 1.0, section 2.4.1 (InsertExpr), and of XQuery 1.0, section 3.2 (PathExpr).
-use Rattle.std.specs.Prelude.{◌≡◌, ℕ, ◌-◌, Bool, true, false, ◌&&◌, ◌||◌, not, nat_eq, nat_le, ◌==◌, if◌then◌else◌, List, [], ◌∷◌, ◌++◌, length, take, drop, codes, Option, Some, None}
+use Rattle.std.specs.Prelude.{◌≡◌, ℕ, ◌-◌, Bool, true, ◌&&◌, not, nat_eq, ◌==◌, if◌then◌else◌, List, ◌++◌, length, take, drop, codes, Option, Some, None}
 use Rattle.std.specs.List.{after_first, before_first, ends_with, list_all, starts_with}
 use Rattle.std.specs.Option.{option_and_then}
 use Rattle.std.specs.Str.{chars}
