@@ -7,7 +7,7 @@ help:
 	@echo 'make test   proves everything from nothing and runs every test (the gate; last line "N passed, M failed")'
 	@echo 'make paxq   proves paxq and what it stands on, and leaves the program at bin/paxq'
 	@echo 'make bench  measures bin/paxq (figures for docs/BENCHMARKS.md)'
-	@echo 'make sweep  refuses each allocation of a run in turn, and looks at how the run ends'
+	@echo 'make sweep  refuses each allocation of runs in turn, and looks at how they end (needs a C compiler)'
 	@echo 'make clean  removes what builds made'
 
 demo:
