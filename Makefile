@@ -1,14 +1,15 @@
 # `make` alone lists the targets.
 
-.PHONY: help demo test paxq bench sweep clean
+.PHONY: help demo test paxq examples bench sweep clean
 
 help:
-	@echo 'make demo   builds paxq without waiting for its proof, and runs examples/first.pxq'
-	@echo 'make test   proves everything from nothing and runs every test (the gate; last line "N passed, M failed")'
-	@echo 'make paxq   proves paxq and what it stands on, and leaves the program at bin/paxq'
-	@echo 'make bench  measures bin/paxq (figures for docs/BENCHMARKS.md)'
-	@echo 'make sweep  refuses each allocation of runs in turn, and looks at how they end (needs a C compiler)'
-	@echo 'make clean  removes what builds made'
+	@echo 'make demo      builds paxq without waiting for its proof, and runs examples/first.pxq'
+	@echo 'make test      proves everything from nothing and runs every test (the gate; last line "N passed, M failed")'
+	@echo 'make paxq      proves paxq and what it stands on, and leaves the program at bin/paxq'
+	@echo 'make examples  runs bin/paxq on the examples and on input that it refuses'
+	@echo 'make bench     measures bin/paxq (figures for docs/BENCHMARKS.md)'
+	@echo 'make sweep     refuses each allocation of runs in turn, and looks at how they end (needs a C compiler)'
+	@echo 'make clean     removes what builds made'
 
 demo:
 	@echo 'This is the unproved build: the same code, not yet proved. `make paxq` builds the proved program.'
@@ -20,6 +21,9 @@ test:
 paxq:
 	cd crates/paxq && rt run -- run "$(CURDIR)/examples/first.pxq"
 	mkdir -p bin && cp crates/paxq/out/paxq bin/paxq
+
+examples: paxq
+	examples/check bin/paxq
 
 bench: paxq
 	bench/run bin/paxq
