@@ -3,9 +3,11 @@ use Rattle.std.proofs.Common.{◌≡◌, ℕ, Bool, true, false, cond, refl, ◌
 use Rattle.std.proofs.lemmas.Bool.{cases_eq, false≢true}
 use Rattle.std.proofs.lemmas.Option.{none-some, same_Some}
 use Rattle.paxos.specs.Lists.{Has}
-use Rattle.paxos.specs.Ballot.{Ballot, below}
-use Rattle.paxos.specs.Values.{Vote, Entry}
-use Rattle.paxos.specs.Messages.{Packet, packet, Promise, Accepted, up_to, to_all}
+use Rattle.ballots.specs.Ballot.{below}
+use Rattle.ballots.specs.declared.ballot.Ballot.{Ballot}
+use Rattle.ballots.specs.declared.value.Vote.{Vote}
+use Rattle.ballots.specs.declared.value.Entry.{Entry}
+use Rattle.ballots.specs.Messages.{Packet, packet, Promise, Accepted, up_to, to_all}
 use Rattle.paxos.specs.Records.{Record, vote_at, with_vote, window, Write, Nothing, NewPromise, NewVote, written, prepare_write, has_vote, accept_write}
 use Rattle.paxos.specs.Step.{Leader, Running, Effect, quiet, yields, yielding, on_prepare, on_accept}
 use Rattle.paxos.specs.World.{casts, World}

@@ -1,8 +1,13 @@
 -- Each answer to a message, and each tick, keeps the invariant.
 use Rattle.std.proofs.Common.{◌⊎◌, ◌++◌, inr, ◌≡◌, ℕ, suc, ◌-◌, Bool, true, false, cond, not, arith, refl, inl, subst, ◌∙◌, Option, Some, None, ⊎_elim, List, [], ◌∷◌, map, filter, take, length, ◌==◌, nat_lt}
 use Rattle.paxos.specs.Lists.{Has}
-use Rattle.paxos.specs.Values.{Value, Request, Pair, Kept, Application, positions}
-use Rattle.paxos.specs.Messages.{Question, Packet, packet, Body, Prepare, Promise, Accept, Accepted, Chosen, CatchUp, Submit, Reply, Ask, Answer, Behind, up_to}
+use Rattle.ballots.specs.Terms.{Request, Question}
+use Rattle.ballots.specs.Values.{positions}
+use Rattle.ballots.specs.declared.value.Value.{Value}
+use Rattle.ballots.specs.declared.value.Pair.{Pair}
+use Rattle.ballots.specs.declared.reply.Reply.{Reply as Kept}
+use Rattle.ballots.specs.Messages.{Packet, packet, Body, Prepare, Promise, Accept, Accepted, Chosen, CatchUp, Submit, Reply, Ask, Answer, Behind, up_to}
+use Rattle.paxos.specs.Application.{Application}
 use Rattle.paxos.specs.Records.{Record}
 use Rattle.paxos.specs.Knowledge.{learnt, pair_of, Heard, AcceptedBy, ChosenAre, news_of, news, newly, prefix, learnt_from}
 use Rattle.paxos.specs.Step.{Running, says, on_news, chosen_packet, on_catch_up, values_of, on_submit, on_ask, on_body, on_message, on_catch_up_tick}

@@ -4,9 +4,12 @@ use Rattle.std.specs.Prelude.{option_map}
 use Rattle.std.proofs.lemmas.Bool.{and_parts, leb-true}
 use Rattle.std.proofs.lemmas.Option.{none-some, same_Some}
 use Rattle.paxos.specs.Lists.{at, Has}
-use Rattle.paxos.specs.Ballot.{below}
-use Rattle.paxos.specs.Values.{Value, Vote, Entry, Pair}
-use Rattle.paxos.specs.Messages.{Packet, packet, Body}
+use Rattle.ballots.specs.Ballot.{below}
+use Rattle.ballots.specs.declared.value.Value.{Value}
+use Rattle.ballots.specs.declared.value.Vote.{Vote}
+use Rattle.ballots.specs.declared.value.Entry.{Entry}
+use Rattle.ballots.specs.declared.value.Pair.{Pair}
+use Rattle.ballots.specs.Messages.{Packet, packet, Body}
 use Rattle.paxos.specs.Records.{Record, vote_at, Nothing, writes, written}
 use Rattle.paxos.specs.Knowledge.{AcceptedBy, ChosenAre, news, learnt as learnt_at, pair_of, prefix}
 use Rattle.paxos.specs.Step.{Leader, Running, Effect, says, quiet}

@@ -3,9 +3,13 @@ use Rattle.std.proofs.Common.{◌≡◌, ℕ, ◌<◌, ◌≤◌, false, ◌⊎�
 use Rattle.std.proofs.lemmas.Bool.{cases_eq}
 use Rattle.std.proofs.lemmas.Option.{same_Some}
 use Rattle.paxos.specs.Lists.{at, put, Has}
-use Rattle.paxos.specs.Ballot.{Ballot, below, IsMajority}
-use Rattle.paxos.specs.Values.{Value, Vote, Entry, Pair}
-use Rattle.paxos.specs.Messages.{Packet, Body, Promise, Accept, Accepted, Chosen}
+use Rattle.ballots.specs.Ballot.{below, IsMajority}
+use Rattle.ballots.specs.declared.ballot.Ballot.{Ballot}
+use Rattle.ballots.specs.declared.value.Value.{Value}
+use Rattle.ballots.specs.declared.value.Vote.{Vote}
+use Rattle.ballots.specs.declared.value.Entry.{Entry}
+use Rattle.ballots.specs.declared.value.Pair.{Pair}
+use Rattle.ballots.specs.Messages.{Packet, Body, Promise, Accept, Accepted, Chosen}
 use Rattle.paxos.specs.Records.{Record, vote_at, written}
 use Rattle.paxos.specs.Knowledge.{learnt as learnt_at, pair_of, prefix, news}
 use Rattle.paxos.specs.Step.{Running, Leader, Effect}

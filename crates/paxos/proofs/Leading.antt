@@ -4,9 +4,15 @@ use Rattle.std.specs.Prelude.{flat_map}
 use Rattle.std.proofs.lemmas.Bool.{cases_Bool, both_ways, and_parts, false≢true, leb-true, le-leb}
 use Rattle.std.proofs.lemmas.Option.{none-some, same_Some}
 use Rattle.paxos.specs.Lists.{at, Has}
-use Rattle.paxos.specs.Ballot.{Ballot, below}
-use Rattle.paxos.specs.Values.{Request, Value, Of, Vote, Pair, positions}
-use Rattle.paxos.specs.Messages.{Window, Packet, packet, Body, Prepare, Accept, Elsewhere, up_to, to_all}
+use Rattle.ballots.specs.Terms.{Request}
+use Rattle.ballots.specs.Ballot.{below}
+use Rattle.ballots.specs.declared.ballot.Ballot.{Ballot}
+use Rattle.ballots.specs.Values.{positions}
+use Rattle.ballots.specs.declared.value.Value.{Value}
+use Rattle.ballots.specs.declared.value.Value.TheVariants.{Request as Of}
+use Rattle.ballots.specs.declared.value.Vote.{Vote}
+use Rattle.ballots.specs.declared.value.Pair.{Pair}
+use Rattle.ballots.specs.Messages.{Window, Packet, packet, Body, Prepare, Accept, Elsewhere, up_to, to_all}
 use Rattle.paxos.specs.Records.{Record}
 use Rattle.paxos.specs.Knowledge.{joins, news, prefix}
 use Rattle.paxos.specs.Proposing.{Turn, passes, proposes, has_open, is_covered, has_place, proposal, turn, has_free_place}

@@ -3,8 +3,11 @@ use Rattle.std.proofs.Common.{◌≡◌, ℕ, zero, suc, ◌+◌, ◌*◌, ◌<�
 use Rattle.std.proofs.lemmas.Bool.{and_parts, false≢true, lt-ltb}
 use Rattle.std.proofs.lemmas.Option.{none-some, cond_some}
 use Rattle.paxos.specs.Lists.{Has}
-use Rattle.paxos.specs.Ballot.{count, IsMajority, is_majority}
-use Rattle.paxos.specs.Values.{Value, Vote, Pair, same_vote, positions}
+use Rattle.ballots.specs.Ballot.{count, IsMajority, is_majority}
+use Rattle.ballots.specs.Values.{same_vote, positions}
+use Rattle.ballots.specs.declared.value.Value.{Value}
+use Rattle.ballots.specs.declared.value.Vote.{Vote}
+use Rattle.ballots.specs.declared.value.Pair.{Pair}
 use Rattle.paxos.specs.Knowledge.{Heard, AcceptedBy, ChosenAre, is_accepted_by, accepted_by, value_at, completed, first, learnt, IsHeard, ByMajority, AsChosen, last_of_run, prefix}
 use Rattle.paxos.proofs.Order.{same_vote_equal}
 use Rattle.paxos.proofs.News.{first_is}

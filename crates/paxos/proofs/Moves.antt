@@ -2,8 +2,9 @@
 use Rattle.std.proofs.Common.{◌≡◌, ℕ, true, false, refl, ◌⊎◌, sym, subst, ◌∙◌, Option, Some, None, ⊎_elim}
 use Rattle.std.proofs.lemmas.Bool.{both_ways, cases_eq}
 use Rattle.std.proofs.lemmas.Option.{same_Some}
-use Rattle.paxos.specs.Ballot.{Ballot, below}
-use Rattle.paxos.specs.Values.{Vote}
+use Rattle.ballots.specs.Ballot.{below}
+use Rattle.ballots.specs.declared.ballot.Ballot.{Ballot}
+use Rattle.ballots.specs.declared.value.Vote.{Vote}
 use Rattle.paxos.proofs.Order.{below_self, most_trans}
 use Rattle.paxos.proofs.Safe.{NotAbove, above_self, above_trans, Backed, Safe, Slot}
 

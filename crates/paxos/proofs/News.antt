@@ -4,9 +4,12 @@ use Rattle.std.specs.Prelude.{flat_map}
 use Rattle.std.proofs.lemmas.Bool.{and_parts, false≢true, cases_lt}
 use Rattle.std.proofs.lemmas.Option.{none-some, same_Some, cond_some}
 use Rattle.paxos.specs.Lists.{Has}
-use Rattle.paxos.specs.Ballot.{is_majority}
-use Rattle.paxos.specs.Values.{Value, Vote, Pair, positions}
-use Rattle.paxos.specs.Messages.{Packet, Body, Accepted, Chosen}
+use Rattle.ballots.specs.Ballot.{is_majority}
+use Rattle.ballots.specs.Values.{positions}
+use Rattle.ballots.specs.declared.value.Value.{Value}
+use Rattle.ballots.specs.declared.value.Vote.{Vote}
+use Rattle.ballots.specs.declared.value.Pair.{Pair}
+use Rattle.ballots.specs.Messages.{Packet, Body, Accepted, Chosen}
 use Rattle.paxos.specs.Knowledge.{Heard, AcceptedBy, ChosenAre, news_of, news, is_accepted_by, accepted_by, value_at, completed, first, learnt, pair_of, newly_at, newly, last_of_run, prefix, learnt_from}
 use Rattle.paxos.specs.World.{World}
 use Rattle.paxos.specs.Agreement.{HasVoted, IsChosen}

@@ -3,8 +3,13 @@ use Rattle.std.proofs.Common.{◌≡◌, ℕ, zero, suc, ◌<◌, ◌≤◌, tru
 use Rattle.std.proofs.lemmas.Grind.{common_steps}
 use Rattle.std.proofs.lemmas.Bool.{or_cases, and_parts, or_parts, and_cases, false≢true}
 use Rattle.std.specs.Cmp.Lexicographic.{same_text}
-use Rattle.paxos.specs.Ballot.{Ballot, below, same_ballot}
-use Rattle.paxos.specs.Values.{Request, Value, NoOp, Of, Vote, same_request, same_value, same_vote}
+use Rattle.ballots.specs.Terms.{Request, same_request}
+use Rattle.ballots.specs.Ballot.{below, same_ballot}
+use Rattle.ballots.specs.declared.ballot.Ballot.{Ballot}
+use Rattle.ballots.specs.Values.{same_value, same_vote}
+use Rattle.ballots.specs.declared.value.Value.{Value}
+use Rattle.ballots.specs.declared.value.Value.TheVariants.{NoOp, Request as Of}
+use Rattle.ballots.specs.declared.value.Vote.{Vote}
 
 -- the order as statements on numbers
 pub record Under (a b : Ballot) : Type 0 where

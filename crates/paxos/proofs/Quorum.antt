@@ -1,6 +1,6 @@
 -- Two majorities share a member.
 use Rattle.std.proofs.Common.{◌≡◌, ℕ, zero, suc, ◌+◌, ◌<◌, ◌≤◌, Bool, true, false, cond, arith, refl}
-use Rattle.paxos.specs.Ballot.{count, IsMajority}
+use Rattle.ballots.specs.Ballot.{count, IsMajority}
 
 -- a member that is in both sets
 pub record Shared (n : ℕ) (s t : ℕ → Bool) : Type 0 where

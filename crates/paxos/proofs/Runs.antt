@@ -2,9 +2,11 @@
 use Rattle.std.proofs.Common.{◌<◌, ◌≡◌, ℕ, zero, suc, ◌≤◌, Bool, true, false, cond, arith, refl, ◌⊎◌, inl, inr, sym, subst, ap, ◌∙◌, Option, Some, None, ⊎_elim, List, [], ◌∷◌, ◌++◌, length, ap₂, option_to_list}
 use Rattle.std.proofs.lemmas.Option.{none-some, same_Some}
 use Rattle.paxos.specs.Lists.{at, Has}
-use Rattle.paxos.specs.Ballot.{below}
-use Rattle.paxos.specs.Values.{Value, Vote, Application}
-use Rattle.paxos.specs.Messages.{Packet, packet, Body, Promise, Accept, Accepted, Chosen, Submit, Ask}
+use Rattle.ballots.specs.Ballot.{below}
+use Rattle.ballots.specs.declared.value.Value.{Value}
+use Rattle.ballots.specs.declared.value.Vote.{Vote}
+use Rattle.ballots.specs.Messages.{Packet, packet, Body, Promise, Accept, Accepted, Chosen, Submit, Ask}
+use Rattle.paxos.specs.Application.{Application}
 use Rattle.paxos.specs.Records.{Record, vote_at}
 use Rattle.paxos.specs.Knowledge.{news, learnt, prefix, values_to}
 use Rattle.paxos.specs.Step.{Running, Effect, quiet, on_message, may_begin, begins, on_begin}

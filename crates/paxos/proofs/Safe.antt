@@ -1,8 +1,9 @@
 -- What is safe at one position, of votes, proposals and reports, whatever messages carry them.
 use Rattle.std.proofs.Common.{◌≡◌, ℕ, Bool, true, false, refl, sym, subst, ◌∙◌, Option, Some, None, ⊎_elim}
 use Rattle.std.proofs.lemmas.Bool.{cases_Bool}
-use Rattle.paxos.specs.Ballot.{Ballot, below, IsMajority}
-use Rattle.paxos.specs.Values.{Vote}
+use Rattle.ballots.specs.Ballot.{below, IsMajority}
+use Rattle.ballots.specs.declared.ballot.Ballot.{Ballot}
+use Rattle.ballots.specs.declared.value.Vote.{Vote}
 use Rattle.paxos.proofs.Order.{below_self, most_trans, most_antisym, by_ballot}
 use Rattle.paxos.proofs.Quorum.{majorities_share}
 

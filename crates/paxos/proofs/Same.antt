@@ -1,8 +1,10 @@
 -- A leader that knows the same by other means proposes the same: what code that keeps tallies has to show.
 use Rattle.std.proofs.Common.{◌≡◌, ℕ, zero, suc, ◌+◌, ◌-◌, ◌*◌, ◌<◌, ◌≤◌, Bool, true, false, cond, arith, refl, ◌⊎◌, inl, inr, sym, subst, ap, ap₂, ◌∙◌, Option, Some, None, IsSome, ⊎_elim, length, ◌&&◌, ◌||◌, is_none, is_some, nat_lt, nat_le, ltb-true}
 use Rattle.std.proofs.lemmas.Bool.{cases_lt, lt-ltb}
-use Rattle.paxos.specs.Ballot.{count}
-use Rattle.paxos.specs.Values.{NoOp, Vote, positions}
+use Rattle.ballots.specs.Ballot.{count}
+use Rattle.ballots.specs.Values.{positions}
+use Rattle.ballots.specs.declared.value.Value.TheVariants.{NoOp}
+use Rattle.ballots.specs.declared.value.Vote.{Vote}
 use Rattle.paxos.specs.Proposing.{Turn, passes, proposes, has_place, lies_after, lies_above, proposal, turn, turns, has_free_place}
 use Rattle.paxos.proofs.Stopping.{turn_by, turn_next}
 

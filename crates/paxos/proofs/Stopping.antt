@@ -3,8 +3,12 @@ use Rattle.std.proofs.Common.{◌++◌, append_assoc, append-nil, length-append,
 use Rattle.std.proofs.lemmas.Bool.{and_parts, or_cases, false≢true, leb-true, leb-false, cases_lt}
 use Rattle.std.proofs.lemmas.Option.{none-some, same_Some}
 use Rattle.paxos.specs.Lists.{Has}
-use Rattle.paxos.specs.Ballot.{IsMajority}
-use Rattle.paxos.specs.Values.{Value, NoOp, Vote, Pair, positions}
+use Rattle.ballots.specs.Ballot.{IsMajority}
+use Rattle.ballots.specs.Values.{positions}
+use Rattle.ballots.specs.declared.value.Value.{Value}
+use Rattle.ballots.specs.declared.value.Value.TheVariants.{NoOp}
+use Rattle.ballots.specs.declared.value.Vote.{Vote}
+use Rattle.ballots.specs.declared.value.Pair.{Pair}
 use Rattle.paxos.specs.Proposing.{Turn, passes, proposes, is_covered, has_place, lies_after, lies_above, proposal, turn, turns, LiesAbove, IsProposed, HasStopped, Full, Spent, Uncovered, NothingAbove, WentOn}
 use Rattle.paxos.proofs.Lists.{has_left, has_right, has_cases}
 

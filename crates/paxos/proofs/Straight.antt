@@ -2,10 +2,16 @@
 use Rattle.std.proofs.Common.{is_none, is_some, arith, ◌≡◌, ℕ, zero, suc, ◌-◌, ◌<◌, ◌&&◌, nat_le, Bool, true, false, cond, refl, ap, ◌∙◌, List, [], ◌∷◌, ◌++◌, map, length, Option, Some, None}
 use Rattle.std.proofs.lemmas.Bool.{ne_eqb}
 use Rattle.paxos.specs.Lists.{at}
-use Rattle.paxos.specs.Ballot.{Ballot, last_round}
-use Rattle.paxos.specs.Values.{Value, NoOp, Of, Vote, Entry, Pair, positions}
+use Rattle.ballots.specs.Ballot.{last_round}
+use Rattle.ballots.specs.declared.ballot.Ballot.{Ballot}
+use Rattle.ballots.specs.Values.{positions}
+use Rattle.ballots.specs.declared.value.Value.{Value}
+use Rattle.ballots.specs.declared.value.Value.TheVariants.{NoOp, Request as Of}
+use Rattle.ballots.specs.declared.value.Vote.{Vote}
+use Rattle.ballots.specs.declared.value.Entry.{Entry}
+use Rattle.ballots.specs.declared.value.Pair.{Pair}
+use Rattle.ballots.specs.Messages.{Packet, packet, Prepare, Promise, Accept, Accepted, Submit, CatchUp as CatchUpBody, up_to}
 use Rattle.paxos.specs.Knowledge.{pair_of, Heard, AcceptedBy, ChosenAre, news, completed, first, learnt, Promised, windows, joins, cover, report_in, higher, reported}
-use Rattle.paxos.specs.Messages.{Packet, packet, Prepare, Promise, Accept, Accepted, Submit, CatchUp as CatchUpBody, up_to}
 use Rattle.paxos.specs.Records.{vote_at, window}
 use Rattle.paxos.specs.Proposing.{Turn, proposes, lies_above, turn, turns, has_place}
 use Rattle.paxos.specs.Step.{says, Leader, Running, leading, goes_on, turn_of, cover_heard, report_heard, is_learnt_heard}

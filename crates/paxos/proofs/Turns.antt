@@ -3,7 +3,10 @@ use Rattle.std.proofs.Common.{◌≡◌, ℕ, zero, suc, ◌<◌, ◌≤◌, Boo
 use Rattle.std.proofs.lemmas.Bool.{and_parts}
 use Rattle.std.proofs.lemmas.Option.{none-some, same_Some}
 use Rattle.paxos.specs.Lists.{Has}
-use Rattle.paxos.specs.Values.{Value, NoOp, Vote, Pair}
+use Rattle.ballots.specs.declared.value.Value.{Value}
+use Rattle.ballots.specs.declared.value.Value.TheVariants.{NoOp}
+use Rattle.ballots.specs.declared.value.Vote.{Vote}
+use Rattle.ballots.specs.declared.value.Pair.{Pair}
 use Rattle.paxos.specs.Proposing.{Turn, passes, proposes, is_covered, has_place, lies_above, proposal, turn, turns}
 use Rattle.paxos.proofs.Lists.{has_left, has_right, has_cases}
 

@@ -1,7 +1,8 @@
 -- Votes by rising position, and windows of them.
 use Rattle.std.proofs.Common.{◌≡◌, ℕ, zero, suc, ◌<◌, ◌≤◌, Bool, true, false, cond, arith, refl, sym, ap, ◌∙◌, Some, None, List, [], ◌∷◌, take, eqb-true, ltb-true, ltb-false, eqb, ltb}
 use Rattle.std.proofs.lemmas.Bool.{eqb-false, eq-eqb, ne_eqb}
-use Rattle.paxos.specs.Values.{Vote, Entry}
+use Rattle.ballots.specs.declared.value.Vote.{Vote}
+use Rattle.ballots.specs.declared.value.Entry.{Entry}
 use Rattle.paxos.specs.Records.{vote_at, with_vote, since, covered_by}
 
 -- positions by rising number

@@ -3,9 +3,10 @@ use Rattle.std.proofs.Common.{◌≡◌, ℕ, suc, ◌<◌, ◌≤◌, Bool, tru
 use Rattle.std.proofs.lemmas.Bool.{cases_lt, and_parts, leb-true, le-leb, eq-eqb}
 use Rattle.std.proofs.lemmas.Option.{none-some}
 use Rattle.paxos.specs.Lists.{Has}
-use Rattle.paxos.specs.Ballot.{Ballot, below}
-use Rattle.paxos.specs.Values.{Vote}
-use Rattle.paxos.specs.Messages.{Window, Packet, Body, Promise}
+use Rattle.ballots.specs.Ballot.{below}
+use Rattle.ballots.specs.declared.ballot.Ballot.{Ballot}
+use Rattle.ballots.specs.declared.value.Vote.{Vote}
+use Rattle.ballots.specs.Messages.{Window, Packet, Body, Promise}
 use Rattle.paxos.specs.Records.{vote_at}
 use Rattle.paxos.specs.Knowledge.{Promised, promised_of, windows, joins, cover, report_in, higher, reported}
 use Rattle.paxos.specs.Proposable.{HasPromised}

@@ -3,7 +3,7 @@ use Rattle.std.proofs.Common.{◌≡◌, ℕ, zero, suc, refl, sym, ap, ◌∙�
 use Rattle.std.proofs.lemmas.List.{map-append}
 use Rattle.std.proofs.lemmas.Option.{same_Some}
 use Rattle.paxos.specs.Lists.{at, put}
-use Rattle.paxos.specs.Values.{Application}
+use Rattle.paxos.specs.Application.{Application}
 use Rattle.paxos.specs.Records.{Record}
 use Rattle.paxos.specs.Step.{Running, Effect, quiet}
 use Rattle.paxos.specs.World.{World, Event, Choice, after, acts, takes, happens, Happening, run, Run}

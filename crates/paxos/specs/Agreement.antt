@@ -1,8 +1,10 @@
 -- What is chosen, and what agreement is. What is chosen rests on the recorded votes alone, whatever algorithm leads to them.
 use Rattle.std.specs.Prelude.{◌≡◌, ℕ, ◌<◌, ◌≤◌, Bool, true, length, Some}
 use Rattle.paxos.specs.Lists.{at, Has}
-use Rattle.paxos.specs.Ballot.{Ballot, IsMajority}
-use Rattle.paxos.specs.Values.{Value, Vote}
+use Rattle.ballots.specs.Ballot.{IsMajority}
+use Rattle.ballots.specs.declared.ballot.Ballot.{Ballot}
+use Rattle.ballots.specs.declared.value.Value.{Value}
+use Rattle.ballots.specs.declared.value.Vote.{Vote}
 use Rattle.paxos.specs.Knowledge.{learnt as learnt_at, news, values_to}
 use Rattle.paxos.specs.Step.{Running}
 use Rattle.paxos.specs.World.{Member, World, cast_by, told_to}

@@ -1,15 +1,21 @@
 -- The data of the worked examples.
 use Rattle.std.specs.Prelude.{ℕ, zero, suc, Bool, List, [], ◌∷◌, ◌++◌, map, replicate, None, option_map, Option}
-use Rattle.paxos.specs.Ballot.{Ballot}
-use Rattle.paxos.specs.Values.{Request, NoOp, Of, Vote, Entry, Application, Found, positions}
-use Rattle.paxos.specs.Messages.{Prepare, Accept}
+use Rattle.ballots.specs.Terms.{Request}
+use Rattle.ballots.specs.declared.ballot.Ballot.{Ballot}
+use Rattle.ballots.specs.Values.{positions}
+use Rattle.ballots.specs.declared.value.Value.TheVariants.{NoOp, Request as Of}
+use Rattle.ballots.specs.declared.value.Vote.{Vote}
+use Rattle.ballots.specs.declared.value.Entry.{Entry}
+use Rattle.ballots.specs.Replies.{text}
+use Rattle.ballots.specs.Messages.{Prepare, Accept}
+use Rattle.paxos.specs.Application.{Application}
 use Rattle.paxos.specs.Knowledge.{Heard, AcceptedBy, Promised}
 use Rattle.paxos.specs.Step.{Running}
 use Rattle.paxos.specs.World.{Member, World, fresh, start, Event, Deliver, Begin, Submits, StopInDeliver, Start, Happening, run}
 
 -- the application doesn't matter: nothing is known, and each answer is the empty text
 abbrev pub silent : Application
-silent = record { reply = λ values client number. None; answer = λ values level text. Found [] }
+silent = record { reply = λ values client number. None; answer = λ values level question. text [] }
 
 -- the ballot of that round and member
 abbrev pub ballot : (round : ℕ) → (member : ℕ) → Ballot

@@ -2,9 +2,13 @@
 use Rattle.std.specs.Prelude.{◌≡◌, ℕ, zero, suc, Bool, true, false, ◌&&◌, ◌==◌, nat_lt, nat_le, if◌then◌else◌, List, [], ◌∷◌, ◌++◌, map, flat_map, Option, Some, None, is_none, is_some, option_to_list}
 use Rattle.std.specs.List.{list_any}
 use Rattle.paxos.specs.Lists.{Has}
-use Rattle.paxos.specs.Ballot.{Ballot, below, same_ballot, IsMajority, is_majority}
-use Rattle.paxos.specs.Values.{Value, Vote, same_vote, Pair, positions}
-use Rattle.paxos.specs.Messages.{Body, Promise, Accepted, Chosen, Window, Packet}
+use Rattle.ballots.specs.Ballot.{below, same_ballot, IsMajority, is_majority}
+use Rattle.ballots.specs.declared.ballot.Ballot.{Ballot}
+use Rattle.ballots.specs.Values.{same_vote, positions}
+use Rattle.ballots.specs.declared.value.Value.{Value}
+use Rattle.ballots.specs.declared.value.Vote.{Vote}
+use Rattle.ballots.specs.declared.value.Pair.{Pair}
+use Rattle.ballots.specs.Messages.{Body, Promise, Accepted, Chosen, Window, Packet}
 use Rattle.paxos.specs.Records.{vote_at}
 
 -- Learning: sections 2.3 and 3 of "Paxos Made Simple".

@@ -1,7 +1,5 @@
 pub mod Lists
-pub mod Ballot
-pub mod Values
-pub mod Messages
+pub mod Application
 pub mod Records
 pub mod Knowledge
 pub mod Proposing

@@ -1,9 +1,11 @@
 -- Why a proposal may be issued: P2c of "Paxos Made Simple", section 2.2, at each position.
 use Rattle.std.specs.Prelude.{◌≡◌, ℕ, ◌≤◌, Bool, true, false, List, length, Option, Some, ◌⊎◌}
 use Rattle.paxos.specs.Lists.{Has}
-use Rattle.paxos.specs.Ballot.{Ballot, below, IsMajority}
-use Rattle.paxos.specs.Values.{Value, Vote}
-use Rattle.paxos.specs.Messages.{Window, Promise, Accept, Packet}
+use Rattle.ballots.specs.Ballot.{below, IsMajority}
+use Rattle.ballots.specs.declared.ballot.Ballot.{Ballot}
+use Rattle.ballots.specs.declared.value.Value.{Value}
+use Rattle.ballots.specs.declared.value.Vote.{Vote}
+use Rattle.ballots.specs.Messages.{Window, Promise, Accept, Packet}
 use Rattle.paxos.specs.Records.{vote_at}
 use Rattle.paxos.specs.World.{World}
 use Rattle.paxos.specs.Agreement.{HasVoted}

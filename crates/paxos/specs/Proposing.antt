@@ -3,8 +3,13 @@
 use Rattle.std.specs.Prelude.{◌≡◌, ◌<◌, ◌≤◌, ◌⊎◌, true, ℕ, zero, suc, ◌+◌, ◌-◌, Bool, false, not, ◌&&◌, ◌||◌, nat_lt, nat_le, if◌then◌else◌, List, [], ◌∷◌, ◌++◌, length, filter, Option, Some, None, is_none, is_some, IsSome}
 use Rattle.std.specs.List.{list_any}
 use Rattle.paxos.specs.Lists.{Has}
-use Rattle.paxos.specs.Ballot.{IsMajority, is_majority}
-use Rattle.paxos.specs.Values.{Request, Value, NoOp, is_numbered, Vote, Pair, positions}
+use Rattle.ballots.specs.Terms.{Request}
+use Rattle.ballots.specs.Ballot.{IsMajority, is_majority}
+use Rattle.ballots.specs.Values.{is_numbered, positions}
+use Rattle.ballots.specs.declared.value.Value.{Value}
+use Rattle.ballots.specs.declared.value.Value.TheVariants.{NoOp}
+use Rattle.ballots.specs.declared.value.Vote.{Vote}
+use Rattle.ballots.specs.declared.value.Pair.{Pair}
 
 -- the next position to propose at, the open proposals, and those made in this step, both by rising position
 pub record Turn : Type 0 where

@@ -1,8 +1,11 @@
 -- What an acceptor keeps over stops, and what it writes: sections 2.2 and 2.5 of "Paxos Made Simple".
 use Rattle.std.specs.Prelude.{ℕ, zero, suc, Bool, true, false, nat_lt, ◌==◌, if◌then◌else◌, List, [], ◌∷◌, take, Option, Some, None}
-use Rattle.paxos.specs.Ballot.{Ballot, below}
-use Rattle.paxos.specs.Values.{Vote, same_vote, Entry, positions}
-use Rattle.paxos.specs.Messages.{Window}
+use Rattle.ballots.specs.Ballot.{below}
+use Rattle.ballots.specs.declared.ballot.Ballot.{Ballot}
+use Rattle.ballots.specs.Values.{same_vote, positions}
+use Rattle.ballots.specs.declared.value.Vote.{Vote}
+use Rattle.ballots.specs.declared.value.Entry.{Entry}
+use Rattle.ballots.specs.Messages.{Window}
 
 -- the highest ballot promised, and the last vote at each position that has one, by rising position
 pub record Record : Type 0 where

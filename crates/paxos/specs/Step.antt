@@ -1,9 +1,17 @@
 -- What one member does with each message and each tick: what it writes, sends and tells, and how it runs on.
 -- The two phases are those of "Paxos Made Simple", sections 2.2 and 3; the rest is our own choice where nothing is cited.
 use Rattle.std.specs.Prelude.{ℕ, suc, ◌-◌, Bool, not, ◌&&◌, ◌==◌, nat_lt, if◌then◌else◌, List, [], ◌∷◌, ◌++◌, map, flat_map, filter, take, Option, Some, None, is_some}
-use Rattle.paxos.specs.Ballot.{Ballot, below, last_round}
-use Rattle.paxos.specs.Values.{Request, Value, Of, Vote, Pair, Kept, Application, positions}
-use Rattle.paxos.specs.Messages.{Window, Question, Body, Prepare, Promise, Accept, Accepted, Chosen, CatchUp, Submit, Reply, Ask, Answer, Behind, Elsewhere, Packet, packet, up_to, to_all}
+use Rattle.ballots.specs.Terms.{Request, Question}
+use Rattle.ballots.specs.Ballot.{below, last_round}
+use Rattle.ballots.specs.declared.ballot.Ballot.{Ballot}
+use Rattle.ballots.specs.Values.{positions}
+use Rattle.ballots.specs.declared.value.Value.{Value}
+use Rattle.ballots.specs.declared.value.Value.TheVariants.{Request as Of}
+use Rattle.ballots.specs.declared.value.Vote.{Vote}
+use Rattle.ballots.specs.declared.value.Pair.{Pair}
+use Rattle.ballots.specs.declared.reply.Reply.{Reply as Kept}
+use Rattle.ballots.specs.Messages.{Window, Body, Prepare, Promise, Accept, Accepted, Chosen, CatchUp, Submit, Reply, Ask, Answer, Behind, Elsewhere, Packet, packet, up_to, to_all}
+use Rattle.paxos.specs.Application.{Application}
 use Rattle.paxos.specs.Records.{Record, window, Write, Nothing, NewPromise, prepare_write, accept_write}
 use Rattle.paxos.specs.Knowledge.{Heard, AcceptedBy, ChosenAre, news, learnt, newly, prefix, learnt_from, values_to, windows, joins, cover, reported}
 use Rattle.paxos.specs.Proposing.{Turn, proposes, still_open, has_open, turns, has_free_place}

@@ -1,9 +1,12 @@
 -- All members, every message ever sent, every vote ever recorded and every value ever told; and what each event does to them.
 use Rattle.std.specs.Prelude.{◌≡◌, ℕ, ◌&&◌, Bool, false, nat_le, if◌then◌else◌, List, [], ◌∷◌, ◌++◌, map, length, replicate, Option, Some, None, option_map}
 use Rattle.paxos.specs.Lists.{at, put}
-use Rattle.paxos.specs.Ballot.{no_ballot}
-use Rattle.paxos.specs.Values.{Request, Entry, Pair, Application}
-use Rattle.paxos.specs.Messages.{Question, Body, Submit, Ask, Packet, packet}
+use Rattle.ballots.specs.Terms.{Request, Question}
+use Rattle.ballots.specs.Ballot.{no_ballot}
+use Rattle.ballots.specs.declared.value.Entry.{Entry}
+use Rattle.ballots.specs.declared.value.Pair.{Pair}
+use Rattle.ballots.specs.Messages.{Body, Submit, Ask, Packet, packet}
+use Rattle.paxos.specs.Application.{Application}
 use Rattle.paxos.specs.Records.{Record, Write, Nothing, NewPromise, NewVote, writes, written}
 use Rattle.paxos.specs.Knowledge.{prefix, news}
 use Rattle.paxos.specs.Step.{Running, Effect, quiet, on_message, may_begin, begins, on_begin, on_resend, on_catch_up_tick}

@@ -9,11 +9,16 @@ ghost use Rattle.paxos.specs.Lists.{at};
 ghost use Rattle.paxos.specs.Agreement.{Agreement};
 ghost use Rattle.paxos.specs.Examples.{accepted_from, ballot, request, vote, no_op, votes_to, reporting, after_stop, straight, applied_in};
 ghost use Rattle.paxos.specs.Knowledge.{Heard, AcceptedBy, learnt, pair_of, IsHeard, prefix, reported};
-ghost use Rattle.paxos.specs.Messages.{Promise, packet};
+ghost use Rattle.ballots.specs.Values.{positions};
+ghost use Rattle.ballots.specs.declared.value.Value.{Value};
+ghost use Rattle.ballots.specs.declared.value.Value.TheVariants.{Request as Of};
+ghost use Rattle.ballots.specs.declared.value.Vote.{Vote};
+ghost use Rattle.ballots.specs.declared.value.Pair.{Pair};
+ghost use Rattle.ballots.specs.Messages.{Promise, packet};
+ghost use Rattle.paxos.specs.Application.{Application};
 ghost use Rattle.paxos.specs.Proposable.{P2c};
 ghost use Rattle.paxos.specs.Proposing.{turns, WentOn};
 ghost use Rattle.paxos.specs.Records.{window};
-ghost use Rattle.paxos.specs.Values.{Application, Value, Of, Vote, Pair, positions};
 ghost use Rattle.paxos.specs.World.{World, told_to, start, Event, Happening, run, Run};
 
 /// No position has two chosen values; what a member has learnt it was told, and what it was told is chosen; and members that
@@ -67,7 +72,7 @@ pub fn proposing()
         (record { next = next; proposals = proposals; made = [] })) }
 {}
 
-#[tactic(auto, unfolding(crate::specs::Values::positions))]
+#[tactic(auto, unfolding(ballots::specs::Values::positions))]
 /// Worked examples of windows: votes at 1 to 9, asked for from position 1 and from position 9.
 pub fn windows_of_nine_votes()
     ensures first_eight { (window (ballot 2 2) 1 (votes_to 9)).entries ≡ votes_to 8 }
@@ -86,7 +91,7 @@ pub fn majority_of_four()
         ≡ None }
 {}
 
-#[tactic(auto, unfolding(crate::specs::Values::positions))]
+#[tactic(auto, unfolding(ballots::specs::Values::positions))]
 /// Worked examples of reports: of two votes reported at a position the one of the higher ballot counts, whichever came first.
 pub fn highest_report()
     ensures later { reported (ballot 3 3) 0 1

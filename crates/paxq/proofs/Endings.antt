@@ -2,7 +2,7 @@
 use Rattle.std.proofs.Common.{◌≡◌, ℕ, Bool, true, false, List, [], ◌∷◌, ◌++◌, cond, codes, Option, refl, ap, sym, subst, inl, inr, ◌⊎◌}
 use Rattle.std.specs.Fmt.{decimal}
 use Rattle.std.specs.Io.KnownBytes.{Appends}
-use Rattle.sessions.specs.declared.request.Value.{Value}
+use Rattle.ballots.specs.declared.value.Value.{Value}
 use Rattle.paxq_files.specs.Script.{Command, ScriptRead, script_of, wrong}
 use Rattle.paxq.specs.Play.{Run, turn_of, after, commands_run, read_run, text_run, unreadable_run, line_feed, IsPlayed, IsCut, Ran}
 use Rattle.paxq.proofs.Plays.{Appends-none}

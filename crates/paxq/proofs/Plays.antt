@@ -1,7 +1,7 @@
 -- A run, command by command.
 use Rattle.std.proofs.Common.{◌≡◌, ℕ, Bool, true, false, List, [], ◌∷◌, ◌++◌, Option, Some, None, refl, ap, sym, ◌∙◌, subst, append_assoc, append-nil}
 use Rattle.std.specs.Io.KnownBytes.{Appends}
-use Rattle.sessions.specs.declared.request.Value.{Value}
+use Rattle.ballots.specs.declared.value.Value.{Value}
 use Rattle.sessions.specs.Session.{SessionTerm, Means}
 use Rattle.paxq_files.specs.Script.{Command}
 use Rattle.paxq.specs.Play.{Turn, Run, turn_of, after, commands_run, IsTurn, IsPlayed, IsCut}

@@ -5,17 +5,18 @@ use Rattle.std.specs.List.{slice_split, flat_map}
 use Rattle.std.specs.Fmt.{decimal}
 use Rattle.std.specs.Io.KnownBytes.{Appends}
 use Rattle.std.specs.Str.{IsUtf8}
-use Rattle.sessions.specs.declared.request.Reply.{Reply}
-use Rattle.sessions.specs.declared.request.Reply.TheVariants.{Done, Fault}
-use Rattle.sessions.specs.declared.request.Value.{Value}
-use Rattle.sessions.specs.declared.request.Value.TheVariants.{Request}
-use Rattle.sessions.specs.Codes.{code_name}
-use Rattle.sessions.specs.RequestTerm.{RequestTerm}
+use Rattle.ballots.specs.declared.reply.Reply.{Reply}
+use Rattle.ballots.specs.declared.reply.Reply.TheVariants.{Done, Fault}
+use Rattle.ballots.specs.declared.value.Value.{Value}
+use Rattle.ballots.specs.declared.value.Value.TheVariants.{Request}
+use Rattle.values.specs.Codes.{code_name}
+use Rattle.ballots.specs.Terms.{Request as RequestTerm}
 use Rattle.sessions.specs.Terms.{id_of}
 use Rattle.sessions.specs.Run.{run}
 use Rattle.sessions.specs.Meaning.{store_of, kept_reply, reply_for}
 use Rattle.sessions.specs.Session.{SessionTerm, Means}
-use Rattle.sessions.specs.Answers.{Answered, text, fault, answer}
+use Rattle.ballots.specs.Replies.{Answered, text, fault}
+use Rattle.sessions.specs.Answers.{answer}
 use Rattle.paxq.specs.declared.run.Stop.{Stop}
 use Rattle.paxq.specs.declared.run.Stop.TheVariants.{Memory, Output}
 use Rattle.paxq_files.specs.Script.{Command, submit, ask, ScriptRead, script, wrong, script_of}

@@ -2,11 +2,12 @@
 
 ghost use Rattle.std.specs.Prelude.{◌≡◌, ◌++◌, IfOk, OnOk, codes, string_bytes};
 ghost use Rattle.std.specs.Fmt.{decimal};
-ghost use Rattle.sessions.specs.Answers.{answered, fault};
+ghost use Rattle.ballots.specs.Replies.{answered, fault};
 ghost use Rattle.paxq.specs.Play.{reply_text, answer_text, indented};
 
-use sessions::{Answer, Code, Reply};
+use ballots::{Answer, Reply};
 use std::alloc::{AllocError, Global};
+use values::Code;
 
 /// `done P` or `fault CODE P`, with its line feed.
 pub fn reply_text(alloc: Global, reply: Reply) -> Result<String, AllocError>

@@ -4,16 +4,17 @@ ghost use Rattle.std.specs.Prelude.{◌≡◌, ◌⊎◌, ℕ, List, [], ◌∷�
 ghost use Rattle.std.specs.Str.{IsUtf8};
 ghost use Rattle.std.specs.Fmt.{decimal};
 ghost use Rattle.std.specs.Io.KnownBytes.{Appends, Keeps};
-ghost use Rattle.sessions.specs.declared.request.Value.{Value as ValueTerm};
-ghost use Rattle.sessions.specs.RequestTerm.{RequestTerm};
+ghost use Rattle.ballots.specs.declared.value.Value.{Value as ValueTerm};
+ghost use Rattle.ballots.specs.Terms.{Request as RequestTerm};
 ghost use Rattle.sessions.specs.Session.{Means};
 ghost use Rattle.paxq_files.specs.Commands.{command_term, IsFormed};
 ghost use Rattle.paxq_files.specs.Script.{submit, ask};
 ghost use Rattle.paxq.specs.Play.{turn_of, commands_run, text_run, unreadable_run, Ran, Wrote, line_feed, IsTurn, IsPlayed, IsCut, IfMemory, FileRan, BytesRan};
 
 use super::print::{answer_text, reply_text};
+use ballots::{Request, Value};
 use paxq_files::{Command, Script, ScriptFault, read_script};
-use sessions::{NoMemory, Request, State, Value};
+use sessions::{NoMemory, State};
 use std::alloc::{AllocError, Global};
 use std::io;
 use std::io::{Read, Write};

@@ -5,7 +5,7 @@ use Rattle.std.specs.List.{list_all, slice_split, before_first, after_first, enu
 use Rattle.trees.specs.Characters.{is_digit}
 use Rattle.trees.specs.Names.{are_document_names}
 use Rattle.query_forms.specs.Forms.{insertion_of, path_of, text_after, ◌>>=◌}
-use Rattle.sessions.specs.RequestTerm.{RequestTerm}
+use Rattle.ballots.specs.Terms.{Request as RequestTerm}
 
 -- what a line asks for
 pub data Command : Type 0 where

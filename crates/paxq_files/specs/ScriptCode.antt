@@ -2,7 +2,7 @@
 use Rattle.std.specs.Prelude.{◌≡◌, ◌⊎◌, ℕ, List, refl}
 use Rattle.std.proofs.Common.{inl, inr}
 use Rattle.std.specs.Coded.{Coded, code_by, coded×, coded⊎, coded_ℕ, coded_list}
-use Rattle.sessions.specs.RequestTerm.{RequestTerm, request_code}
+use Rattle.ballots.specs.Terms.{Request as RequestTerm, request_code}
 use Rattle.paxq_files.specs.Script.{Command, submit, ask, ScriptTerm}
 
 -- a command as one of two

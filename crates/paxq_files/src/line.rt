@@ -10,8 +10,8 @@ ghost use Rattle.paxq_files.specs.Script.{ask_of, command_of, has_text_length, n
 
 use crate::lines::cut_at;
 use crate::script::Command;
+use ballots::{MAX_TEXT, Request, RequestFault};
 use query_forms::{read_insertion, read_path};
-use sessions::{MAX_TEXT, Request, RequestFault};
 use std::alloc::{AllocError, Global};
 
 // The language level of every command of a script.

@@ -9,7 +9,7 @@ ghost use Rattle.paxq_files.specs.Script.{after_docs, commands_from, is_space, s
 
 use crate::line::{read_command, text_after};
 use crate::lines::{Line, first_line};
-use sessions::Request;
+use ballots::Request;
 use std::alloc::{AllocError, Global};
 use std::collections::VecDeque;
 use std::marker::Model;

@@ -5,9 +5,10 @@ use Rattle.std.specs.List.{join_with_byte}
 use Rattle.query_forms.specs.Forms.{ChildPath, path_of}
 use Rattle.trees.specs.Trees.{Trees}
 use Rattle.trees.specs.Forest.{ForestTerm}
-use Rattle.sessions.specs.declared.request.Code.TheVariants.{PXQ0002, PXQ0005}
+use Rattle.values.specs.declared.code.Code.TheVariants.{PXQ0002, PXQ0005}
 use Rattle.sessions.specs.Run.{document_of}
-use Rattle.sessions.specs.Answers.{text, fault, item_text, item_texts, printed, path_answer, text_answer, answer}
+use Rattle.ballots.specs.Replies.{text, fault}
+use Rattle.sessions.specs.Answers.{item_text, item_texts, printed, path_answer, text_answer, answer}
 use Rattle.sessions.proofs.Children.{items-replicate}
 
 -- a text that is a path is answered as one

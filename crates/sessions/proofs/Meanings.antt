@@ -4,11 +4,11 @@ use Rattle.std.specs.List.{list_any}
 use Rattle.std.specs.Map.{lookup}
 use Rattle.std.proofs.lemmas.Bool.{eqb-true}
 use Rattle.trees.specs.Forest.{ForestTerm, opening_forest}
-use Rattle.sessions.specs.declared.request.Value.{Value}
-use Rattle.sessions.specs.declared.request.Value.TheVariants.{NoOp, Request}
-use Rattle.sessions.specs.declared.request.RequestId.{RequestId}
-use Rattle.sessions.specs.declared.request.Reply.{Reply}
-use Rattle.sessions.specs.RequestTerm.{RequestTerm}
+use Rattle.ballots.specs.declared.value.Value.{Value}
+use Rattle.ballots.specs.declared.value.Value.TheVariants.{NoOp, Request}
+use Rattle.ballots.specs.declared.request.RequestId.{RequestId}
+use Rattle.ballots.specs.declared.reply.Reply.{Reply}
+use Rattle.ballots.specs.Terms.{Request as RequestTerm}
 use Rattle.sessions.specs.Terms.{id_of, is_same, is_of}
 use Rattle.sessions.specs.Run.{run}
 use Rattle.sessions.specs.Meaning.{new_texts, once_after, once, all_run, store_of, reply_for, text_of_value, reply_after, kept_reply}

@@ -6,7 +6,7 @@ use Rattle.trees.specs.Trees.{Trees, Content, Place, size, count, find, children
 use Rattle.trees.specs.Forest.{ForestTerm, IsForest, IsDocument}
 use Rattle.trees.specs.declared.node.Part.TheVariants.{Children}
 use Rattle.trees.proofs.Makes.{size-make-below}
-use Rattle.sessions.specs.declared.request.Code.TheVariants.{PXQ0003}
+use Rattle.values.specs.declared.code.Code.TheVariants.{PXQ0003}
 use Rattle.sessions.specs.Run.{Ran, done, fault, document_of, element, inserted, is_too_large, judged, insertion_ran, text_ran, run}
 use Rattle.sessions.proofs.Insertions.{count-found, children-inserted}
 

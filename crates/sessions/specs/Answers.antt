@@ -1,5 +1,5 @@
 -- What a question gives from a store (XQuery 1.0, section 3.2), for the one form of text that is asked.
-use Rattle.std.specs.Prelude.{ℕ, Bool, true, false, ◌&&◌, nat_lt, cond, List, [], ◌∷◌, ◌++◌, length, Option, Some, None, codes, string_bytes}
+use Rattle.std.specs.Prelude.{ℕ, Bool, true, false, ◌&&◌, nat_lt, cond, List, [], ◌∷◌, ◌++◌, length, Option, Some, None, codes}
 use Rattle.std.specs.List.{join_with_byte}
 use Rattle.std.specs.Str.{bytes_eq}
 use Rattle.query_forms.specs.Forms.{ChildPath, path_of}
@@ -7,16 +7,9 @@ use Rattle.trees.specs.Trees.{Trees, no_trees, tree, Place, find}
 use Rattle.trees.specs.Forest.{ForestTerm}
 use Rattle.trees.specs.declared.node.Kind.{Kind}
 use Rattle.trees.specs.declared.node.Kind.TheVariants.{Element}
-use Rattle.sessions.specs.declared.request.Code.{Code}
-use Rattle.sessions.specs.declared.request.Code.TheVariants.{FODC0002, PXQ0002, PXQ0005}
-use Rattle.sessions.specs.declared.request.Answer.{Answer}
-use Rattle.sessions.specs.declared.request.Answer.TheVariants.{Text, Fault}
+use Rattle.values.specs.declared.code.Code.TheVariants.{FODC0002, PXQ0002, PXQ0005}
+use Rattle.ballots.specs.Replies.{Answered, text, fault}
 use Rattle.sessions.specs.Run.{document_of}
-
--- an answer is a text or a fault
-pub data Answered : Type 0 where
-  text : List ℕ → Answered
-  fault : Code → Answered
 
 abbrev pub is_element : Kind → Bool
 is_element Element = true
@@ -35,11 +28,6 @@ item_text name = codes "element " ++ name ++ codes " {}"
 abbrev pub item_texts : List ℕ → Trees → List (List ℕ)
 item_texts name no_trees = []
 item_texts name (tree c bs cs rest) = cond (is_element c.kind && bytes_eq name c.name) (item_text name ∷ item_texts name rest) (item_texts name rest)
-
--- what an answer of the code says
-abbrev pub answered : Answer → Answered
-answered (Text t) = text (string_bytes t)
-answered (Fault code) = fault code
 
 -- the items' texts joined by line feeds: at most 10,000 items, and at most 32,768 bytes
 abbrev pub printed : List (List ℕ) → Answered

@@ -1,8 +1,8 @@
 -- The data of the worked examples.
 use Rattle.std.specs.Prelude.{ℕ, List, [], ◌∷◌, codes}
 use Rattle.query_forms.specs.Forms.{insertion_text, path_text}
-use Rattle.sessions.specs.declared.request.Value.{Value}
-use Rattle.sessions.specs.declared.request.Value.TheVariants.{NoOp, Request}
+use Rattle.ballots.specs.declared.value.Value.{Value}
+use Rattle.ballots.specs.declared.value.Value.TheVariants.{NoOp, Request}
 
 -- the document `db` alone
 abbrev pub names : List (List ℕ)

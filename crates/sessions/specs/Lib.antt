@@ -1,5 +1,3 @@
-pub mod Codes
-pub mod RequestTerm
 pub mod Terms
 pub mod Run
 pub mod Meaning

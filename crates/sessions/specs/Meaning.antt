@@ -2,11 +2,11 @@
 use Rattle.std.specs.Prelude.{ℕ, ◌+◌, cond, List, [], ◌∷◌, ◌++◌, length, Option, Some, None}
 use Rattle.std.specs.List.{list_any}
 use Rattle.trees.specs.Forest.{ForestTerm, opening_forest}
-use Rattle.sessions.specs.declared.request.Value.{Value}
-use Rattle.sessions.specs.declared.request.Value.TheVariants.{NoOp, Request}
-use Rattle.sessions.specs.declared.request.RequestId.{RequestId}
-use Rattle.sessions.specs.declared.request.Reply.{Reply}
-use Rattle.sessions.specs.declared.request.Reply.TheVariants.{Done, Fault}
+use Rattle.ballots.specs.declared.value.Value.{Value}
+use Rattle.ballots.specs.declared.value.Value.TheVariants.{NoOp, Request}
+use Rattle.ballots.specs.declared.request.RequestId.{RequestId}
+use Rattle.ballots.specs.declared.reply.Reply.{Reply}
+use Rattle.ballots.specs.declared.reply.Reply.TheVariants.{Done, Fault}
 use Rattle.sessions.specs.Terms.{id_of, is_of}
 use Rattle.sessions.specs.Run.{Outcome, done, fault, run}
 

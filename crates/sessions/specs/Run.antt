@@ -9,8 +9,8 @@ use Rattle.trees.specs.Forest.{ForestTerm}
 use Rattle.trees.specs.declared.node.Kind.TheVariants.{Element}
 use Rattle.sessions.specs.declared.execute.Ending.{Ending}
 use Rattle.sessions.specs.declared.execute.Ending.TheVariants.{Done, Fault}
-use Rattle.sessions.specs.declared.request.Code.{Code}
-use Rattle.sessions.specs.declared.request.Code.TheVariants.{FODC0002, PXQ0003}
+use Rattle.values.specs.declared.code.Code.{Code}
+use Rattle.values.specs.declared.code.Code.TheVariants.{FODC0002, PXQ0003}
 
 -- how a request ends
 pub data Outcome : Type 0 where

@@ -3,15 +3,15 @@ use Rattle.std.specs.Prelude.{◌≡◌, ℕ, ◌+◌, List, [], ◌∷◌, ◌+
 use Rattle.std.specs.Coded.{Coded, code_by, coded×, coded_ℕ, coded_list}
 use Rattle.std.specs.Map.{lookup}
 use Rattle.trees.specs.Forest.{ForestTerm, forest_code}
-use Rattle.sessions.specs.declared.request.RequestId.{RequestId}
-use Rattle.sessions.specs.declared.request.Reply.{Reply}
-use Rattle.sessions.specs.declared.request.Reply.TheVariants.{Done}
-use Rattle.sessions.specs.declared.request.Value.{Value}
-use Rattle.sessions.specs.declared.request.Value.TheVariants.{NoOp, Request}
-use Rattle.sessions.specs.contracts.request.RequestId as id
-use Rattle.sessions.specs.contracts.request.Reply as reply
+use Rattle.ballots.specs.declared.request.RequestId.{RequestId}
+use Rattle.ballots.specs.declared.reply.Reply.{Reply}
+use Rattle.ballots.specs.declared.reply.Reply.TheVariants.{Done}
+use Rattle.ballots.specs.declared.value.Value.{Value}
+use Rattle.ballots.specs.declared.value.Value.TheVariants.{NoOp, Request}
+use Rattle.ballots.specs.contracts.request.RequestId as id
+use Rattle.ballots.specs.contracts.reply.Reply as reply
 use Rattle.sessions.specs.Terms.{id_of, is_same}
-use Rattle.sessions.specs.RequestTerm.{RequestTerm}
+use Rattle.ballots.specs.Terms.{Request as RequestTerm}
 use Rattle.sessions.specs.Run.{run}
 use Rattle.sessions.specs.Meaning.{store_of, kept_reply, reply_for}
 

@@ -1,10 +1,10 @@
 -- Values as contracts see them.
 use Rattle.std.specs.Prelude.{Bool, false, ◌&&◌, ◌==◌, IsSome}
 use Rattle.query_forms.specs.Forms.{insertion_of}
-use Rattle.sessions.specs.RequestTerm.{RequestTerm}
-use Rattle.sessions.specs.declared.request.Value.{Value}
-use Rattle.sessions.specs.declared.request.Value.TheVariants.{NoOp, Request}
-use Rattle.sessions.specs.declared.request.RequestId.{RequestId}
+use Rattle.ballots.specs.Terms.{Request as RequestTerm}
+use Rattle.ballots.specs.declared.value.Value.{Value}
+use Rattle.ballots.specs.declared.value.Value.TheVariants.{NoOp, Request}
+use Rattle.ballots.specs.declared.request.RequestId.{RequestId}
 
 -- the client and the number of a request
 abbrev pub id_of : RequestTerm → RequestId

@@ -6,12 +6,14 @@ ghost use Rattle.std.specs.List.{join_with_byte};
 ghost use Rattle.query_forms.specs.Forms.{path_of};
 ghost use Rattle.trees.specs.Trees.{count, find, IsAt};
 ghost use Rattle.sessions.specs.Run.{document_of};
-ghost use Rattle.sessions.specs.Answers.{item_text, item_texts, trees_at, is_element, path_answer, answered, answer};
+ghost use Rattle.ballots.specs.Replies.{answered};
+ghost use Rattle.sessions.specs.Answers.{item_text, item_texts, trees_at, is_element, path_answer, answer};
 
-use super::request::{Answer, Code};
+use ballots::Answer;
 use query_forms::read_path;
 use std::alloc::{AllocError, Global};
 use trees::{Forest, Kind, NodeId};
+use values::Code;
 
 /// The items that an answer has at most.
 const MAX_ITEMS: usize = 10_000;

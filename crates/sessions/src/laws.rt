@@ -3,17 +3,18 @@
 ghost use Rattle.std.specs.Prelude.{codes, ◌≡◌, ℕ, ◌+◌, List, [], ◌∷◌, ◌++◌, length, Some, None, true, false};
 ghost use Rattle.std.specs.List.{list_any};
 ghost use Rattle.trees.specs.Forest.{opening_forest};
-ghost use Rattle.sessions.specs.declared.request.Value.{Value};
-ghost use Rattle.sessions.specs.declared.request.Value.TheVariants.{NoOp, Request};
-ghost use Rattle.sessions.specs.declared.request.RequestId.{RequestId};
-ghost use Rattle.sessions.specs.RequestTerm.{RequestTerm};
+ghost use Rattle.ballots.specs.declared.value.Value.{Value};
+ghost use Rattle.ballots.specs.declared.value.Value.TheVariants.{NoOp, Request};
+ghost use Rattle.ballots.specs.declared.request.RequestId.{RequestId};
+ghost use Rattle.ballots.specs.Terms.{Request as RequestTerm};
 ghost use Rattle.sessions.specs.Terms.{id_of, is_of};
 ghost use Rattle.trees.specs.Forest.{document_node};
 ghost use Rattle.trees.specs.Trees.{tree, no_trees, leaf};
-ghost use Rattle.sessions.specs.declared.request.Code.TheVariants.{FODC0002};
-ghost use Rattle.sessions.specs.declared.request.Reply.TheVariants.{Done, Fault};
+ghost use Rattle.values.specs.declared.code.Code.TheVariants.{FODC0002};
+ghost use Rattle.ballots.specs.declared.reply.Reply.TheVariants.{Done, Fault};
 ghost use Rattle.sessions.specs.Run.{run, element};
-ghost use Rattle.sessions.specs.Answers.{answer, text};
+ghost use Rattle.ballots.specs.Replies.{text};
+ghost use Rattle.sessions.specs.Answers.{answer};
 ghost use Rattle.sessions.specs.Examples.{names, values, asks};
 ghost use Rattle.sessions.specs.Meaning.{store_of, kept_reply, reply_for, text_of_value};
 

@@ -7,10 +7,8 @@
 mod answer;
 mod execute;
 pub mod laws;
-mod request;
 mod state;
 #[cfg(test)]
 mod tests;
 
-pub use request::{Answer, Code, MAX_TEXT, Reply, Request, RequestFault, RequestId, Value};
 pub use state::{NoMemory, State};

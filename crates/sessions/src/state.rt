@@ -2,17 +2,18 @@
 
 ghost use Rattle.std.specs.Prelude.{◌≡◌, ℕ, ◌<◌, IfOk, OnOk, OnErr, IsSome, Some, None, List, [], ◌∷◌, ◌++◌};
 ghost use Rattle.query_forms.specs.Forms.{insertion_of, path_of};
-ghost use Rattle.sessions.specs.declared.request.Value.{Value as ValueTerm};
+ghost use Rattle.ballots.specs.declared.value.Value.{Value as ValueTerm};
 ghost use Rattle.sessions.specs.Terms.{HasForm, id_of};
 ghost use Rattle.sessions.specs.Session.{Means, IsReplyTo, reply_in, after_repeat, after_new, reply_to_new};
-ghost use Rattle.sessions.specs.Answers.{answer, answered};
+ghost use Rattle.ballots.specs.Replies.{answered};
+ghost use Rattle.sessions.specs.Answers.{answer};
 ghost use Rattle.sessions.specs.Meaning.{kept_reply, store_of, reply_for};
 ghost use Rattle.sessions.specs.Run.{outcome_of};
-ghost use Rattle.sessions.specs.declared.request.Reply.{Reply as ReplyTerm};
+ghost use Rattle.ballots.specs.declared.reply.Reply.{Reply as ReplyTerm};
 
 use super::answer::answer_text;
 use super::execute::{Ending, execute};
-use super::request::{Answer, Reply, Request, RequestId, Value};
+use ballots::{Answer, Reply, Request, RequestId, Value};
 use indexmap::IndexMap;
 use std::alloc::Global;
 use std::marker::Model;

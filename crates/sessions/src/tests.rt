@@ -5,12 +5,14 @@
 ghost use Rattle.std.specs.Prelude.{◌≡◌, IfOk};
 ghost use Rattle.sessions.specs.Terms.{HasForm};
 
-use crate::{Answer, Code, Reply, Request, RequestFault, State, Value};
+use crate::State;
+use ballots::{Answer, Reply, Request, RequestFault, Value};
 use query_forms::{read_insertion, read_path};
 use std::alloc::{AllocError, Global};
 use std::process::Abort;
 use std::test::Fail;
 use trees::Names;
+use values::Code;
 
 const INSERT_A: &str = "insert node element a {} into doc(\"db\")";
 

@@ -1,5 +1,5 @@
 use Rattle.std.proofs.Common.{◌≡◌, Option, Some, IsSome, refl}
-use Rattle.paxos.specs.Values.{Value}
+use Rattle.ballots.specs.declared.value.Value.{Value}
 use Rattle.paxos.proofs.Learnt.{learnt_heard, heard_learnt, prefix_ends}
 use Rattle.paxos.proofs.News.{learnt_stays, prefix_learnt}
 use Rattle.paxos.proofs.learning.Goals as goal

@@ -1,5 +1,5 @@
 use Rattle.std.proofs.Common.{ℕ, List, length}
-use Rattle.sessions.specs.declared.request.Value.{Value}
+use Rattle.ballots.specs.declared.value.Value.{Value}
 use Rattle.sessions.specs.Session.{Means}
 use Rattle.paxq.proofs.Plays.{Going}
 use Rattle.paxq.proofs.run.play.Given as goal

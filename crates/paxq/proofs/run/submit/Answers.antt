@@ -1,5 +1,5 @@
 use Rattle.std.proofs.Common.{◌≡◌, ◌<◌, ◌++◌, ◌∷◌, [], None, sym, ap, ◌∙◌, arith}
-use Rattle.sessions.specs.declared.request.Value.TheVariants.{Request}
+use Rattle.ballots.specs.declared.value.Value.TheVariants.{Request}
 use Rattle.sessions.specs.Terms.{id_of}
 use Rattle.sessions.specs.Session.{reply_in}
 use Rattle.paxq.specs.Play.{reply_text}

@@ -1,7 +1,8 @@
 use Rattle.std.proofs.Common.{◌≡◌, ◌≤◌, ap, sym, ◌∙◌, arith, Some}
 use Rattle.trees.specs.Trees.{find}
 use Rattle.sessions.specs.Run.{document_of}
-use Rattle.sessions.specs.Answers.{text, trees_at}
+use Rattle.ballots.specs.Replies.{text}
+use Rattle.sessions.specs.Answers.{trees_at}
 use Rattle.sessions.proofs.Asked.{printed-long, printed-text}
 use Rattle.sessions.proofs.answer.answer_path.Goals as goal
 

@@ -2,7 +2,7 @@ use Rattle.std.proofs.Common.{◌≡◌, ◌+◌, Some, length, [], string_bytes
 use Rattle.trees.specs.Trees.{leaf, children_of}
 use Rattle.trees.specs.Changes.{with_children, splice}
 use Rattle.trees.specs.declared.node.Kind.TheVariants.{Element}
-use Rattle.sessions.specs.declared.request.Code.TheVariants.{PXQ0003}
+use Rattle.values.specs.declared.code.Code.TheVariants.{PXQ0003}
 use Rattle.trees.specs.Forest.{ForestTerm}
 use Rattle.sessions.specs.Run.{Ran, done, fault, inserted, insertion_ran, document_of}
 use Rattle.sessions.proofs.Runs.{document-found, ran-full, ran-many, ran-inserted}

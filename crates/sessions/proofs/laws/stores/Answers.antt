@@ -1,6 +1,6 @@
 use Rattle.std.proofs.Common.{[], ◌∷◌, ap, ◌∙◌, cond}
 use Rattle.sessions.specs.Meaning.{all_run, store_of}
-use Rattle.sessions.specs.declared.request.Value.TheVariants.{NoOp, Request}
+use Rattle.ballots.specs.declared.value.Value.TheVariants.{NoOp, Request}
 use Rattle.sessions.proofs.Meanings.{store_of-opening, store_of-push}
 use Rattle.sessions.proofs.laws.stores.Goals as goal
 

@@ -1,7 +1,7 @@
 use Rattle.std.proofs.Common.{List, [], sym, subst}
 use Rattle.trees.specs.Forest.{ForestTerm}
-use Rattle.sessions.specs.declared.request.RequestId.{RequestId}
-use Rattle.sessions.specs.declared.request.Reply.{Reply}
+use Rattle.ballots.specs.declared.request.RequestId.{RequestId}
+use Rattle.ballots.specs.declared.reply.Reply.{Reply}
 use Rattle.sessions.specs.Session.{Means}
 use Rattle.sessions.proofs.Meanings.{Means-opening}
 use Rattle.sessions.proofs.state.State.new.Goals as goal

@@ -1,8 +1,8 @@
 use Rattle.std.proofs.Common.{◌≡◌, ℕ, ◌++◌, ◌∷◌, List, [], Result, Ok, Err, IfOk, OnOk, Some, None, sym, subst}
-use Rattle.sessions.specs.declared.request.Reply.{Reply}
-use Rattle.sessions.specs.declared.request.Value.{Value}
-use Rattle.sessions.specs.declared.request.Value.TheVariants.{Request}
-use Rattle.sessions.specs.RequestTerm.{RequestTerm}
+use Rattle.ballots.specs.declared.reply.Reply.{Reply}
+use Rattle.ballots.specs.declared.value.Value.{Value}
+use Rattle.ballots.specs.declared.value.Value.TheVariants.{Request}
+use Rattle.ballots.specs.Terms.{Request as RequestTerm}
 use Rattle.sessions.specs.Terms.{id_of}
 use Rattle.sessions.specs.Session.{SessionTerm, Means, IsReplyTo, reply_in, after_repeat, after_new, reply_to_new}
 use Rattle.sessions.proofs.Meanings.{Means-noop, Means-request}

@@ -1,0 +1,5 @@
+pub mod Terms
+pub mod Ballot
+pub mod Values
+pub mod Replies
+pub mod Messages
