@@ -3,3 +3,4 @@ pub mod Ballot
 pub mod Values
 pub mod Replies
 pub mod Messages
+pub mod Spelling

@@ -1,5 +1,5 @@
--- What a request and a question are to contracts.
-use Rattle.std.specs.Prelude.{ℕ, Bool, ◌&&◌, ◌==◌, nat_eq, List, refl}
+-- What requests, questions and setups are to contracts.
+use Rattle.std.specs.Prelude.{ℕ, ◌≤◌, Bool, ◌&&◌, ◌==◌, nat_eq, List, refl}
 use Rattle.std.specs.Cmp.Lexicographic.{pointwise}
 use Rattle.std.specs.Coded.{Coded, code_by, coded×, coded_ℕ, coded_list}
 
@@ -37,3 +37,18 @@ same_request a b = (a.client == b.client && a.number == b.number) && (a.level ==
 -- of one client and number, whatever the level and the text
 abbrev pub same_number : Request → Request → Bool
 same_number a b = a.client == b.client && a.number == b.number
+
+-- one member's place: the group, its number, how many members there are, and the names of the documents
+pub record Setup : Type 0 where
+  pub group : ℕ
+  pub member : ℕ
+  pub members : ℕ
+  pub names : List (List ℕ)
+
+abbrev pub setup_code : Coded Setup
+setup_code =
+    code_by (ℕ × (ℕ × (ℕ × List (List ℕ)))) (coded× coded_ℕ (coded× coded_ℕ (coded× coded_ℕ (coded_list (coded_list coded_ℕ))))) (λ s. (s.group, (s.member, (s.members, s.names)))) (λ p. record { group = p.0; member = p.1.0; members = p.1.1.0; names = p.1.1.1 }) (λ _. refl)
+
+-- there are 1 to 63 members, and it is one of them
+abbrev pub IsPlace : (member members : ℕ) → Type 0
+IsPlace member members = (1 ≤ member) × (member ≤ members) × (members ≤ 63)

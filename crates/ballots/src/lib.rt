@@ -3,14 +3,23 @@
 //! Contracts speak of them by `specs/`, on which the protocol's definitions stand.
 #![tactic(auto)]
 
+mod ask;
 mod ballot;
+pub mod laws;
 mod message;
 mod reply;
 mod request;
+mod setup;
+mod spelling;
+#[cfg(test)]
+mod tests;
 mod value;
 
+pub use ask::{Ask, AskFault};
 pub use ballot::{Ballot, Members};
 pub use message::{Message, Window};
 pub use reply::{Answer, Reply};
-pub use request::{Ask, AskFault, MAX_TEXT, Request, RequestFault, RequestId};
+pub use request::{MAX_TEXT, Request, RequestFault, RequestId};
+pub use setup::{Setup, SetupFault};
+pub use spelling::{ValueFault, put_value, take_value};
 pub use value::{Entry, Pair, Value, Vote};

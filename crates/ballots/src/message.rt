@@ -1,8 +1,9 @@
 //! The messages of members and clients.
 
+use super::ask::Ask;
 use super::ballot::Ballot;
 use super::reply::{Answer, Reply};
-use super::request::{Ask, Request};
+use super::request::Request;
 use super::value::{Entry, Pair, Vote};
 
 /// A member's promise of a ballot for positions: its votes there are these, by rising position, and no others.

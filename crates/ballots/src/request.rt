@@ -1,16 +1,13 @@
-//! Requests and questions of clients.
+//! Requests of clients.
 
-ghost use Rattle.std.specs.Prelude.{◌≡◌, ◌≢◌, ◌<◌, ◌≤◌, ◌↔◌, ◌&&◌, ◌==◌, IfOk, IsErrOf, length};
-ghost use Rattle.ballots.specs.Terms.{most_text, same_request};
+ghost use Rattle.std.specs.Prelude.{◌≡◌, ◌≢◌, ◌<◌, ◌≤◌, ◌↔◌, IfOk, IsErrOf, length};
+ghost use Rattle.ballots.specs.Terms.{same_request};
 
 use std::alloc::{AllocError, Global};
 use std::marker::Model;
 
 /// The bytes that the text of a request or a question has at most.
 pub const MAX_TEXT: usize = 4096;
-
-/// The positions that there are.
-const POSITIONS: u32 = 1_000_000;
 
 /// Who made a request, and the number that the client gave it: the same pair is the same request.
 #[derive(Clone, Copy, PartialEq, Eq, Hash, Debug)]
@@ -30,19 +27,6 @@ pub enum RequestFault {
     Level,
     /// The text is longer than 4,096 bytes (3).
     TextTooLong,
-}
-
-/// Why a question is refused.
-#[derive(Clone, Copy, PartialEq, Eq, Debug)]
-pub enum AskFault {
-    /// Memory was refused (1).
-    Memory,
-    /// The level is none that is known (2).
-    Level,
-    /// The text is longer than 4,096 bytes (3).
-    TextTooLong,
-    /// The floor is above 1,000,000 (4).
-    Floor,
 }
 
 /// A request to change the store: who made it, its number, the language level of its text, and the text.
@@ -130,7 +114,7 @@ impl Request {
     pub fn is_same(&self, other: &Request) -> bool
         ensures { result ≡ same_request self.now other.now }
     {
-        self.id == other.id && self.level == other.level && self.text == other.text
+        other.id == self.id && other.level == self.level && other.text == self.text
     }
 }
 
@@ -143,104 +127,5 @@ impl Clone for Request {
             level: self.level,
             text: self.text.clone()?,
         })
-    }
-}
-
-/// A question: who asks, its number, how many positions have to be applied, the language level of its text, and the text.
-#[derive(Drop)]
-pub struct Ask {
-    id: RequestId,
-    floor: u32,
-    level: u8,
-    text: String,
-}
-
-impl Model for Ask {
-    ghost use Rattle.std.specs.Prelude.{◌≡◌, ◌≤◌, length, string_bytes};
-    ghost use Rattle.ballots.specs.Terms.{Question, question_code, most_text};
-
-    ghost Value = { Question };
-
-    ghost coded = { question_code };
-
-    ghost view = { λ a.
-        record {
-          client = a.id.client;
-          number = a.id.number;
-          floor = a.floor;
-          level = a.level;
-          text = string_bytes a.text;
-        } };
-
-    ghost invariant = { λ a. (a.level ≡ 1) × (a.floor ≤ 1000000) × (length (string_bytes a.text) ≤ most_text) };
-}
-
-impl Ask {
-    /// A question of that client, number, floor, level and text.
-    ///
-    /// It is refused where the level is unknown, then where the text is too long, then where the floor is too high.
-    pub fn new(
-        alloc: Global,
-        client: u32,
-        number: u64,
-        floor: u32,
-        level: u8,
-        text: &str,
-    ) -> Result<Ask, AskFault>
-        ensures made { IfOk result (λ q. q ≡ record { client = client; number = number; floor = floor; level = level; text = text.now }) }
-        ensures level { IsErrOf result AskFault.Level ↔ (level ≢ 1) }
-        ensures length { IsErrOf result AskFault.TextTooLong ↔ ((level ≡ 1) × (4096 < length text.now)) }
-        ensures floor { IsErrOf result AskFault.Floor
-            ↔ ((level ≡ 1) × (length text.now ≤ 4096) × (1000000 < floor)) }
-    {
-        if level != 1 {
-            return Err(AskFault::Level);
-        }
-        if text.len() > MAX_TEXT {
-            return Err(AskFault::TextTooLong);
-        }
-        if floor > POSITIONS {
-            return Err(AskFault::Floor);
-        }
-        match String::from_str(alloc, text) {
-            Ok(text) => Ok(Ask {
-                id: RequestId { client, number },
-                floor,
-                level,
-                text,
-            }),
-            Err(_) => Err(AskFault::Memory),
-        }
-    }
-
-    /// Who asks, with the question's number.
-    pub fn id(&self) -> RequestId
-        ensures { result ≡ record { client = self.now.client; number = self.now.number } }
-    {
-        self.id
-    }
-
-    /// How many positions have to be applied, at most 1,000,000.
-    pub fn floor(&self) -> u32
-        ensures floor { result ≡ self.now.floor }
-        ensures most { result ≤ 1000000 }
-    {
-        self.floor
-    }
-
-    /// The language level of the text.
-    pub fn level(&self) -> u8
-        ensures level { result ≡ self.now.level }
-        ensures known { self.now.level ≡ 1 }
-    {
-        self.level
-    }
-
-    /// The text.
-    pub fn text(&self) -> &str
-        ensures text { result.now ≡ self.now.text }
-        ensures most { length self.now.text ≤ 4096 }
-    {
-        self.text.as_str()
     }
 }

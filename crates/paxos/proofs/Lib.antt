@@ -17,4 +17,8 @@ pub mod Leading
 pub mod Answering
 pub mod Runs
 pub mod Worlds
+pub mod Quick
+pub mod Playing
 pub mod Straight
+pub mod Four
+pub mod Change

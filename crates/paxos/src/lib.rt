@@ -7,11 +7,11 @@
 ghost use Rattle.std.specs.Prelude.{◌≡◌, ℕ, suc, ◌<◌, ◌≤◌, Bool, true, false, List, [], ◌∷◌, ◌++◌, length, take, Option, Some, None, IsSome};
 ghost use Rattle.paxos.specs.Lists.{at};
 ghost use Rattle.paxos.specs.Agreement.{Agreement};
-ghost use Rattle.paxos.specs.Examples.{accepted_from, ballot, request, vote, no_op, votes_to, reporting, after_stop, straight, applied_in};
-ghost use Rattle.paxos.specs.Knowledge.{Heard, AcceptedBy, learnt, pair_of, IsHeard, prefix, reported};
+ghost use Rattle.paxos.specs.Examples.{accepted_from, ballot, request, vote, no_op, votes_to, reporting, after_stop, straight, applied_in, leader_change, gap_heard, gap_leader, gap_proposed, gap_accepted, other_request};
+ghost use Rattle.paxos.specs.Knowledge.{Heard, AcceptedBy, learnt, pair_of, IsHeard, prefix, values_to, reported};
 ghost use Rattle.ballots.specs.Values.{positions};
 ghost use Rattle.ballots.specs.declared.value.Value.{Value};
-ghost use Rattle.ballots.specs.declared.value.Value.TheVariants.{Request as Of};
+ghost use Rattle.ballots.specs.declared.value.Value.TheVariants.{NoOp, Request as Of};
 ghost use Rattle.ballots.specs.declared.value.Vote.{Vote};
 ghost use Rattle.ballots.specs.declared.value.Pair.{Pair};
 ghost use Rattle.ballots.specs.Messages.{Promise, packet};
@@ -19,6 +19,7 @@ ghost use Rattle.paxos.specs.Application.{Application};
 ghost use Rattle.paxos.specs.Proposable.{P2c};
 ghost use Rattle.paxos.specs.Proposing.{turns, WentOn};
 ghost use Rattle.paxos.specs.Records.{window};
+ghost use Rattle.paxos.specs.Step.{goes_on};
 ghost use Rattle.paxos.specs.World.{World, told_to, start, Event, Happening, run, Run};
 
 /// No position has two chosen values; what a member has learnt it was told, and what it was told is chosen; and members that
@@ -116,9 +117,34 @@ pub fn stop_inside_a_write()
 /// A worked example of a run: of three members one begins, and all is delivered; a request is submitted to it, and all is
 /// delivered. That takes 19 messages, and each member is told the request at position 1 and has applied it.
 pub fn straight_run_of_three()
-    ensures messages { length straight.sent ≡ 19 }
-    ensures told { straight.told
+    ensures messages { length ((straight 3).sent) ≡ 19 }
+    ensures told { (straight 3).told
         ≡ told_to 1 (pair_of 1 (Of request)) ∷ told_to 2 (pair_of 1 (Of request)) ∷
         told_to 3 (pair_of 1 (Of request)) ∷ [] }
-    ensures applied { applied_in straight ≡ Some 1 ∷ Some 1 ∷ Some 1 ∷ [] }
+    ensures applied { applied_in (straight 3) ≡ Some 1 ∷ Some 1 ∷ Some 1 ∷ [] }
+{}
+
+/// The same with four members: 29 messages, and three of four are a majority.
+pub fn straight_run_of_four()
+    ensures messages { length ((straight 4).sent) ≡ 29 }
+    ensures told { (straight 4).told
+        ≡ told_to 1 (pair_of 1 (Of request)) ∷ told_to 2 (pair_of 1 (Of request)) ∷
+        told_to 3 (pair_of 1 (Of request)) ∷ told_to 4 (pair_of 1 (Of request)) ∷ [] }
+    ensures applied { applied_in (straight 4) ≡ Some 1 ∷ Some 1 ∷ Some 1 ∷ Some 1 ∷ [] }
+{}
+
+/// A worked example of a leader change: the first leader's request was accepted by one member alone; the second leader hears of
+/// it by that member's promise, proposes it again, and it is told.
+pub fn change_of_leader()
+    ensures { leader_change.told
+        ≡ told_to 2 (pair_of 1 (Of request)) ∷ told_to 3 (pair_of 1 (Of request)) ∷ [] }
+{}
+
+#[tactic(auto, unfolding(ballots::specs::Values::positions))]
+/// A worked example of a gap: votes are reported at 1 and 3 alone, so the no-op is proposed at 2; once all are accepted by a
+/// majority, three positions are learnt without a gap, with these values.
+pub fn gap_between_reports()
+    ensures proposed { (goes_on 3 gap_heard gap_leader).made ≡ gap_proposed }
+    ensures learnt { prefix 3 gap_accepted ≡ 3 }
+    ensures values { values_to 3 gap_accepted 3 ≡ Of request ∷ NoOp ∷ Of other_request ∷ [] }
 {}
