@@ -1,6 +1,3 @@
 -- The crate's proofs.
 pub mod Refusals
 pub mod Taken
-pub mod Turns
-pub mod Plays
-pub mod Endings

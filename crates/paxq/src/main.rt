@@ -1,15 +1,13 @@
 //! `paxq`: reads the command line and runs what it asks for.
 #![tactic(auto)]
 
-mod print;
-mod run;
 mod words;
 
 ghost use Rattle.std.specs.Prelude.{◌≡◌, ◌≢◌};
 ghost use Rattle.std.specs.IoError.{error_kind};
 ghost use Rattle.std.specs.declared.io.ErrorKind.TheVariants.{OutOfMemory};
 
-use run::{cannot_read, run_script};
+use paxq_run::{cannot_read, run_script};
 use std::io::{BufWriter, Write};
 use std::process::ExitCode;
 use std::{fs, io};

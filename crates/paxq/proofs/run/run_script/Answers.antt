@@ -1,6 +1,0 @@
-use Rattle.std.proofs.Common.{inr}
-use Rattle.paxq.proofs.Turns.{ok-gives}
-use Rattle.paxq.proofs.run.run_script.Goals as goal
-
-pub returns-in-Err-Failed : goal.returns-in-Err-Failed
-returns-in-Err-Failed g c = ok-gives c.cannot_read.result c.cannot_read.ensures (λ status h. inr (h (g.W.Write.contents c.args.output.now)))

@@ -1,0 +1,137 @@
+-- What a run of a script prints: a function of the file's name and its bytes.
+use Rattle.std.specs.Prelude.{◌≡◌, ℕ, ◌+◌, Bool, true, false, nat_lt, ◌==◌, ◌⊎◌, IfSome, cond, List, [], ◌∷◌, ◌++◌, length, Option, codes}
+use Rattle.std.specs.Option.{option_map_or}
+use Rattle.std.specs.List.{slice_split, flat_map}
+use Rattle.std.specs.Fmt.{decimal}
+use Rattle.std.specs.Io.KnownBytes.{Appends}
+use Rattle.std.specs.Str.{IsUtf8}
+use Rattle.ballots.specs.declared.reply.Reply.{Reply}
+use Rattle.ballots.specs.declared.reply.Reply.TheVariants.{Done, Fault}
+use Rattle.ballots.specs.declared.value.Value.{Value}
+use Rattle.ballots.specs.declared.value.Value.TheVariants.{Request}
+use Rattle.values.specs.Codes.{code_name}
+use Rattle.ballots.specs.Terms.{Request as RequestTerm}
+use Rattle.sessions.specs.Terms.{id_of}
+use Rattle.sessions.specs.Run.{run}
+use Rattle.sessions.specs.Meaning.{store_of, kept_reply, reply_for}
+use Rattle.sessions.specs.Session.{SessionTerm, Means}
+use Rattle.ballots.specs.Replies.{Answered, text, fault}
+use Rattle.sessions.specs.Answers.{answer}
+use Rattle.paxq_run.specs.declared.run.Stop.{Stop}
+use Rattle.paxq_run.specs.declared.run.Stop.TheVariants.{Memory, Output}
+use Rattle.paxq_files.specs.Script.{Command, submit, ask, ScriptRead, script, wrong, script_of}
+
+-- ---- lines
+abbrev pub line_feed : List ℕ
+line_feed = 10 ∷ []
+
+-- `done P` or `fault CODE P`
+abbrev pub reply_text : Reply → List ℕ
+reply_text (Done position) = codes "done " ++ decimal position ++ line_feed
+reply_text (Fault code position) = codes "fault " ++ code_name code ++ codes " " ++ decimal position ++ line_feed
+
+-- each line after two spaces
+abbrev pub indented : List ℕ → List ℕ
+indented bytes = flat_map (λ line. codes "  " ++ line ++ line_feed) (slice_split (λ b. b == 10) bytes)
+
+-- `at P` and the lines of the answer, none for an empty text, or `at P fault CODE`
+abbrev pub answer_text : ℕ → Answered → List ℕ
+answer_text position (text []) = codes "at " ++ decimal position ++ line_feed
+answer_text position (text (b ∷ bs)) = codes "at " ++ decimal position ++ line_feed ++ indented (b ∷ bs)
+answer_text position (fault code) = codes "at " ++ decimal position ++ codes " fault " ++ code_name code ++ line_feed
+
+-- ---- one command
+-- what is printed, the values that are applied then, and whether the run goes on
+pub record Turn : Type 0 where
+  pub printed : List ℕ
+  pub values : List Value
+  pub goes_on : Bool
+
+-- a request that is new is applied at the next position, of which there are 1,000,000
+abbrev pub new_turn : List (List ℕ) → List Value → RequestTerm → Turn
+new_turn names values r =
+    cond (nat_lt (length values) 1000000)
+    (record { printed = reply_text (reply_for (run (store_of names values) r.text).outcome (length values + 1)); values = values ++ Request r ∷ []; goes_on = true })
+    (record { printed = codes "no answer" ++ line_feed; values = values; goes_on = false })
+
+-- a request that has a reply gets it and no position; a question is answered from the store
+abbrev pub turn_of : List (List ℕ) → List Value → Command → Turn
+turn_of names values (submit r) = option_map_or (λ reply. record { printed = reply_text reply; values = values; goes_on = true }) (kept_reply names values (id_of r)) (new_turn names values r)
+turn_of names values (ask question) = record { printed = answer_text (length values) (answer (store_of names values) question); values = values; goes_on = true }
+
+-- ---- a run
+-- the exit status, and what is written to standard output and to standard error
+pub record Run : Type 0 where
+  pub status : ℕ
+  pub output : List ℕ
+  pub errors : List ℕ
+
+abbrev pub after : List ℕ → Run → Run
+after printed r = record r { output = printed ++ r.output }
+
+-- the commands in turn, until one gets no answer: status 3
+abbrev pub commands_run : List (List ℕ) → List Value → List Command → Run
+commands_run names values [] = record { status = 0; output = []; errors = [] }
+commands_run names values (command ∷ commands) =
+    let turn = turn_of names values command in cond turn.goes_on (after turn.printed (commands_run names turn.values commands)) (record { status = 3; output = turn.printed; errors = [] })
+
+abbrev pub read_run : ScriptRead → Run
+read_run (script s) = commands_run s.names [] s.commands
+read_run (wrong number) = record { status = 1; output = []; errors = codes "paxq: line " ++ decimal number ++ line_feed }
+
+-- a run of the script that a text is
+unfoldable pub text_run : List ℕ → Run
+text_run bytes = read_run (script_of bytes)
+
+-- a file that cannot be read, or is no text in UTF-8
+abbrev pub unreadable_run : List ℕ → Run
+unreadable_run file = record { status = 1; output = []; errors = codes "paxq: cannot read " ++ file ++ line_feed }
+
+-- a run wrote what it should, and ended with its status; the pairs are what the writers held before and after
+pub record Wrote (output errors : Option (List ℕ) × Option (List ℕ)) (status : ℕ) (run : Run) : Type 0 where
+  pub ended : status ≡ run.status
+  pub printed : Appends output.0 output.1 run.output
+  pub reported : Appends errors.0 errors.1 run.errors
+
+-- a run stopped for want of memory, after a beginning of what it should write
+pub record Stopped (output errors : Option (List ℕ) × Option (List ℕ)) (status : ℕ) (run : Run) : Type 0 where
+  pub written : List ℕ
+  pub left : List ℕ
+  pub beginning : written ++ left ≡ run.output
+  pub ended : status ≡ 4
+  pub printed : Appends output.0 output.1 written
+  pub reported : Appends errors.0 errors.1 (codes "paxq: no memory" ++ line_feed)
+
+abbrev pub Ran : Option (List ℕ) × Option (List ℕ) → Option (List ℕ) × Option (List ℕ) → Run → ℕ → Type 0
+Ran output errors run status = Wrote output errors status run ⊎ Stopped output errors status run
+
+-- a turn printed what it should, told whether the run goes on, and left the state that the values mean
+pub record IsTurn (names : List (List ℕ)) (turn : Turn) (printed : List ℕ) (goes_on : Bool) (state : SessionTerm) : Type 0 where
+  pub text : printed ≡ turn.printed
+  pub goes : goes_on ≡ turn.goes_on
+  pub means : Means names turn.values state
+
+-- the commands were run to their end: what was printed, and the exit status
+pub record IsPlayed (run : Run) (status : ℕ) (old new : Option (List ℕ)) : Type 0 where
+  pub ended : status ≡ run.status
+  pub printed : Appends old new run.output
+
+-- a beginning of what the commands print was printed
+pub record IsCut (run : Run) (old new : Option (List ℕ)) : Type 0 where
+  pub written : List ℕ
+  pub left : List ℕ
+  pub beginning : written ++ left ≡ run.output
+  pub printed : Appends old new written
+
+-- a fact for a stop for want of memory
+abbrev pub IfMemory : Stop → Type 0 → Type 0
+IfMemory Memory P = P
+IfMemory (Output error) P = Unit {0}
+
+-- a run of the script that these bytes are, or of a file that is no text
+abbrev pub BytesRan : List ℕ → List ℕ → Option (List ℕ) × Option (List ℕ) → Option (List ℕ) × Option (List ℕ) → ℕ → Type 0
+BytesRan file bytes output errors status = (IsUtf8 bytes × Ran output errors (text_run bytes) status) ⊎ ((¬ (IsUtf8 bytes)) × Ran output errors (unreadable_run file) status)
+
+-- a run of a file whose reader gives these bytes, where they are known; or the reader failed
+abbrev pub FileRan : List ℕ → Option (List ℕ) → Option (List ℕ) × Option (List ℕ) → Option (List ℕ) × Option (List ℕ) → ℕ → Type 0
+FileRan file known output errors status = ((bytes : List ℕ) × IfSome known (λ given. bytes ≡ given) × BytesRan file bytes output errors status) ⊎ Ran output errors (unreadable_run file) status

@@ -1,0 +1,55 @@
+//! The lines that a run prints.
+
+ghost use Rattle.std.specs.Prelude.{◌≡◌, ◌++◌, IfOk, OnOk, codes, string_bytes};
+ghost use Rattle.std.specs.Fmt.{decimal};
+ghost use Rattle.ballots.specs.Replies.{answered, fault};
+ghost use Rattle.paxq_run.specs.Play.{reply_text, answer_text, indented};
+
+use ballots::{Answer, Reply};
+use std::alloc::{AllocError, Global};
+use values::Code;
+
+/// `done P` or `fault CODE P`, with its line feed.
+pub(crate) fn reply_text(alloc: Global, reply: Reply) -> Result<String, AllocError>
+    ensures { IfOk result (λ text. string_bytes text ≡ reply_text reply) }
+{
+    match reply {
+        Reply::Done(position) => format!(in alloc; "done {position}\n"),
+        Reply::Fault(code, position) => format!(in alloc; "fault {code} {position}\n"),
+    }
+}
+
+/// `at P` and the lines of the answer after two spaces each, or `at P fault CODE`.
+pub(crate) fn answer_text(alloc: Global, position: u32, answer: &Answer) -> Result<String, AllocError>
+    ensures { IfOk result (λ text. string_bytes text ≡ answer_text position (answered answer.now)) }
+{
+    match answer {
+        Answer::Fault(code) => fault_text(alloc, position, *code),
+        Answer::Text(text) => {
+            let mut out = format!(in alloc; "at {position}\n")?;
+            if !text.is_empty() {
+                push_indented(&mut out, text.as_str())?;
+            }
+            Ok(out)
+        }
+    }
+}
+
+/// `at P fault CODE`, with its line feed.
+fn fault_text(alloc: Global, position: u32, code: Code) -> Result<String, AllocError>
+    ensures { IfOk result (λ text. string_bytes text ≡ answer_text position (fault code)) }
+{
+    format!(in alloc; "at {position} fault {code}\n")
+}
+
+/// Appends the lines of a text after two spaces each.
+fn push_indented(out: &mut String, text: &str) -> Result<(), AllocError>
+    ensures { OnOk result (string_bytes out.new ≡ string_bytes out.old ++ indented text.now) }
+{
+    for line in text.split('\n') {
+        out.push_str("  ")?;
+        out.push_str(line)?;
+        out.push_str("\n")?;
+    }
+    Ok(())
+}
