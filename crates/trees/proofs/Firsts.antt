@@ -23,20 +23,20 @@ before-seen a b (x ∷ xs) =
     ]
 
 -- how often i is in a list
-abbrev held : ℕ → List ℕ → ℕ
+abbrev pub held : ℕ → List ℕ → ℕ
 held i [] = 0
 held i (x ∷ xs) = cond (eqb i x) 1 0 + held i xs
 
-held-append : (i : ℕ) (xs ys : List ℕ) → held i (xs ++ ys) ≡ held i xs + held i ys
+pub held-append : (i : ℕ) (xs ys : List ℕ) → held i (xs ++ ys) ≡ held i xs + held i ys
 held-append i [] ys = omega arith
 held-append i (x ∷ xs) ys = omega (arith, held-append i xs ys)
 
-identities-tree : (c : Content) (bs cs rest : Trees) → identities (tree c bs cs rest) ≡ (c.identity ∷ identities bs) ++ identities cs ++ identities rest
+pub identities-tree : (c : Content) (bs cs rest : Trees) → identities (tree c bs cs rest) ≡ (c.identity ∷ identities bs) ++ identities cs ++ identities rest
 identities-tree c bs cs rest =
     let n : Content → ℕ = λ d. d.identity in
     map-append n ((c ∷ listing bs) ++ listing cs) (listing rest) ∙ ap (λ x. x ++ identities rest) (map-append n (c ∷ listing bs) (listing cs))
 
-held-identities : (i : ℕ) (ts : Trees) → held i (identities ts) ≡ count i ts
+pub held-identities : (i : ℕ) (ts : Trees) → held i (identities ts) ≡ count i ts
 held-identities i no_trees = refl
 held-identities i (tree c bs cs rest) =
     ap (held i) (identities-tree c bs cs rest) ∙ held-append i ((c.identity ∷ identities bs) ++ identities cs) (identities rest) ∙ rw (held-append i (c.identity ∷ identities bs) (identities cs))
@@ -49,24 +49,24 @@ eqb-swap i j v h = ⊎_elim (λ t. rw t.1 (eqb-same j) ∙ sym t.0 ∙ h) (λ t.
 not-held : (i x n : ℕ) → cond (eqb i x) 1 0 + n ≡ 0 → (eqb x i ≡ false) × (n ≡ 0)
 not-held i x n h = ⊎_elim (λ t. (let z = rw t.0 at h in absurd (omega arith))) (λ t. (eqb-swap i x false t.0, (let z = rw t.0 at h in omega arith))) (eqb_tells i x)
 
-seen-none : (a b : ℕ) (xs : List ℕ) → held a xs ≡ 0 → held b xs ≡ 0 → seen a b xs ≡ None
+pub seen-none : (a b : ℕ) (xs : List ℕ) → held a xs ≡ 0 → held b xs ≡ 0 → seen a b xs ≡ None
 seen-none a b [] h k = refl
 seen-none a b (x ∷ xs) h k = let p = not-held a x (held a xs) h in let q = not-held b x (held b xs) k in rw (q.0, p.0) (seen-none a b xs p.1 q.1)
 
-seen-a : (a b : ℕ) (xs : List ℕ) → 0 < held a xs → held b xs ≡ 0 → seen a b xs ≡ Some true
+pub seen-a : (a b : ℕ) (xs : List ℕ) → 0 < held a xs → held b xs ≡ 0 → seen a b xs ≡ Some true
 seen-a a b [] h k = absurd (omega arith)
 seen-a a b (x ∷ xs) h k =
     let q = not-held b x (held b xs) k in
     ⊎_elim (λ t. rw (q.0, eqb-swap a x true t.0)) (λ t. (let z = rw t.0 at h in rw (q.0, eqb-swap a x false t.0) (seen-a a b xs (omega arith) q.1))) (eqb_tells a x)
 
-seen-b : (a b : ℕ) (xs : List ℕ) → held a xs ≡ 0 → 0 < held b xs → seen a b xs ≡ Some false
+pub seen-b : (a b : ℕ) (xs : List ℕ) → held a xs ≡ 0 → 0 < held b xs → seen a b xs ≡ Some false
 seen-b a b [] h k = absurd (omega arith)
 seen-b a b (x ∷ xs) h k =
     let p = not-held a x (held a xs) h in
     ⊎_elim (λ t. rw (eqb-swap b x true t.0)) (λ t. (let z = rw t.0 at k in rw (eqb-swap b x false t.0, p.0) (seen-b a b xs p.1 (omega arith)))) (eqb_tells b x)
 
 -- what is seen among the first, where a is among them
-seen-first : (a b : ℕ) (xs : List ℕ) (y : Option Bool) → 0 < held a xs → or_else (seen a b xs) y ≡ seen a b xs
+pub seen-first : (a b : ℕ) (xs : List ℕ) (y : Option Bool) → 0 < held a xs → or_else (seen a b xs) y ≡ seen a b xs
 seen-first a b [] y h = absurd (omega arith)
 seen-first a b (x ∷ xs) y h =
     ⊎_elim (λ t. rw (eqb-swap b x true t.0))

@@ -21,6 +21,15 @@ pub record Entry : Type 0 where
 abbrev pub Table : Type 0
 Table = ℕ → Option Entry
 
+-- the one, or else the other
+abbrev pub entry_or : Option Entry → Option Entry → Option Entry
+entry_or None d = d
+entry_or (Some e) d = Some e
+
+-- two tables seen as one: what g says, or else what f says
+abbrev pub both : Table → Table → Table
+both f g i = entry_or (g i) (f i)
+
 abbrev pub entry_of : Content → Option ℕ → List ℕ → List ℕ → Entry
 entry_of c p bs cs = record { kind = c.kind; name = c.name; text = c.text; parent = p; attributes = bs; children = cs }
 

@@ -1,13 +1,15 @@
 //! Forests: trees of nodes, documents by name, and the next identity.
 
-ghost use Rattle.std.specs.Prelude.{◌≡◌, ◌≢◌, ℕ, ◌+◌, ◌<◌, ◌≤◌, ◌^◌, ◌↔◌, Option, Some, None, IfOk, OnOk, OnErr, IfSome, IsErrOf, IsSome, List, [], ◌∷◌, ◌++◌, length, map, is_some, string_bytes, IsTrue};
+ghost use Rattle.std.specs.Prelude.{◌≡◌, ◌≢◌, ℕ, ◌+◌, ◌<◌, ◌≤◌, ◌^◌, ◌↔◌, Option, Some, None, IfOk, OnOk, OnErr, IfSome, IsErrOf, IsSome, List, [], ◌∷◌, ◌++◌, length, map, is_some, string_bytes, IsTrue, max};
 ghost use Rattle.std.specs.Map.{lookup};
 ghost use Rattle.std.specs.Str.{bytes_eq};
 ghost use Rattle.trees.specs.Trees.{no_trees, append, leaf, find, count, size, children_of, attributes_of, parent_of, string_value_of, IsAt, Content as NodeContent};
-ghost use Rattle.trees.specs.Changes.{with_children, with_attributes, with_content, splice, taken_out, all_moved_below, CanAllMoveBelow, pick, renumbered};
+ghost use Rattle.trees.specs.Changes.{with_children, with_attributes, with_content, splice, taken_out, all_moved_below, CanAllMoveBelow, pick, renumbered, ranked};
 ghost use Rattle.trees.specs.declared.node.Part.TheVariants.{Attributes, Children};
 ghost use Rattle.trees.specs.Order.{precedes};
 ghost use Rattle.trees.specs.Forest.{ForestTerm, IsForest, IsDocument, document_node, opening_forest};
+ghost use Rattle.trees.specs.Tree.{trees_of_tree};
+ghost use Rattle.trees.specs.Planted.{past};
 ghost use Rattle.trees.specs.Walks.{root_of};
 ghost use Rattle.trees.specs.Flat.{entry_in};
 ghost use Rattle.trees.specs.Inside.{entry_of_row};
@@ -15,11 +17,13 @@ ghost use Rattle.trees.specs.Inside.{entry_of_row};
 use super::names::Names;
 use super::node::{Content, Kind, NodeId, Part};
 use super::table::{Row, Rows};
-use super::{copy, table, walk};
+use super::tree::Tree;
+use super::{copy, plant, table, tree, walk};
 use indexmap::IndexMap;
 use std::alloc::{AllocError, Global};
 use std::collections::BTreeMap;
 use std::marker::Model;
+use std::slice;
 
 /// Trees of nodes with distinct identities, documents by name in order, and the next identity.
 ///
@@ -59,14 +63,15 @@ pub enum MakeFault {
 }
 
 impl Forest {
-    /// A forest with no nodes.
-    fn empty(alloc: Global) -> Forest
-        ensures { result ≡ record { trees = no_trees; documents = []; next = 1 } }
+    /// A forest with no nodes, whose first node takes the identity `next`.
+    pub(super) fn empty(alloc: Global, next: NodeId) -> Forest
+        requires { next ≤ 2 ^ 62 }
+        ensures { result ≡ record { trees = no_trees; documents = []; next = next } }
     {
         Forest {
             rows: BTreeMap::new(alloc),
             documents: IndexMap::new(alloc),
-            next: 1,
+            next: next.number(),
             nodes: 0,
         }
     }
@@ -103,7 +108,7 @@ impl Forest {
         ensures opening { IfOk result (λ f. f ≡ opening_forest names.now) }
         ensures next { IfOk result (λ f. f.next ≤ 65) }
     {
-        let mut forest = Forest::empty(alloc);
+        let mut forest = Forest::empty(alloc, NodeId::new(1));
         for name in names.as_slice() {
             forest.add_document(alloc, name)?;
         }
@@ -209,6 +214,14 @@ impl Forest {
             value.push_str(&row.text)?;
         }
         Ok(value)
+    }
+
+    /// There are at most as many nodes as the next identity's number, which is at most 2^62. It does nothing.
+    pub(super) fn bounds(&self)
+        ensures few { size self.now.trees ≤ self.now.next }
+        ensures bound { self.now.next ≤ 2 ^ 62 }
+    {
+        let _next = &self.next;
     }
 
     /// Identities are distinct and below the next one, and the documents stand here. It does nothing.
@@ -407,14 +420,73 @@ impl Forest {
         table::set_name(&mut self.rows, id, name);
     }
 
-    /// Whether a copy of the tree of a node can be numbered.
-    fn has_room(&self, id: NodeId) -> bool
+    /// Whether the tree of a node has at most so many nodes. They are counted only where the whole forest has more.
+    fn is_within(&self, id: NodeId, nodes: u64) -> bool
         requires { IsSome (find id self.now.trees) }
-        ensures { IsTrue result ↔ (self.now.next + size (pick id self.now.trees) ≤ 2 ^ 62) }
+        ensures { IsTrue result ↔ (size (pick id self.now.trees) ≤ nodes) }
     {
+        self.nodes <= nodes || walk::count(&self.rows, &[id], self.next) <= nodes
+    }
+
+    /// Whether a copy of the tree of a node of this forest or of a lent one can be numbered.
+    fn has_room(&self, lent: &Forest, id: NodeId) -> bool
+        requires has { IsSome (find id (append lent.now.trees self.now.trees)) }
+        requires apart { (i : ℕ) → 0 < count i self.now.trees → lent.now.next ≤ i }
+        ensures { IsTrue result ↔ (self.now.next + size (pick id (append lent.now.trees self.now.trees)) ≤ 2 ^ 62) }
+    {
+        lent.facts();
         let room = LIMIT - self.next;
-        // The whole tree is counted only where the identities run out.
-        self.nodes <= room || walk::count(&self.rows, &[id], self.next) <= room
+        if lent.has(id) {
+            lent.is_within(id, room)
+        } else {
+            self.is_within(id, room)
+        }
+    }
+
+    /// Makes a copy of the tree of a node of this forest or of a lent one, with no parent, as `copy` does. The identities of this forest's nodes come after all of the lent one's.
+    pub(super) fn copy_from(
+        &mut self,
+        alloc: Global,
+        lent: &Forest,
+        id: NodeId,
+    ) -> Result<NodeId, MakeFault>
+        requires has { IsSome (find id (append lent.now.trees self.old.trees)) }
+        requires later { lent.now.next ≤ self.old.next }
+        requires apart { (i : ℕ) → 0 < count i self.old.trees → lent.now.next ≤ i }
+        ensures made { IfOk result
+            (λ i. (i ≡ self.old.next)
+            × (self.new
+            ≡ record self.old {
+              trees = append self.old.trees (renumbered self.old.next (pick id (append lent.now.trees self.old.trees)));
+              next = self.old.next + size (pick id (append lent.now.trees self.old.trees));
+            })) }
+        ensures limit { IsErrOf result MakeFault.Limit ↔ (2 ^ 62 < self.old.next + size (pick id (append lent.now.trees self.old.trees))) }
+        ensures refused { OnErr result (self.new ≡ self.old) }
+    {
+        if !self.has_room(lent, id) {
+            return Err(MakeFault::Limit);
+        }
+        let first = self.next;
+        let mut next = first;
+        match copy::copy_all(
+            &lent.rows,
+            &mut self.rows,
+            alloc,
+            &[id],
+            None,
+            first,
+            &mut next,
+        ) {
+            Ok(_) => {
+                self.nodes += next - first;
+                self.next = next;
+                Ok(NodeId::new(first))
+            }
+            Err(_) => {
+                copy::remove_range(&mut self.rows, first, next);
+                Err(MakeFault::Memory)
+            }
+        }
     }
 
     /// Makes a copy of the tree of a node, with no parent. Its nodes take the identities from the next one on, in document order.
@@ -432,20 +504,42 @@ impl Forest {
         ensures limit { IsErrOf result MakeFault.Limit ↔ (2 ^ 62 < self.old.next + size (pick id self.old.trees)) }
         ensures refused { OnErr result (self.new ≡ self.old) }
     {
-        if !self.has_room(id) {
-            return Err(MakeFault::Limit);
-        }
-        let first = self.next;
-        let mut next = first;
-        match copy::copy_all(&mut self.rows, alloc, &[id], None, first, &mut next) {
+        self.copy_from(alloc, &Forest::empty(alloc, NodeId::new(0)), id)
+    }
+
+    /// The tree of a node as one of its own, with the same identities.
+    pub fn tree(&self, alloc: Global, id: NodeId) -> Result<Tree, AllocError>
+        requires { IsSome (find id self.now.trees) }
+        ensures { IfOk result (λ t. trees_of_tree t ≡ pick id self.now.trees) }
+    {
+        let mut trees = tree::trees_of(&self.rows, alloc, &[id], self.next)?;
+        Ok(trees.remove(0))
+    }
+
+    /// Makes a tree of its own a tree of the forest, with no parent and with the identities that it has, before the trees of larger ones.
+    ///
+    /// The next identity comes after all of them. Where memory is refused, all stays as it was.
+    pub fn plant(&mut self, alloc: Global, tree: &Tree) -> Result<(), AllocError>
+        requires distinct { (i : ℕ) → count i (append self.old.trees (trees_of_tree tree.now)) ≤ 1 }
+        requires below { (i : ℕ) → 0 < count i (trees_of_tree tree.now) → i < 2 ^ 62 }
+        ensures planted { OnOk result
+            (self.new
+            ≡ record self.old {
+              trees = ranked tree.now.content.identity (trees_of_tree tree.now) self.old.trees;
+              next = max self.old.next (past (trees_of_tree tree.now));
+            }) }
+        ensures refused { OnErr result (self.new ≡ self.old) }
+    {
+        let trees = slice::from_ref(tree);
+        match plant::plant_all(&mut self.rows, alloc, trees, None) {
             Ok(_) => {
-                self.nodes += next - first;
-                self.next = next;
-                Ok(NodeId::new(first))
+                self.nodes += plant::count_all(trees);
+                self.next = plant::larger(self.next, plant::past_all(trees));
+                Ok(())
             }
             Err(_) => {
-                copy::remove_range(&mut self.rows, first, next);
-                Err(MakeFault::Memory)
+                plant::remove_all(&mut self.rows, trees);
+                Err(AllocError)
             }
         }
     }

@@ -3,15 +3,23 @@
 //! Contracts speak of nested trees alone (`specs/Trees.antt`); nothing outside this crate sees the table.
 #![tactic(auto)]
 
+mod axis;
 mod copy;
 mod forest;
+pub mod laws;
 mod names;
 mod node;
+mod plant;
+mod shelf;
 mod table;
 #[cfg(test)]
 mod tests;
+mod tree;
 mod walk;
 
+pub use axis::Axis;
 pub use forest::{Forest, MakeFault};
 pub use names::{Names, NamesFault};
 pub use node::{Content, Kind, NodeId};
+pub use shelf::Shelf;
+pub use tree::Tree;

@@ -4,8 +4,8 @@ use Rattle.values.specs.declared.code.Code.{Code}
 use Rattle.values.specs.declared.code.Code.TheVariants.{XPTY0004, FOAR0001, FOAR0002, FORG0001}
 use Rattle.values.specs.declared.atom.Atom.{Atom}
 use Rattle.values.specs.declared.atom.Atom.TheVariants.{String, Boolean, Untyped, Integer}
-use Rattle.values.specs.declared.arithmetic.Operator.{Operator}
-use Rattle.values.specs.declared.arithmetic.Operator.TheVariants as o
+use Rattle.values.specs.declared.operators.Operator.{Operator}
+use Rattle.values.specs.declared.operators.Operator.TheVariants as o
 use Rattle.values.specs.Readings.{integer_of}
 use Rattle.values.specs.Atoms.{◌>>=◌, or_fault, is_zero}
 

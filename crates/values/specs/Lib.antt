@@ -4,3 +4,6 @@ pub mod Atoms
 pub mod Comparisons
 pub mod Arithmetic
 pub mod Printing
+pub mod Items
+pub mod Inside
+pub mod Examples

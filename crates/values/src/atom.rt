@@ -1,10 +1,24 @@
 //! Atomic values and items.
 
+ghost use Rattle.std.specs.Prelude.{◌≡◌, Ok, Err, IfOk, IfErr, IsSome};
+ghost use Rattle.trees.specs.Shelf.{shelf_trees};
+ghost use Rattle.trees.specs.Trees.{find};
+ghost use Rattle.values.specs.declared.code.Code.{Code};
+ghost use Rattle.values.specs.declared.fault.ValueFault.{ValueFault};
+ghost use Rattle.values.specs.Atoms.{typed, typed_at, atom_of, atomized, atom_truth, truth};
+ghost use Rattle.values.specs.Items.{IsThere, AreThere};
+
+use super::code::Code;
+use super::fault::ValueFault;
 use super::text::Text;
-use trees::NodeId;
+use std::alloc::Global;
+use trees::{Kind, NodeId, Shelf};
+
+/// The bytes that a string has at most in an evaluation.
+const MAX_BYTES: usize = 65_536;
 
 /// An atomic value, of one of the four types that there are (XQuery 1.0 and XPath 2.0 Data Model, section 2.7).
-#[derive(Drop)]
+#[derive(Clone, Drop)]
 pub enum Atom {
     /// xs:string.
     String(Text),
@@ -23,4 +37,76 @@ pub enum Item {
     Node(NodeId),
     /// An atomic value.
     Atomic(Atom),
+}
+
+/// The typed values of items, from the left (XQuery 1.0, section 2.4.2). Faults: `Memory`; `Code` with PXQ0002 where the string
+/// value of a node is longer than 65,536 bytes.
+pub fn atomize(alloc: Global, shelf: &Shelf, items: &[Item]) -> Result<Vec<Atom>, ValueFault>
+    requires there { AreThere (shelf_trees shelf.now) items.now }
+    ensures atoms { IfOk result (λ v. atomized (shelf_trees shelf.now) items.now ≡ Ok v.items) }
+    ensures code { IfErr result (λ fault. (code : Code) → fault ≡ ValueFault.Code code → atomized (shelf_trees shelf.now) items.now ≡ Err code) }
+{
+    let mut atoms = Vec::new(alloc);
+    for item in items {
+        atoms.push(atomize_item(alloc, shelf, item)?)?;
+    }
+    Ok(atoms)
+}
+
+/// The typed value of one item, with the same faults.
+fn atomize_item(alloc: Global, shelf: &Shelf, item: &Item) -> Result<Atom, ValueFault>
+    requires there { IsThere (shelf_trees shelf.now) item.now }
+    ensures atom { IfOk result (λ a. atom_of (shelf_trees shelf.now) item.now ≡ Ok a) }
+    ensures code { IfErr result (λ fault. (code : Code) → fault ≡ ValueFault.Code code → atom_of (shelf_trees shelf.now) item.now ≡ Err code) }
+{
+    match item {
+        Item::Node(id) => typed_value(alloc, shelf, *id),
+        Item::Atomic(atom) => Ok(atom.clone()?),
+    }
+}
+
+/// The typed value of a node, which is made of its string value, with the same faults.
+fn typed_value(alloc: Global, shelf: &Shelf, id: NodeId) -> Result<Atom, ValueFault>
+    requires there { IsSome (find id (shelf_trees shelf.now)) }
+    ensures atom { IfOk result (λ a. typed_at (find id (shelf_trees shelf.now)) ≡ Ok a) }
+    ensures code { IfErr result (λ fault. (code : Code) → fault ≡ ValueFault.Code code → typed_at (find id (shelf_trees shelf.now)) ≡ Err code) }
+{
+    let text = shelf.string_value(alloc, id)?;
+    if text.len() > MAX_BYTES {
+        return Err(ValueFault::Code(Code::PXQ0002));
+    }
+    Ok(typed(shelf.kind(id), Text::new(text)))
+}
+
+/// The typed value of a node of that kind, with that string value (Data Model, sections 6.1.2 to 6.7.2).
+fn typed(kind: Kind, text: Text) -> Atom
+    ensures { result ≡ typed kind text }
+{
+    match kind {
+        Kind::Document | Kind::Element | Kind::Attribute | Kind::Text => Atom::Untyped(text),
+        Kind::Comment | Kind::Instruction => Atom::String(text),
+    }
+}
+
+/// The effective boolean value of items (XQuery 1.0, section 2.4.3). Code: FORG0006 where the first of several is an atomic value.
+pub fn truth(items: &[Item]) -> Result<bool, Code>
+    ensures { result ≡ truth items.now }
+{
+    match items {
+        [] => Ok(false),
+        [Item::Node(_), ..] => Ok(true),
+        [Item::Atomic(atom)] => Ok(atom_truth(atom)),
+        _ => Err(Code::FORG0006),
+    }
+}
+
+/// The effective boolean value of one atomic value.
+fn atom_truth(atom: &Atom) -> bool
+    ensures { result ≡ atom_truth atom.now }
+{
+    match atom {
+        Atom::String(text) | Atom::Untyped(text) => !text.as_str().is_empty(),
+        Atom::Boolean(value) => *value,
+        Atom::Integer(integer) => *integer != 0,
+    }
 }

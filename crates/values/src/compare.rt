@@ -1,5 +1,14 @@
 //! Comparisons of atomic values (XQuery 1.0, section 3.5).
 
+ghost use Rattle.std.specs.Prelude.{◌≡◌, ◌-◌, nat_le, if◌then◌else◌, Ok, Err, map};
+ghost use Rattle.values.specs.declared.code.Code.TheVariants.{PXQ0002};
+ghost use Rattle.values.specs.Comparisons.{holds, string_cmp, same_type_cmp, as_string, if_comparable, pair_compared, pairs_compared, decided, tried, value_compared, general_compared};
+
+use super::atom::Atom;
+use super::code::Code;
+use super::readings::{cast_boolean, cast_integer};
+use std::cmp::Ordering;
+
 /// The comparisons that value comparisons (`eq`, `ne`, ..) and general comparisons (`=`, `!=`, ..) make.
 #[derive(Clone, Copy, PartialEq, Eq, Debug)]
 pub enum Comparison {
@@ -15,4 +24,129 @@ pub enum Comparison {
     Greater,
     /// `ge` and `>=`.
     GreaterOrEqual,
+}
+
+impl Comparison {
+    /// Whether the comparison holds of two values in that order.
+    fn holds(self, order: Ordering) -> bool
+        ensures { result ≡ holds self order }
+    {
+        match self {
+            Comparison::Equal => order.is_eq(),
+            Comparison::NotEqual => order.is_ne(),
+            Comparison::Less => order.is_lt(),
+            Comparison::LessOrEqual => order.is_le(),
+            Comparison::Greater => order.is_gt(),
+            Comparison::GreaterOrEqual => order.is_ge(),
+        }
+    }
+}
+
+/// The order of two texts by code points (Functions and Operators, section 7.3.1).
+fn compare_text(left: &str, right: &str) -> Ordering
+    ensures { result ≡ string_cmp left.now right.now }
+{
+    left.chars().cmp(right.chars())
+}
+
+/// The order of two values of one type, where untyped is a string; `None` where they are of different types.
+fn compare_atoms(left: &Atom, right: &Atom) -> Option<Ordering>
+    ensures { result ≡ same_type_cmp (as_string left.now) (as_string right.now) }
+{
+    match (left, right) {
+        (Atom::Boolean(left), Atom::Boolean(right)) => Some(left.cmp(right)),
+        (Atom::Integer(left), Atom::Integer(right)) => Some(left.cmp(right)),
+        (Atom::String(left) | Atom::Untyped(left), Atom::String(right) | Atom::Untyped(right)) => {
+            Some(compare_text(left.as_str(), right.as_str()))
+        }
+        _ => None,
+    }
+}
+
+/// Whether a comparison holds of two values in that order. Code: XPTY0004 where they have none.
+fn holds_of(op: Comparison, order: Option<Ordering>) -> Result<bool, Code>
+    ensures { result ≡ if_comparable op order }
+{
+    match order {
+        Some(order) => Ok(op.holds(order)),
+        None => Err(Code::XPTY0004),
+    }
+}
+
+/// A value comparison of two sequences of atomic values; `None` where one is empty (XQuery 1.0, section 3.5.1). Code: XPTY0004
+/// where there is more than one value on a side, or the two are of different types; untyped is a string.
+pub fn compare_value(op: Comparison, left: &[Atom], right: &[Atom]) -> Result<Option<bool>, Code>
+    ensures { result ≡ value_compared op left.now right.now }
+{
+    if left.len() > 1 || right.len() > 1 {
+        return Err(Code::XPTY0004);
+    }
+    match (left, right) {
+        ([left, ..], [right, ..]) => Ok(Some(holds_of(op, compare_atoms(left, right))?)),
+        _ => Ok(None),
+    }
+}
+
+/// One pair of a general comparison: an untyped value is read as the type of the other one, and beside an untyped one as a
+/// string. Codes: FORG0001 where it doesn't read as that type; XPTY0004 where the two are of different types.
+fn compare_pair(op: Comparison, left: &Atom, right: &Atom) -> Result<bool, Code>
+    ensures { result ≡ pair_compared op left.now right.now }
+{
+    match (left, right) {
+        (Atom::Untyped(left), Atom::Integer(right)) => {
+            Ok(op.holds(cast_integer(left.as_str())?.cmp(right)))
+        }
+        (Atom::Integer(left), Atom::Untyped(right)) => {
+            Ok(op.holds(left.cmp(&cast_integer(right.as_str())?)))
+        }
+        (Atom::Untyped(left), Atom::Boolean(right)) => {
+            Ok(op.holds(cast_boolean(left.as_str())?.cmp(right)))
+        }
+        (Atom::Boolean(left), Atom::Untyped(right)) => {
+            Ok(op.holds(left.cmp(&cast_boolean(right.as_str())?)))
+        }
+        _ => holds_of(op, compare_atoms(left, right)),
+    }
+}
+
+/// One value of a general comparison's left side with each of the right side, as long as there are turns.
+fn compare_with_each(
+    op: Comparison,
+    left: &Atom,
+    right: &[Atom],
+    turns: &mut u64,
+) -> Result<bool, Code>
+    ensures compared { let pairs = map (pair_compared op left.now) right.now in result ≡ (if nat_le (tried pairs) turns.old then decided pairs else Err PXQ0002) }
+    ensures turns { turns.new ≡ turns.old - tried (map (pair_compared op left.now) right.now) }
+{
+    for other in right {
+        if *turns == 0 {
+            return Err(Code::PXQ0002);
+        }
+        *turns -= 1;
+        if compare_pair(op, left, other)? {
+            return Ok(true);
+        }
+    }
+    Ok(false)
+}
+
+/// A general comparison of two sequences of atomic values: whether it holds of some pair, the left value first (XQuery 1.0,
+/// section 3.5.2). Each pair that is tried takes one of the turns. Codes: that of the first pair that has one, if none before it
+/// holds; PXQ0002 where more pairs would be tried than there are turns, which are then 0.
+pub fn compare_general(
+    op: Comparison,
+    left: &[Atom],
+    right: &[Atom],
+    turns: &mut u64,
+) -> Result<bool, Code>
+    ensures compared { result ≡ general_compared op left.now right.now turns.old }
+    ensures turns { turns.new ≡ turns.old - tried (pairs_compared op left.now right.now) }
+{
+    for value in left {
+        if compare_with_each(op, value, right, turns)? {
+            return Ok(true);
+        }
+    }
+    Ok(false)
 }

@@ -1,14 +1,24 @@
 //! Atomic values and items, what compares and computes with them, their printed text, and the codes of all faults.
 #![tactic(auto)]
 
-mod arithmetic;
 mod atom;
 mod code;
 mod compare;
+mod fault;
+mod laws;
+mod operators;
+mod print;
+mod readings;
+#[cfg(test)]
+mod tests;
 mod text;
 
-pub use arithmetic::Operator;
-pub use atom::{Atom, Item};
+pub use atom::{Atom, Item, atomize, truth};
 pub use code::Code;
-pub use compare::Comparison;
+pub use compare::{Comparison, compare_general, compare_value};
+pub use fault::ValueFault;
+pub use laws::examples;
+pub use operators::{Operator, arithmetic, integer_operands};
+pub use print::item_text;
+pub use readings::{read_boolean, read_integer};
 pub use text::Text;

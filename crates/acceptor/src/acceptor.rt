@@ -1,0 +1,302 @@
+//! One acceptor ("Paxos Made Simple", sections 2.2 and 2.5) over any records.
+
+ghost use Rattle.std.specs.Prelude.{◌≡◌, ◌⊎◌, ◌≤◌, ◌↔◌, true, false, IfOk, IfErr, IsOk, OnOk, OnErr, IsErrOf, option_map};
+ghost use Rattle.ballots.specs.Ballot.{IsBallot, below};
+ghost use Rattle.ballots.specs.Values.{positions};
+ghost use Rattle.ballots.specs.Messages.{window_of};
+ghost use Rattle.paxos.specs.Records.{Record as RecordTerm, NewPromise, writes, written};
+ghost use Rattle.acceptor.specs.Kept.{IsRising};
+ghost use Rattle.acceptor.specs.Law.{Counts, Puts};
+ghost use Rattle.acceptor.specs.Drafts.{IsDue, IsRefused, write_of};
+ghost use Rattle.acceptor.specs.Steps.{Took, Stopped, IsAsWas, on_prepare_writes, on_prepare_answers, on_accept_writes, on_accept_answers};
+
+use super::draft::{Draft, Write};
+use super::kept::Record;
+use super::records::{Records, RecordsFault};
+use ballots::{Ballot, Vote, Window};
+use std::alloc::Global;
+use std::marker::Model;
+
+/// An acceptor: it answers only what its records have acknowledged.
+///
+/// Once the store has failed, what stands there is unknown: the acceptor has stopped, and each call that may write answers
+/// `RecordsFault::Store`, until its records are opened again.
+#[derive(Drop)]
+pub struct Acceptor<R: Records + Drop> {
+    records: R,
+    kept: Record,
+    is_stopped: bool,
+}
+
+impl<R: Records + Drop> Model for Acceptor<R> {
+    ghost use Rattle.std.specs.Prelude.{◌≡◌, false};
+    ghost use Rattle.acceptor.specs.Steps.{Acceptor as AcceptorTerm};
+
+    ghost Value = { AcceptorTerm R };
+
+    ghost view = { λ a. record { records = a.records; kept = a.kept; is_stopped = a.is_stopped } };
+
+    ghost invariant = { λ a. a.is_stopped ≡ false → R.is_kept a.records → R.stands a.records a.kept a.kept };
+}
+
+impl<R: Records + Drop> Acceptor<R> {
+    /// Opens records: what they keep, the acceptor has promised and accepted. A refusal gives them back, as they were.
+    pub fn open(alloc: Global, records: R) -> Result<Acceptor<R>, (RecordsFault, R)>
+        ensures running { IfOk result (λ a. a.is_stopped ≡ false) }
+        ensures loaded { IfOk result (λ a. R.is_kept a.records → (x y : RecordTerm) → R.stands records x y → (a.kept ≡ x) ⊎ (a.kept ≡ y)) }
+        ensures stands { IfOk result (λ a. R.is_kept a.records → R.stands a.records a.kept a.kept) }
+        ensures kept { IfOk result (λ a. R.is_kept a.records → R.is_kept records) }
+        ensures counts { IfOk result (λ a. R.failed a.records ≡ R.failed records) }
+        ensures refused { IfErr result (λ e. IsRefused R.stands R.is_kept R.failed records e.1 e.0) }
+    {
+        let mut records = records;
+        match records.load(alloc) {
+            Ok(kept) => Ok(Acceptor {
+                records,
+                kept,
+                is_stopped: false,
+            }),
+            Err(fault) => Err((fault, records)),
+        }
+    }
+
+    /// The highest ballot that it has promised, `Ballot::NONE` if there is none.
+    pub fn promised(&self) -> Ballot
+        ensures promise { result ≡ self.now.kept.promise }
+        ensures rising { IsRising self.now.kept }
+    {
+        self.kept.promise()
+    }
+
+    /// Promises a ballot of its own, above the promise ("Paxos Made Simple", section 2.5: what a proposer has tried outlives stops).
+    ///
+    /// Faults: memory was refused, and nothing has changed; the store failed, now or before, and the acceptor has stopped.
+    pub fn on_begin(&mut self, alloc: Global, ballot: Ballot) -> Result<(), RecordsFault>
+        requires ballot { IsBallot ballot }
+        requires above { below self.old.kept.promise ballot ≡ true }
+        ensures took { OnOk result (Took self.old self.new (NewPromise ballot)) }
+        ensures memory { IsErrOf result RecordsFault.Memory → IsAsWas R.failed self.old self.new }
+        ensures store { IsErrOf result RecordsFault.Store → Stopped R.stands R.is_kept R.failed self.old self.new (NewPromise ballot) }
+        ensures stopped { self.old.is_stopped ≡ true → IsErrOf result RecordsFault.Store }
+        ensures kept { R.is_kept self.new.records → R.is_kept self.old.records }
+    {
+        let draft = self.draft_begin(ballot)?;
+        self.commit(alloc, draft)
+    }
+
+    /// Answers a Prepare: nothing below the promise, else the votes from a position on, at most 8. A ballot above the promise is
+    /// promised first.
+    ///
+    /// Faults: as of `on_begin`.
+    pub fn on_prepare(
+        &mut self,
+        alloc: Global,
+        ballot: Ballot,
+        from: u32,
+    ) -> Result<Option<Window>, RecordsFault>
+        requires ballot { IsBallot ballot }
+        ensures answer { IfOk result (λ o. option_map window_of o ≡ on_prepare_answers self.old.kept ballot from) }
+        ensures took { OnOk result (Took self.old self.new (on_prepare_writes self.old.kept ballot)) }
+        ensures memory { IsErrOf result RecordsFault.Memory → IsAsWas R.failed self.old self.new }
+        ensures store { IsErrOf result RecordsFault.Store → Stopped R.stands R.is_kept R.failed self.old self.new (on_prepare_writes self.old.kept ballot) }
+        ensures stopped { self.old.is_stopped ≡ true → IsErrOf result RecordsFault.Store }
+        ensures quiet { writes (on_prepare_writes self.old.kept ballot) ≡ false → self.new ≡ self.old }
+        ensures silent { below ballot self.old.kept.promise ≡ true → self.old.is_stopped ≡ false → IsOk result }
+        ensures kept { R.is_kept self.new.records → R.is_kept self.old.records }
+    {
+        let draft = self.draft_prepare(alloc, ballot, from)?;
+        self.commit(alloc, draft)
+    }
+
+    /// Answers an Accept: `false` below the promise, else `true`. The vote and the promise of its ballot are recorded first, in one
+    /// write, unless that very vote stands there.
+    ///
+    /// Faults: as of `on_begin`.
+    pub fn on_accept(
+        &mut self,
+        alloc: Global,
+        position: u32,
+        vote: &Vote,
+    ) -> Result<bool, RecordsFault>
+        requires ballot { IsBallot vote.now.ballot }
+        requires least { 1 ≤ position }
+        requires most { position ≤ positions }
+        ensures answer { IfOk result (λ yes. yes ≡ on_accept_answers self.old.kept vote.now) }
+        ensures took { OnOk result (Took self.old self.new (on_accept_writes self.old.kept position vote.now)) }
+        ensures memory { IsErrOf result RecordsFault.Memory → IsAsWas R.failed self.old self.new }
+        ensures store { IsErrOf result RecordsFault.Store → Stopped R.stands R.is_kept R.failed self.old self.new (on_accept_writes self.old.kept position vote.now) }
+        ensures stopped { self.old.is_stopped ≡ true → IsErrOf result RecordsFault.Store }
+        ensures quiet { writes (on_accept_writes self.old.kept position vote.now) ≡ false
+            → (self.new ≡ self.old) × (self.old.is_stopped ≡ false → IsOk result) }
+        ensures kept { R.is_kept self.new.records → R.is_kept self.old.records }
+    {
+        let draft = self.draft_accept(alloc, position, vote)?;
+        self.commit(alloc, draft)
+    }
+
+    /// What `on_begin` is about to write.
+    ///
+    /// Faults: the acceptor has stopped.
+    pub fn draft_begin(&self, ballot: Ballot) -> Result<Draft<()>, RecordsFault>
+        requires ballot { IsBallot ballot }
+        requires above { below self.now.kept.promise ballot ≡ true }
+        ensures write { IfOk result (λ d. d.write ≡ NewPromise ballot) }
+        ensures due { IfOk result (λ d. IsDue self.now.kept d.write) }
+        ensures running { OnOk result (self.now.is_stopped ≡ false) }
+        ensures stopped { OnErr result (self.now.is_stopped ≡ true) }
+        ensures fault { IfErr result (λ fault. fault ≡ RecordsFault.Store) }
+    {
+        if self.is_stopped {
+            return Err(RecordsFault::Store);
+        }
+        Ok(Draft {
+            answer: (),
+            write: Write::Promise(ballot),
+        })
+    }
+
+    /// What `on_prepare` is about to write and to answer.
+    ///
+    /// Faults: memory was refused; the acceptor has stopped.
+    pub fn draft_prepare(
+        &self,
+        alloc: Global,
+        ballot: Ballot,
+        from: u32,
+    ) -> Result<Draft<Option<Window>>, RecordsFault>
+        requires ballot { IsBallot ballot }
+        ensures answer { IfOk result (λ d. option_map window_of d.answer ≡ on_prepare_answers self.now.kept ballot from) }
+        ensures write { IfOk result (λ d. d.write ≡ on_prepare_writes self.now.kept ballot) }
+        ensures due { IfOk result (λ d. IsDue self.now.kept d.write) }
+        ensures running { OnOk result (self.now.is_stopped ≡ false) }
+        ensures stopped { IsErrOf result RecordsFault.Store ↔ (self.now.is_stopped ≡ true) }
+        ensures silent { below ballot self.now.kept.promise ≡ true → self.now.is_stopped ≡ false → IsOk result }
+    {
+        if self.is_stopped {
+            return Err(RecordsFault::Store);
+        }
+        let promise = self.promised();
+        if ballot.is_below(promise) {
+            return Ok(Draft {
+                answer: None,
+                write: Write::Nothing,
+            });
+        }
+        let Ok(window) = self.kept.window(alloc, ballot, from) else {
+            return Err(RecordsFault::Memory);
+        };
+        let write = if promise.is_below(ballot) {
+            Write::Promise(ballot)
+        } else {
+            Write::Nothing
+        };
+        Ok(Draft {
+            answer: Some(window),
+            write,
+        })
+    }
+
+    /// What `on_accept` is about to write and to answer, with room for the vote. Nothing that shows has changed.
+    ///
+    /// Faults: memory was refused; the acceptor has stopped.
+    pub fn draft_accept(
+        &mut self,
+        alloc: Global,
+        position: u32,
+        vote: &Vote,
+    ) -> Result<Draft<bool>, RecordsFault>
+        requires ballot { IsBallot vote.now.ballot }
+        requires least { 1 ≤ position }
+        requires most { position ≤ positions }
+        ensures answer { IfOk result (λ d. d.answer ≡ on_accept_answers self.old.kept vote.now) }
+        ensures write { IfOk result (λ d. d.write ≡ on_accept_writes self.old.kept position vote.now) }
+        ensures due { IfOk result (λ d. IsDue self.old.kept d.write) }
+        ensures same { self.new ≡ self.old }
+        ensures running { OnOk result (self.old.is_stopped ≡ false) }
+        ensures stopped { IsErrOf result RecordsFault.Store ↔ (self.old.is_stopped ≡ true) }
+        ensures quiet { writes (on_accept_writes self.old.kept position vote.now) ≡ false → self.old.is_stopped ≡ false → IsOk result }
+    {
+        if self.is_stopped {
+            return Err(RecordsFault::Store);
+        }
+        if vote.ballot.is_below(self.promised()) {
+            return Ok(Draft {
+                answer: false,
+                write: Write::Nothing,
+            });
+        }
+        if self.kept.has_vote(position, vote) {
+            return Ok(Draft {
+                answer: true,
+                write: Write::Nothing,
+            });
+        }
+        let Ok(copy) = vote.clone() else {
+            return Err(RecordsFault::Memory);
+        };
+        if self.kept.reserve(position).is_err() {
+            return Err(RecordsFault::Memory);
+        }
+        Ok(Draft {
+            answer: true,
+            write: Write::Vote(position, copy),
+        })
+    }
+
+    /// Makes what was drafted for this very acceptor, which has not changed since, and gives the answer.
+    ///
+    /// It takes no memory but what its records take. Faults: as of `on_begin`.
+    pub fn commit<A: Drop>(&mut self, alloc: Global, draft: Draft<A>) -> Result<A, RecordsFault>
+        requires due { IsDue self.old.kept draft.write }
+        ensures answer { IfOk result (λ a. a ≡ draft.answer) }
+        ensures took { OnOk result (Took self.old self.new draft.write) }
+        ensures memory { IsErrOf result RecordsFault.Memory → IsAsWas R.failed self.old self.new }
+        ensures store { IsErrOf result RecordsFault.Store → Stopped R.stands R.is_kept R.failed self.old self.new draft.write }
+        ensures stopped { self.old.is_stopped ≡ true → IsErrOf result RecordsFault.Store }
+        ensures quiet { writes draft.write ≡ false → (self.new ≡ self.old) × (self.old.is_stopped ≡ false → IsOk result) }
+        ensures kept { R.is_kept self.new.records → R.is_kept self.old.records }
+    {
+        if self.is_stopped {
+            return Err(RecordsFault::Store);
+        }
+        let Draft { answer, write } = draft;
+        match make(alloc, &mut self.records, &mut self.kept, write) {
+            Ok(()) => Ok(answer),
+            Err(RecordsFault::Memory) => Err(RecordsFault::Memory),
+            Err(RecordsFault::Store) => {
+                self.is_stopped = true;
+                Err(RecordsFault::Store)
+            }
+        }
+    }
+
+    /// The records, as they were left.
+    pub fn into_records(self) -> R
+        ensures { result ≡ self.records }
+    {
+        self.records
+    }
+}
+
+/// Makes a write, and then the same change of the record.
+fn make<R: Records>(
+    alloc: Global,
+    records: &mut R,
+    kept: &mut Record,
+    write: Write,
+) -> Result<(), RecordsFault>
+    requires due { IsDue kept.old (write_of write) }
+    requires stands { R.is_kept records.old → R.stands records.old kept.old kept.old }
+    ensures made { OnOk result (kept.new ≡ written (write_of write) kept.old) }
+    ensures refused { OnErr result (kept.new ≡ kept.old) }
+    ensures law { R.is_kept records.new → Puts (R.stands records.new) kept.old (written (write_of write) kept.old) result }
+    ensures kept { R.is_kept records.new → R.is_kept records.old }
+    ensures counts { Counts (R.failed records.old) (R.failed records.new) result }
+    ensures quiet { writes (write_of write) ≡ false → IsOk result × (records.new ≡ records.old) }
+{
+    match write {
+        Write::Nothing => Ok(()),
+        Write::Promise(ballot) => kept.put_promise(alloc, records, ballot),
+        Write::Vote(position, vote) => kept.put_vote(alloc, records, position, vote),
+    }
+}

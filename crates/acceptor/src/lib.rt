@@ -1,0 +1,19 @@
+//! One acceptor, over any store for its record.
+#![tactic(auto)]
+
+mod acceptor;
+mod draft;
+mod kept;
+mod memory;
+mod records;
+mod script;
+mod slots;
+#[cfg(test)]
+mod tests;
+
+pub use acceptor::Acceptor;
+pub use draft::Draft;
+pub use kept::Record;
+pub use memory::MemRecords;
+pub use records::{Records, RecordsFault};
+pub use script::ScriptRecords;

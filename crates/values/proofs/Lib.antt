@@ -1,0 +1,7 @@
+pub mod Trims
+pub mod Numbers
+pub mod Pairs
+pub mod Atomized
+pub mod Escapes
+pub mod Parts
+pub mod Constructors
