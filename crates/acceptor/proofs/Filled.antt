@@ -176,15 +176,6 @@ since_filled p from (s ∷ ss) h = by_test (since_filled s.0 from ss h.1) (ltb f
     by_test rest false true g e = let l = eqb-true from s.0 e in here rest s.1 (omega arith)
     by_test rest false false g e = before s.1 (omega (arith, ltb-false from s.0 g, eqb-false from s.0 e)) ∙ rest
 
--- the votes of slots one after another
-pub filled_append : (ss ts : List Slot) → filled (ss ++ ts) ≡ filled ss ++ filled ts
-filled_append [] ts = refl
-filled_append (s ∷ ss) ts = by_vote (filled_append ss ts) s.1
-  where
-    by_vote : filled (ss ++ ts) ≡ filled ss ++ filled ts → (o : Option Vote) → with_slot s.0 o (filled (ss ++ ts)) ≡ with_slot s.0 o (filled ss) ++ filled ts
-    by_vote rest None = rest
-    by_vote rest (Some v) = ap (λ es. record { position = s.0; vote = v } ∷ es) rest
-
 -- where there are no more votes than were asked for, they are all that there is
 pub covered_all : (k : ℕ) (es : List Entry) → length es ≤ suc k → covered_by (suc k) es ≡ positions
 covered_all zero [] h = refl

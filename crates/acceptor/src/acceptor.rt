@@ -41,7 +41,7 @@ impl<R: Records + Drop> Model for Acceptor<R> {
 
 impl<R: Records + Drop> Acceptor<R> {
     /// Opens records: what they keep, the acceptor has promised and accepted. A refusal gives them back, as they were.
-    pub fn open(alloc: Global, records: R) -> Result<Acceptor<R>, (RecordsFault, R)>
+    pub fn open(alloc: Global, mut records: R) -> Result<Acceptor<R>, (RecordsFault, R)>
         ensures running { IfOk result (λ a. a.is_stopped ≡ false) }
         ensures loaded { IfOk result (λ a. R.is_kept a.records → (x y : RecordTerm) → R.stands records x y → (a.kept ≡ x) ⊎ (a.kept ≡ y)) }
         ensures stands { IfOk result (λ a. R.is_kept a.records → R.stands a.records a.kept a.kept) }
@@ -49,7 +49,6 @@ impl<R: Records + Drop> Acceptor<R> {
         ensures counts { IfOk result (λ a. R.failed a.records ≡ R.failed records) }
         ensures refused { IfErr result (λ e. IsRefused R.stands R.is_kept R.failed records e.1 e.0) }
     {
-        let mut records = records;
         match records.load(alloc) {
             Ok(kept) => Ok(Acceptor {
                 records,

@@ -124,6 +124,7 @@ impl Records for ScriptRecords {
         ensures kept { IsKept self.new → IsKept self.old }
         ensures counts { Counts self.old.failures self.new.failures result }
         ensures script { GoesBy self.old (NewPromise ballot) self.new result }
+        ensures sure { IfErr result (λ fault. fault ≡ RecordsFault.Store) }
     {
         let fate = self.next_fate();
         if fate.unwrap_or(true) {

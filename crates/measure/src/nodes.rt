@@ -2,10 +2,11 @@
 
 ghost use Rattle.std.specs.Prelude.{IsSome};
 ghost use Rattle.trees.specs.Trees.{find};
-ghost use Rattle.trees.specs.Shelf.{shelf_trees};
+ghost use Rattle.shelves.specs.Shelf.{shelf_trees};
 
+use shelves::Shelf;
 use std::alloc::Global;
-use trees::{Content, Forest, Kind, Names, NodeId, Shelf};
+use trees::{Content, Forest, Kind, Names, NodeId};
 use values::{Atom, Comparison, Item, Text, atomize, compare_general, item_text};
 
 /// The bytes of each text.

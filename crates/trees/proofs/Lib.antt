@@ -17,7 +17,6 @@ pub mod Moves
 pub mod Copies
 pub mod CallerLemmas
 pub mod Lent
-pub mod Shelves
 pub mod Axes
 pub mod Nests
 pub mod Plants

@@ -6,11 +6,9 @@ pub mod Tidy
 pub mod Forest
 pub mod Tree
 pub mod Planted
-pub mod Shelf
 pub mod Axes
 pub mod Names
 pub mod Walks
 pub mod Flat
 pub mod Inside
-pub mod Within
 pub mod Nested

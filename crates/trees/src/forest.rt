@@ -64,7 +64,7 @@ pub enum MakeFault {
 
 impl Forest {
     /// A forest with no nodes, whose first node takes the identity `next`.
-    pub(super) fn empty(alloc: Global, next: NodeId) -> Forest
+    pub fn empty(alloc: Global, next: NodeId) -> Forest
         requires { next ≤ 2 ^ 62 }
         ensures { result ≡ record { trees = no_trees; documents = []; next = next } }
     {
@@ -217,7 +217,7 @@ impl Forest {
     }
 
     /// There are at most as many nodes as the next identity's number, which is at most 2^62. It does nothing.
-    pub(super) fn bounds(&self)
+    pub fn bounds(&self)
         ensures few { size self.now.trees ≤ self.now.next }
         ensures bound { self.now.next ≤ 2 ^ 62 }
     {
@@ -444,7 +444,7 @@ impl Forest {
     }
 
     /// Makes a copy of the tree of a node of this forest or of a lent one, with no parent, as `copy` does. The identities of this forest's nodes come after all of the lent one's.
-    pub(super) fn copy_from(
+    pub fn copy_from(
         &mut self,
         alloc: Global,
         lent: &Forest,

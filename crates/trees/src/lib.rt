@@ -10,10 +10,7 @@ pub mod laws;
 mod names;
 mod node;
 mod plant;
-mod shelf;
 mod table;
-#[cfg(test)]
-mod tests;
 mod tree;
 mod walk;
 
@@ -21,5 +18,4 @@ pub use axis::Axis;
 pub use forest::{Forest, MakeFault};
 pub use names::{Names, NamesFault};
 pub use node::{Content, Kind, NodeId};
-pub use shelf::Shelf;
 pub use tree::Tree;

@@ -1,7 +1,7 @@
 //! Atomic values and items.
 
 ghost use Rattle.std.specs.Prelude.{◌≡◌, Ok, Err, IfOk, IfErr, IsSome};
-ghost use Rattle.trees.specs.Shelf.{shelf_trees};
+ghost use Rattle.shelves.specs.Shelf.{shelf_trees};
 ghost use Rattle.trees.specs.Trees.{find};
 ghost use Rattle.values.specs.declared.code.Code.{Code};
 ghost use Rattle.values.specs.declared.fault.ValueFault.{ValueFault};
@@ -11,8 +11,9 @@ ghost use Rattle.values.specs.Items.{IsThere, AreThere};
 use super::code::Code;
 use super::fault::ValueFault;
 use super::text::Text;
+use shelves::Shelf;
 use std::alloc::Global;
-use trees::{Kind, NodeId, Shelf};
+use trees::{Kind, NodeId};
 
 /// The bytes that a string has at most in an evaluation.
 const MAX_BYTES: usize = 65_536;

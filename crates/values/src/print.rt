@@ -6,12 +6,13 @@ ghost use Rattle.std.specs.Char.{encode_utf8};
 ghost use Rattle.values.specs.Printing.{escaped, literal, atom_text, place_text, item_text};
 ghost use Rattle.values.specs.Items.{IsThere};
 ghost use Rattle.values.specs.Inside.{opening, following, nothing};
-ghost use Rattle.trees.specs.Shelf.{shelf_trees};
+ghost use Rattle.shelves.specs.Shelf.{shelf_trees};
 ghost use Rattle.trees.specs.Trees.{find, count};
 
 use super::atom::{Atom, Item};
+use shelves::Shelf;
 use std::alloc::{AllocError, Global};
-use trees::{Kind, NodeId, Shelf};
+use trees::{Kind, NodeId};
 
 /// The text of an item: an expression that makes it again. An untyped value is printed as a string.
 pub fn item_text(alloc: Global, shelf: &Shelf, item: &Item) -> Result<String, AllocError>

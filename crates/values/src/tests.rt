@@ -1,16 +1,17 @@
 //! Rows of the rules, with answers from the standard and from our own choices in its place.
 
 ghost use Rattle.std.specs.Prelude.{◌≡◌, ◌≢◌, IsSome};
-ghost use Rattle.trees.specs.Shelf.{shelf_trees};
+ghost use Rattle.shelves.specs.Shelf.{shelf_trees};
 ghost use Rattle.trees.specs.Trees.{find};
 
 use crate::{
     Atom, Code, Comparison, Item, Operator, Text, ValueFault, arithmetic, atomize, compare_general,
     compare_value, integer_operands, item_text, read_boolean, read_integer, truth,
 };
+use shelves::Shelf;
 use std::alloc::{AllocError, Global};
 use std::test::Fail;
-use trees::{Forest, Kind, Names, NodeId, Shelf};
+use trees::{Forest, Kind, Names, NodeId};
 
 /// A string value.
 fn string(alloc: Global, text: &str) -> Result<Atom, AllocError> {

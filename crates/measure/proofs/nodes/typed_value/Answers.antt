@@ -1,7 +1,7 @@
 -- The one item is a node that is there.
 use Rattle.std.proofs.Common.{[]}
 use Rattle.std.proofs.lemmas.List.Elements.{All-nil, All-cons}
-use Rattle.trees.specs.Shelf.{shelf_trees}
+use Rattle.shelves.specs.Shelf.{shelf_trees}
 use Rattle.values.specs.Items.{IsThere}
 use Rattle.measure.proofs.nodes.typed_value.Goals as goal
 

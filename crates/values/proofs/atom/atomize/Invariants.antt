@@ -1,6 +1,6 @@
 -- The values so far, and then those of the items that are left, are all of them.
 use Rattle.std.proofs.Common.{◌≡◌, drop}
-use Rattle.trees.specs.Shelf.{shelf_trees}
+use Rattle.shelves.specs.Shelf.{shelf_trees}
 use Rattle.values.specs.Atoms.{atomized}
 use Rattle.values.proofs.Atomized.{after}
 use Rattle.values.proofs.atom.atomize.Given as goal

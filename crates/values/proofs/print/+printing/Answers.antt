@@ -1,7 +1,7 @@
 -- A node's text is made of its pieces.
 use Rattle.std.proofs.Common.{◌≡◌, ◌++◌, arith, refl, sym, ◌∙◌, string_bytes, codes, rules}
 use Rattle.trees.specs.Trees.{find, attributes_of, children_of}
-use Rattle.trees.specs.Shelf.{shelf_trees}
+use Rattle.shelves.specs.Shelf.{shelf_trees}
 use Rattle.values.specs.Printing.{place_text}
 use Rattle.values.proofs.Parts.{has-parts, inner-whole, leaf-whole}
 use Rattle.values.proofs.print.+printing.Goals as goal

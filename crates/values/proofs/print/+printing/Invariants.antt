@@ -1,6 +1,6 @@
 -- The texts so far, and then those that are left, are all of them; the trees of a node's parts are smaller than its own.
 use Rattle.std.proofs.Common.{◌≡◌, ◌++◌, ◌+◌, ◌*◌, map, drop, string_bytes, sum_by}
-use Rattle.trees.specs.Shelf.{shelf_trees}
+use Rattle.shelves.specs.Shelf.{shelf_trees}
 use Rattle.values.specs.Inside.{following}
 use Rattle.values.proofs.Parts.{text_in, size_in}
 use Rattle.values.proofs.print.+printing.Given as goal

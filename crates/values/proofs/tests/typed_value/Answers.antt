@@ -1,6 +1,6 @@
 -- The one item is a node that is there.
 use Rattle.std.proofs.lemmas.List.Elements.{All-nil, All-cons}
-use Rattle.trees.specs.Shelf.{shelf_trees}
+use Rattle.shelves.specs.Shelf.{shelf_trees}
 use Rattle.values.specs.Items.{IsThere}
 use Rattle.values.proofs.tests.typed_value.Goals as goal
 

@@ -1,0 +1,16 @@
+use Rattle.std.proofs.Common.{◌≡◌, sym, subst}
+use Rattle.trees.specs.Changes.{all_moved_below, CanAllMoveBelow}
+use Rattle.trees.specs.declared.node.Part.TheVariants.{Attributes}
+use Rattle.shelves.specs.Shelf.{ShelfTerm}
+use Rattle.shelves.proofs.Shelves.{after-either, after-weighed, count-all-moved}
+use Rattle.shelves.proofs.shelf.Shelf.put_attributes.Goals as goal
+
+pub invariant_of-self : goal.invariant_of-self
+invariant_of-self c =
+    let u = c.self.inside.lent.now in
+    let v = c.self.inside.own in
+    let w = c.put_attributes.new.self in
+    let ts = all_moved_below Attributes c.args.parent c.args.index c.args.nodes.now v.trees in
+    let P : ShelfTerm → Type 0 = λ s. CanAllMoveBelow Attributes c.args.parent c.args.index c.args.nodes.now s.own.trees in
+    let can = subst P (sym c.self.view_is) c.requires in
+    after-either c.put_attributes.result (λ _. w ≡ record v { trees = ts }) u v w c.self.invariant (λ _ made. after-weighed u v w ts c.self.invariant (count-all-moved Attributes c.args.parent c.args.index c.args.nodes.now v.trees c.facts.ensures.distinct can) made) c.put_attributes.ensures.put c.put_attributes.ensures.refused

@@ -1,0 +1,13 @@
+use Rattle.std.proofs.Common.{refl, string_bytes}
+use Rattle.trees.specs.Trees.{Content}
+use Rattle.trees.specs.Changes.{with_content}
+use Rattle.trees.specs.Flat.{with_name}
+use Rattle.trees.proofs.Contents.{SaysSame, weigh-with_content}
+use Rattle.shelves.proofs.Shelves.{after-weighed}
+use Rattle.shelves.proofs.shelf.Shelf.set_name.Goals as goal
+
+pub invariant_of-self : goal.invariant_of-self
+invariant_of-self c =
+    let says = λ (d : Content). record d { name = string_bytes c.args.name } in
+    let same : SaysSame says (with_name (string_bytes c.args.name)) = record { identity = λ d. refl; entry = λ d p bs cs. refl } in
+    after-weighed c.self.inside.lent.now c.self.inside.own c.set_name.new.self (with_content c.args.id says c.self.inside.own.trees) c.self.invariant (λ i. weigh-with_content says (with_name (string_bytes c.args.name)) same c.args.id _ c.self.inside.own.trees) c.set_name.ensures

@@ -1,0 +1,347 @@
+//! Shelves: a lent forest and an own one, seen as one.
+
+ghost use Rattle.std.specs.Prelude.{◌≡◌, ℕ, ◌+◌, ◌<◌, ◌≤◌, ◌^◌, ◌↔◌, Option, Some, None, IfOk, OnOk, OnErr, IfSome, IsErrOf, IsSome, List, [], is_some, string_bytes};
+ghost use Rattle.std.specs.Map.{lookup};
+ghost use Rattle.std.specs.Str.{bytes_eq};
+ghost use Rattle.trees.specs.Trees.{no_trees, append, leaf, find, size, children_of, attributes_of, parent_of, string_value_of, IsAt};
+ghost use Rattle.trees.specs.Changes.{with_content, taken_out, all_moved_below, CanAllMoveBelow, pick, renumbered};
+ghost use Rattle.trees.specs.declared.node.Part.TheVariants.{Attributes, Children};
+ghost use Rattle.trees.specs.Order.{precedes};
+ghost use Rattle.trees.specs.Forest.{IsDocument};
+ghost use Rattle.shelves.specs.Shelf.{ShelfTerm, shelf_trees, IsShelf};
+ghost use Rattle.trees.specs.Tree.{trees_of_tree};
+
+use std::alloc::{AllocError, Global};
+use std::marker::Model;
+use trees::{Forest, Kind, MakeFault, NodeId, Tree};
+
+/// A lent forest that stays as it is, and an own forest of the nodes that are made beside it, seen as one.
+///
+/// What evaluation makes stands in the own forest, whose identities come after all of the lent one's; it has no documents.
+#[derive(Drop)]
+pub struct Shelf<'a> {
+    lent: &'a Forest,
+    own: Forest,
+}
+
+impl<'a> Model for Shelf<'a> {
+    ghost use Rattle.shelves.specs.Shelf.{ShelfTerm, shelf_code};
+
+    ghost Value = { ShelfTerm };
+
+    ghost coded = { shelf_code };
+
+    ghost use Rattle.shelves.specs.Within.{shelf_of, IsSoundShelf};
+
+    ghost view = { shelf_of };
+
+    ghost invariant = { IsSoundShelf };
+}
+
+impl<'a> Shelf<'a> {
+    /// A shelf of a lent forest, with no nodes of its own. The first of them takes the lent forest's next identity.
+    pub fn new(alloc: Global, lent: &'a Forest) -> Shelf<'a>
+        ensures { result
+            ≡ record {
+              lent = lent.now;
+              own = record { trees = no_trees; documents = []; next = lent.now.next };
+            } }
+    {
+        lent.bounds();
+        Shelf {
+            lent,
+            own: Forest::empty(alloc, lent.next()),
+        }
+    }
+
+    /// The own forest, alone.
+    pub fn into_own(self) -> Forest
+        ensures { result ≡ self.entry.own }
+    {
+        let Shelf { own, .. } = self;
+        own
+    }
+
+    /// Identities are distinct and below the next one, both forests are sound, and the own identities come after the lent ones. It does nothing.
+    pub fn facts(&self)
+        ensures { IsShelf self.now }
+    {
+        self.lent.facts();
+        self.own.facts();
+    }
+
+    /// The document of that name, which is the lent forest's.
+    pub fn document(&self, name: &str) -> Option<NodeId>
+        ensures found { result ≡ lookup (λ key. bytes_eq name.now key) self.now.lent.documents }
+        ensures stands { IfSome result (IsDocument (shelf_trees self.now)) }
+        ensures sound { IsShelf self.now }
+    {
+        self.facts();
+        self.lent.document(name)
+    }
+
+    /// How many nodes there are, attributes and documents counted. It does not count them anew.
+    pub fn len(&self) -> u64
+        ensures { result ≡ size (shelf_trees self.now) }
+    {
+        self.lent.bounds();
+        self.own.bounds();
+        self.lent.len() + self.own.len()
+    }
+
+    /// The identity that the next node takes.
+    pub fn next(&self) -> NodeId
+        ensures { result ≡ self.now.own.next }
+    {
+        self.own.next()
+    }
+
+    /// Whether a node of that identity stands in either forest.
+    pub fn has(&self, id: NodeId) -> bool
+        ensures { result ≡ is_some (find id (shelf_trees self.now)) }
+    {
+        self.lent.has(id) || self.own.has(id)
+    }
+
+    /// Whether a node of that identity stands in the own forest.
+    pub fn is_own(&self, id: NodeId) -> bool
+        ensures { result ≡ is_some (find id self.now.own.trees) }
+    {
+        self.own.has(id)
+    }
+
+    /// The forest in which a node stands.
+    fn home(&self, id: NodeId) -> &Forest
+        requires { IsSome (find id (shelf_trees self.now)) }
+        ensures { find id result.now.trees ≡ find id (shelf_trees self.now) }
+    {
+        if self.lent.has(id) {
+            self.lent
+        } else {
+            &self.own
+        }
+    }
+
+    /// The kind of a node.
+    pub fn kind(&self, id: NodeId) -> Kind
+        requires { IsSome (find id (shelf_trees self.now)) }
+        ensures { IsAt (find id (shelf_trees self.now)) (λ c. result ≡ c.kind) }
+    {
+        self.home(id).kind(id)
+    }
+
+    /// The name of a node, empty where its kind has none.
+    pub fn name(&self, id: NodeId) -> &str
+        requires { IsSome (find id (shelf_trees self.now)) }
+        ensures { IsAt (find id (shelf_trees self.now)) (λ c. result.now ≡ c.name) }
+    {
+        self.home(id).name(id)
+    }
+
+    /// The text of an attribute, a text, a comment or a processing instruction; empty for other kinds.
+    pub fn text(&self, id: NodeId) -> &str
+        requires { IsSome (find id (shelf_trees self.now)) }
+        ensures { IsAt (find id (shelf_trees self.now)) (λ c. result.now ≡ c.text) }
+    {
+        self.home(id).text(id)
+    }
+
+    /// The parent of a node.
+    pub fn parent(&self, id: NodeId) -> Option<NodeId>
+        requires { IsSome (find id (shelf_trees self.now)) }
+        ensures { result ≡ parent_of id (shelf_trees self.now) }
+    {
+        self.home(id).parent(id)
+    }
+
+    /// The children of a node, in document order.
+    pub fn children(&self, id: NodeId) -> &[NodeId]
+        requires { IsSome (find id (shelf_trees self.now)) }
+        ensures { result.now ≡ children_of id (shelf_trees self.now) }
+    {
+        self.home(id).children(id)
+    }
+
+    /// The attributes of a node, in their list's order.
+    pub fn attributes(&self, id: NodeId) -> &[NodeId]
+        requires { IsSome (find id (shelf_trees self.now)) }
+        ensures { result.now ≡ attributes_of id (shelf_trees self.now) }
+    {
+        self.home(id).attributes(id)
+    }
+
+    /// The string value of a node (XQuery 1.0 and XPath 2.0 Data Model, section 5.13).
+    pub fn string_value(&self, alloc: Global, id: NodeId) -> Result<String, AllocError>
+        requires { IsSome (find id (shelf_trees self.now)) }
+        ensures { IfOk result (λ s. string_bytes s ≡ string_value_of id (shelf_trees self.now)) }
+    {
+        self.home(id).string_value(alloc, id)
+    }
+
+    /// The tree of a node as one of its own, with the same identities.
+    pub fn tree(&self, alloc: Global, id: NodeId) -> Result<Tree, AllocError>
+        requires { IsSome (find id (shelf_trees self.now)) }
+        ensures { IfOk result (λ t. trees_of_tree t ≡ pick id (shelf_trees self.now)) }
+    {
+        self.facts();
+        let home = self.home(id);
+        home.facts();
+        home.tree(alloc, id)
+    }
+
+    /// Whether the node `a` comes before the node `b` in document order. Nodes of the lent forest come before the own ones.
+    pub fn before(&self, a: NodeId, b: NodeId) -> bool
+        requires has_a { IsSome (find a (shelf_trees self.now)) }
+        requires has_b { IsSome (find b (shelf_trees self.now)) }
+        ensures { result ≡ precedes a b (shelf_trees self.now) }
+    {
+        self.lent.facts();
+        match (self.is_own(a), self.is_own(b)) {
+            (false, false) => self.lent.before(a, b),
+            (false, true) => true,
+            (true, false) => false,
+            (true, true) => self.own.before(a, b),
+        }
+    }
+
+    /// Makes an own node with no parent, which takes the next identity.
+    ///
+    /// Where memory is refused (`Memory`) or the next identity would pass 2^62 (`Limit`), all stays as it was.
+    pub fn make(
+        &mut self,
+        alloc: Global,
+        kind: Kind,
+        name: String,
+        text: String,
+    ) -> Result<NodeId, MakeFault>
+        ensures made { IfOk result
+            (λ i. (i ≡ self.old.own.next)
+            × (self.new
+            ≡ record self.old {
+              own =
+                  record self.old.own {
+                    trees =
+                        append
+                        self.old.own.trees
+                        (leaf
+                        (record {
+                          identity = i;
+                          kind = kind;
+                          name = string_bytes name;
+                          text = string_bytes text;
+                        }));
+                    next = i + 1;
+                  };
+            })) }
+        ensures limit { IsErrOf result MakeFault.Limit ↔ (2 ^ 62 ≤ self.old.own.next) }
+        ensures refused { OnErr result (self.new ≡ self.old) }
+    {
+        self.own.make(alloc, kind, name, text)
+    }
+
+    /// Makes the tree of an own node that has a parent a tree of its own.
+    pub fn take_out(&mut self, id: NodeId)
+        requires has { IsSome (find id self.old.own.trees) }
+        requires below { IsSome (parent_of id self.old.own.trees) }
+        ensures { self.new ≡ record self.old { own = record self.old.own { trees = taken_out id self.old.own.trees } } }
+    {
+        self.own.take_out(id);
+    }
+
+    /// Puts own trees below an own node, one after the other, as children before which `index` others stand.
+    ///
+    /// Where memory is refused, all stays as it was.
+    pub fn put_children(
+        &mut self,
+        parent: NodeId,
+        index: usize,
+        nodes: &[NodeId],
+    ) -> Result<(), AllocError>
+        requires { CanAllMoveBelow Children parent index nodes.now self.old.own.trees }
+        ensures put { OnOk result
+            (self.new
+            ≡ record self.old {
+              own =
+                  record self.old.own {
+                    trees = all_moved_below Children parent index nodes.now self.old.own.trees;
+                  };
+            }) }
+        ensures refused { OnErr result (self.new ≡ self.old) }
+    {
+        self.own.facts();
+        self.own.put_children(parent, index, nodes)
+    }
+
+    /// Puts own trees below an own node, one after the other, as attributes before which `index` others stand.
+    ///
+    /// Where memory is refused, all stays as it was.
+    pub fn put_attributes(
+        &mut self,
+        parent: NodeId,
+        index: usize,
+        nodes: &[NodeId],
+    ) -> Result<(), AllocError>
+        requires { CanAllMoveBelow Attributes parent index nodes.now self.old.own.trees }
+        ensures put { OnOk result
+            (self.new
+            ≡ record self.old {
+              own =
+                  record self.old.own {
+                    trees = all_moved_below Attributes parent index nodes.now self.old.own.trees;
+                  };
+            }) }
+        ensures refused { OnErr result (self.new ≡ self.old) }
+    {
+        self.own.facts();
+        self.own.put_attributes(parent, index, nodes)
+    }
+
+    /// Gives an own node another text.
+    pub fn set_text(&mut self, id: NodeId, text: String)
+        requires { IsSome (find id self.old.own.trees) }
+        ensures { self.new
+            ≡ record self.old {
+              own =
+                  record self.old.own {
+                    trees = with_content id (λ c. record c { text = string_bytes text }) self.old.own.trees;
+                  };
+            } }
+    {
+        self.own.set_text(id, text);
+    }
+
+    /// Gives an own node another name.
+    pub fn set_name(&mut self, id: NodeId, name: String)
+        requires { IsSome (find id self.old.own.trees) }
+        ensures { self.new
+            ≡ record self.old {
+              own =
+                  record self.old.own {
+                    trees = with_content id (λ c. record c { name = string_bytes name }) self.old.own.trees;
+                  };
+            } }
+    {
+        self.own.set_name(id, name);
+    }
+
+    /// Makes a copy of the tree of a node of either forest, as an own tree with no parent. Its nodes take the identities from the next one on, in document order.
+    ///
+    /// It gives the copy's root. Where memory is refused (`Memory`) or the next identity would pass 2^62 (`Limit`), all stays as it was.
+    pub fn copy(&mut self, alloc: Global, id: NodeId) -> Result<NodeId, MakeFault>
+        requires { IsSome (find id (shelf_trees self.old)) }
+        ensures made { IfOk result
+            (λ i. (i ≡ self.old.own.next)
+            × (self.new
+            ≡ record self.old {
+              own =
+                  record self.old.own {
+                    trees = append self.old.own.trees (renumbered self.old.own.next (pick id (shelf_trees self.old)));
+                    next = self.old.own.next + size (pick id (shelf_trees self.old));
+                  };
+            })) }
+        ensures limit { IsErrOf result MakeFault.Limit ↔ (2 ^ 62 < self.old.own.next + size (pick id (shelf_trees self.old))) }
+        ensures refused { OnErr result (self.new ≡ self.old) }
+    {
+        self.own.copy_from(alloc, self.lent, id)
+    }
+}

@@ -1,8 +1,0 @@
-use Rattle.std.proofs.Common.{◌∙◌, ap, sym}
-use Rattle.trees.specs.Trees.{size}
-use Rattle.trees.specs.Shelf.{ShelfTerm, shelf_trees}
-use Rattle.trees.proofs.Weights.{weigh-append}
-use Rattle.trees.proofs.shelf.Shelf.len.Goals as goal
-
-pub returns : goal.returns
-returns c = rw (c.len.ensures, c.len-2.ensures) (sym (weigh-append (λ _. 1) c.self.inside.lent.now.trees c.self.inside.own.trees) ∙ ap (λ (s : ShelfTerm). size (shelf_trees s)) c.self.view_is)
