@@ -20,7 +20,11 @@ pub(crate) fn reply_text(alloc: Global, reply: Reply) -> Result<String, AllocErr
 }
 
 /// `at P` and the lines of the answer after two spaces each, or `at P fault CODE`.
-pub(crate) fn answer_text(alloc: Global, position: u32, answer: &Answer) -> Result<String, AllocError>
+pub(crate) fn answer_text(
+    alloc: Global,
+    position: u32,
+    answer: &Answer,
+) -> Result<String, AllocError>
     ensures { IfOk result (λ text. string_bytes text ≡ answer_text position (answered answer.now)) }
 {
     match answer {
