@@ -1,0 +1,4 @@
+pub mod Terms
+pub mod Hearing
+pub mod Polls
+pub mod Slots
