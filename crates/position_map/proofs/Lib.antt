@@ -1,0 +1,5 @@
+pub mod Filling
+pub mod Runs
+pub mod Keeping
+pub mod Ahead
+pub mod Joining
