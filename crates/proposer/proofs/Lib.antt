@@ -1,0 +1,5 @@
+pub mod Positions
+pub mod Begun
+pub mod Resending
+pub mod Places
+pub mod Submitted

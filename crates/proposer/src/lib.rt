@@ -1,0 +1,15 @@
+//! Proposals under a ballot ("Paxos Made Simple", sections 2.2 and 3): one first phase for many positions.
+#![tactic(auto)]
+
+mod draft;
+mod fault;
+mod lead;
+mod proposer;
+mod sends;
+#[cfg(test)]
+mod tests;
+
+pub use draft::Draft;
+pub use fault::ProposerFault;
+pub use proposer::Proposer;
+pub use sends::{Asked, Sends};
