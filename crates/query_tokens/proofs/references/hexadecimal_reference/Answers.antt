@@ -1,0 +1,7 @@
+use Rattle.query_tokens.specs.Lexing.{closed, is_hex_digit}
+use Rattle.query_tokens.proofs.Rounds.{same_read}
+use Rattle.query_tokens.proofs.Runs.{run_then}
+use Rattle.query_tokens.proofs.references.hexadecimal_reference.Goals as goal
+
+pub returns : goal.returns
+returns c = same_read (λ p. p.0) (λ p. p.1.now) _ _ _ (run_then is_hex_digit (closed 16) _ _ _ c.hex_digits.ensures) c.closed_reference.ensures
