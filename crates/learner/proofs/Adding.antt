@@ -62,8 +62,8 @@ mask_voters vote m (x ∷ xs) d = by_test (mask_voters vote m xs d.1) (same_vote
     by_test rest false e = rest
 
 -- The members of what was found for a vote are those that are tallied.
-pub mask_tallied : (p : ℕ) (vote : Vote) (m n : ℕ) (es : Polls) (o : Option (List Voters)) → IsCounted n es → o ≡ lookup (is_at (nat_cmp p)) es → has_member (mask_in vote (found o)) m ≡ is_tallied (tallies_of es) p vote m
-mask_tallied p vote m n es o c e =
+pub mask_tallied : (p : ℕ) (vote : Vote) (m n h : ℕ) (es : Polls) (o : Option (List Voters)) → IsCounted n h es → o ≡ lookup (is_at (nat_cmp p)) es → has_member (mask_in vote (found o)) m ≡ is_tallied (tallies_of es) p vote m
+mask_tallied p vote m n h es o c e =
     let f : found o ≡ poll_at p es = ap found e ∙ poll_found p es in
     rw f (mask_voters vote m (poll_at p es) (c.different p)) ∙ sym (tallied_poll p 0 vote m es c.rise)
 
@@ -107,7 +107,7 @@ still_absent k v w (x ∷ xs) n h = let g = or_parts (same_vote w x.vote) (list_
     by_test e rest false = rw e rest
 
 -- two votes are the same either way
-other_way : (a b : Vote) → same_vote a b ≡ false → same_vote b a ≡ false
+pub other_way : (a b : Vote) → same_vote a b ≡ false → same_vote b a ≡ false
 other_way a b h = ⊎_elim (λ (e : same_vote b a ≡ true). let w : b ≡ a = same_vote_equal b a e in absurd (false≢true (sym h ∙ ap (λ (z : Vote). same_vote a z) w ∙ ap (λ (z : Vote). same_vote z a) (sym w) ∙ e))) (λ (e : same_vote b a ≡ false). e) (cases_Bool (same_vote b a))
 
 -- votes stay different
@@ -120,7 +120,7 @@ different_more k v (x ∷ xs) d = by_test (different_more k v xs d.1) (same_vote
     by_test rest false e = (still_absent k v x.vote xs (other_way v x.vote e) d.0, rest)
 
 -- a mask with a member is not empty
-marked : (mask k : ℕ) → 1 ≤ k → mask_with mask k ≢ 0
+pub marked : (mask k : ℕ) → 1 ≤ k → mask_with mask k ≢ 0
 marked mask k a e = false≢true (sym (nobody k) ∙ ap (λ (n : ℕ). has_member n k) (sym e) ∙ joined mask k k a a ∙ ap (λ (b : Bool). b || has_member mask k) (eq-eqb k k refl))
 
 -- what is there after one more acceptance

@@ -2,5 +2,8 @@ pub mod Voting
 pub mod Tallying
 pub mod Adding
 pub mod Placing
-pub mod Choosing
+pub mod Rooms
+pub mod Opening
+pub mod Learning
+pub mod Drafting
 pub mod Hearing

@@ -2,7 +2,8 @@
 use Rattle.std.proofs.Common.{◌≡◌, ◌≢◌, ℕ, suc, ◌+◌, ◌-◌, ◌<◌, ◌≤◌, Bool, true, false, cond, ◌&&◌, ◌||◌, arith, refl, sym, ap, subst, ◌∙◌, ◌⊎◌, inl, inr, ⊎_elim, List, [], ◌∷◌, ◌++◌, map, length, Option, Some, None, IsSome, ltb, eqb, ltb-true, ltb-false, eqb-true, nat_cmp, is_eq, length-append}
 use Rattle.std.proofs.lemmas.Bool.{false≢true, eqb-false, eq-eqb, ne_eqb, cases_eq}
 use Rattle.std.specs.Ordering.{match_ordering}
-use Rattle.std.specs.List.{list_any}
+use Rattle.std.specs.List.{filter, list_any}
+use Rattle.std.proofs.lemmas.List.Elements.{filter-append}
 use Rattle.std.specs.Map.{lookup, remove_entry, set_value}
 use Rattle.std.specs.BTreeMap.{insert_entry, is_at}
 use Rattle.ballots.specs.Values.{same_vote}
@@ -10,10 +11,10 @@ use Rattle.ballots.specs.declared.value.Vote.{Vote}
 use Rattle.paxos.specs.Lists.{Has}
 use Rattle.paxos.proofs.Lists.{has_cases, has_left, has_right}
 use Rattle.learner.specs.declared.poll.Voters.{Voters}
-use Rattle.learner.specs.Terms.{Tally}
+use Rattle.learner.specs.Terms.{Tally, is_open, open_in}
 use Rattle.learner.specs.Hearing.{is_of, is_tallied, AreDistinct}
 use Rattle.learner.specs.Slots.{Rise}
-use Rattle.learner.specs.Polls.{with_voter, is_voter, AreDifferent, Polls, poll_at, tally_of, tallies_of, IsCounted, IsAdded, IsForgotten}
+use Rattle.learner.specs.Polls.{heard_in, is_heard, with_voter, is_voter, AreDifferent, Polls, poll_at, tally_of, tallies_of, IsCounted, IsAdded, IsForgotten}
 use Rattle.learner.proofs.Tallying.{found, cmp_by, poll_found, none_below, any_tally, tallied_poll}
 use Rattle.learner.proofs.Adding.{voted_more, different_more, has_more}
 
@@ -104,27 +105,44 @@ poll_set k q v (s ∷ ss) h = by_test (poll_set k q v ss) (is_at (nat_cmp k) s.0
     by_test rest false w i = rw (rest i) (other (sym w) (eqb q s.0) (eqb q k) refl refl)
 
 -- a tally for each vote
-length_tallies : (p : ℕ) (xs : List Voters) → length (map (tally_of p) xs) ≡ length xs
+pub length_tallies : (p : ℕ) (xs : List Voters) → length (map (tally_of p) xs) ≡ length xs
 length_tallies p [] = refl
 length_tallies p (x ∷ xs) = ap suc (length_tallies p xs)
 
--- how many there are then
-pub length_set : (k : ℕ) (v : List Voters) (es : Polls) → IsSome (lookup (is_at (nat_cmp k)) es) → length (tallies_of (set_value (is_at (nat_cmp k)) es v)) + length (found (lookup (is_at (nat_cmp k)) es)) ≡ length (tallies_of es) + length v
-length_set k v [] h = absurd (cc h)
-length_set k v (s ∷ ss) h = by_test (length_set k v ss) (is_at (nat_cmp k) s.0) h
+-- what is open of a position's votes
+pub open_mapped : (r : ℕ) (xs : List Voters) → open_in (map (tally_of r) xs) ≡ map (tally_of r) (filter is_heard xs)
+open_mapped r [] = refl
+open_mapped r (x ∷ xs) = by_test (is_heard x) (open_mapped r xs)
   where
-    by_test : (IsSome (lookup (is_at (nat_cmp k)) ss) → length (tallies_of (set_value (is_at (nat_cmp k)) ss v)) + length (found (lookup (is_at (nat_cmp k)) ss)) ≡ length (tallies_of ss) + length v) → (a : Bool) → IsSome (cond a (Some s.1) (lookup (is_at (nat_cmp k)) ss)) → length (tallies_of (cond a ((s.0, v) ∷ ss) (s ∷ set_value (is_at (nat_cmp k)) ss v))) + length (found (cond a (Some s.1) (lookup (is_at (nat_cmp k)) ss))) ≡ length (map (tally_of s.0) s.1 ++ tallies_of ss) + length v
-    by_test rest true i = omega (arith, length-append (map (tally_of s.0) v) (tallies_of ss), length-append (map (tally_of s.0) s.1) (tallies_of ss), length_tallies s.0 v, length_tallies s.0 s.1)
-    by_test rest false i = omega (arith, rest i, length-append (map (tally_of s.0) s.1) (tallies_of (set_value (is_at (nat_cmp k)) ss v)), length-append (map (tally_of s.0) s.1) (tallies_of ss))
+    by_test : (b : Bool) → open_in (map (tally_of r) xs) ≡ map (tally_of r) (filter is_heard xs) → cond b (tally_of r x ∷ open_in (map (tally_of r) xs)) (open_in (map (tally_of r) xs)) ≡ map (tally_of r) (cond b (x ∷ filter is_heard xs) (filter is_heard xs))
+    by_test true e = ap (λ (ts : List Tally). tally_of r x ∷ ts) e
+    by_test false e = e
 
--- how many there are without those of a position
-pub length_remove : (k : ℕ) (es : Polls) → length (tallies_of (remove_entry (is_at (nat_cmp k)) es)) + length (found (lookup (is_at (nat_cmp k)) es)) ≡ length (tallies_of es)
-length_remove k [] = refl
-length_remove k (s ∷ ss) = by_test (length_remove k ss) (is_at (nat_cmp k) s.0)
-  where
-    by_test : length (tallies_of (remove_entry (is_at (nat_cmp k)) ss)) + length (found (lookup (is_at (nat_cmp k)) ss)) ≡ length (tallies_of ss) → (a : Bool) → length (tallies_of (cond a ss (s ∷ remove_entry (is_at (nat_cmp k)) ss))) + length (found (cond a (Some s.1) (lookup (is_at (nat_cmp k)) ss))) ≡ length (map (tally_of s.0) s.1 ++ tallies_of ss)
-    by_test rest true = omega (arith, length-append (map (tally_of s.0) s.1) (tallies_of ss), length_tallies s.0 s.1)
-    by_test rest false = omega (arith, rest, length-append (map (tally_of s.0) s.1) (tallies_of (remove_entry (is_at (nat_cmp k)) ss)), length-append (map (tally_of s.0) s.1) (tallies_of ss))
+open_tallies : (p : ℕ) (xs : List Voters) → length (open_in (map (tally_of p) xs)) ≡ heard_in xs
+open_tallies p xs = ap length (open_mapped p xs) ∙ length_tallies p (filter is_heard xs)
+
+open_append : (xs ys : List Tally) → length (open_in (xs ++ ys)) ≡ length (open_in xs) + length (open_in ys)
+open_append xs ys = ap length (filter-append is_open xs ys) ∙ length-append (open_in xs) (open_in ys)
+
+-- A number of tallies that adds up, g, is a number of votes at each position, h.
+module _ (g : List Tally → ℕ) (h : List Voters → ℕ) (add : (xs ys : List Tally) → g (xs ++ ys) ≡ g xs + g ys) (each : (r : ℕ) (xs : List Voters) → g (map (tally_of r) xs) ≡ h xs) where
+  -- how many there are then
+  pub number_set : (k : ℕ) (v : List Voters) (es : Polls) → IsSome (lookup (is_at (nat_cmp k)) es) → g (tallies_of (set_value (is_at (nat_cmp k)) es v)) + h (found (lookup (is_at (nat_cmp k)) es)) ≡ g (tallies_of es) + h v
+  number_set k v [] i = absurd (cc i)
+  number_set k v (s ∷ ss) i = by_test (number_set k v ss) (is_at (nat_cmp k) s.0) i
+    where
+      by_test : (IsSome (lookup (is_at (nat_cmp k)) ss) → g (tallies_of (set_value (is_at (nat_cmp k)) ss v)) + h (found (lookup (is_at (nat_cmp k)) ss)) ≡ g (tallies_of ss) + h v) → (a : Bool) → IsSome (cond a (Some s.1) (lookup (is_at (nat_cmp k)) ss)) → g (tallies_of (cond a ((s.0, v) ∷ ss) (s ∷ set_value (is_at (nat_cmp k)) ss v))) + h (found (cond a (Some s.1) (lookup (is_at (nat_cmp k)) ss))) ≡ g (map (tally_of s.0) s.1 ++ tallies_of ss) + h v
+      by_test rest true i = omega (arith, add (map (tally_of s.0) v) (tallies_of ss), add (map (tally_of s.0) s.1) (tallies_of ss), each s.0 v, each s.0 s.1)
+      by_test rest false i = omega (arith, rest i, add (map (tally_of s.0) s.1) (tallies_of (set_value (is_at (nat_cmp k)) ss v)), add (map (tally_of s.0) s.1) (tallies_of ss))
+
+  -- how many there are without those of a position
+  pub number_remove : (k : ℕ) (es : Polls) → g (tallies_of (remove_entry (is_at (nat_cmp k)) es)) + h (found (lookup (is_at (nat_cmp k)) es)) ≡ g (tallies_of es)
+  number_remove k [] = omega (arith, add [] [], each 0 [])
+  number_remove k (s ∷ ss) = by_test (number_remove k ss) (is_at (nat_cmp k) s.0)
+    where
+      by_test : g (tallies_of (remove_entry (is_at (nat_cmp k)) ss)) + h (found (lookup (is_at (nat_cmp k)) ss)) ≡ g (tallies_of ss) → (a : Bool) → g (tallies_of (cond a ss (s ∷ remove_entry (is_at (nat_cmp k)) ss))) + h (found (cond a (Some s.1) (lookup (is_at (nat_cmp k)) ss))) ≡ g (map (tally_of s.0) s.1 ++ tallies_of ss)
+      by_test rest true = omega (arith, add (map (tally_of s.0) s.1) (tallies_of ss), each s.0 s.1)
+      by_test rest false = omega (arith, rest, add (map (tally_of s.0) s.1) (tallies_of (remove_entry (is_at (nat_cmp k)) ss)), add (map (tally_of s.0) s.1) (tallies_of ss))
 
 -- a tally is of its position's votes
 has_tally : (p : ℕ) (es : Polls) (t : Tally) → Rise p es → Has (tallies_of es) t → (p < t.position) × Has (poll_at t.position es) (record { vote = t.vote; mask = t.mask })
@@ -248,8 +266,8 @@ poll_remove p q es fs e = by_test (cases_eq q p)
         rw (ne_eqb q p n) (sym (poll_found q fs) ∙ ap found f ∙ poll_found q es)
 
 -- What `forget` leaves.
-pub forgotten : (n p : ℕ) (es fs : Polls) (o : Option (List Voters)) → IsCounted n es → o ≡ lookup (is_at (nat_cmp p)) es → fs ≡ remove_entry (is_at (nat_cmp p)) es → ((q : ℕ) → lookup (is_at (nat_cmp q)) fs ≡ cond (is_at (nat_cmp p) q) None (lookup (is_at (nat_cmp q)) es)) → IsForgotten p (tallies_of es) (tallies_of fs) × IsCounted (n - length (found o)) fs × (length (found o) ≤ n)
-forgotten n p es fs o c e f u = (forgotten_at p es fs c.rise rises differ there, record { rise = rises; different = differ; count = (let m = counted in let k = c.count in omega arith) }, (let m = counted in let k = c.count in omega arith))
+pub forgotten : (n h p : ℕ) (es fs : Polls) (o : Option (List Voters)) → IsCounted n h es → o ≡ lookup (is_at (nat_cmp p)) es → fs ≡ remove_entry (is_at (nat_cmp p)) es → ((q : ℕ) → lookup (is_at (nat_cmp q)) fs ≡ cond (is_at (nat_cmp p) q) None (lookup (is_at (nat_cmp q)) es)) → IsForgotten p (tallies_of es) (tallies_of fs) × IsCounted (n - length (found o)) (h - heard_in (found o)) fs × (length (found o) ≤ n) × (heard_in (found o) ≤ h)
+forgotten n h p es fs o c e f u = (forgotten_at p es fs c.rise rises differ there, record { rise = rises; different = differ; count = (let m = counted in let k = c.count in omega arith); open_count = (let m = opened in let k = c.open_count in omega arith) }, (let m = counted in let k = c.count in omega arith), (let m = opened in let k = c.open_count in omega arith))
   where
     rises : Rise 0 fs
     rises = rw f (rise_remove 0 (is_at (nat_cmp p)) es c.rise)
@@ -265,23 +283,60 @@ forgotten n p es fs o c e f u = (forgotten_at p es fs c.rise rises differ there,
         by_test false = c.different q
 
     counted : length (tallies_of fs) + length (found o) ≡ length (tallies_of es)
-    counted = rw (f, e) (length_remove p es)
+    counted = rw (f, e) (number_remove length length length-append length_tallies p es)
 
--- What `add` leaves.
-pub added : (n j k p : ℕ) (vote : Vote) (es ms fs : Polls) (b : Bool) → 1 ≤ k → IsCounted n es → tallies_of ms ≡ tallies_of es → ((q : ℕ) → poll_at q ms ≡ poll_at q es) → Rise 0 ms → IsSome (lookup (is_at (nat_cmp p)) ms) → fs ≡ set_value (is_at (nat_cmp p)) ms (with_voter k vote (poll_at p ms)) → length (with_voter k vote (poll_at p ms)) ≡ length (poll_at p ms) + cond b 1 0 → j ≡ n + cond b 1 0 → IsAdded k p vote (tallies_of es) (tallies_of fs) × IsCounted j fs
-added n j k p vote es ms fs b l c e u s i f g a = (subst (λ (ts : List Tally). IsAdded k p vote ts (tallies_of fs)) e (added_at k p vote ms fs l s rises differ there), record { rise = rises; different = different_at k p vote ms fs differ there; count = counted })
+    opened : length (open_in (tallies_of fs)) + heard_in (found o) ≡ length (open_in (tallies_of es))
+    opened = rw (f, e) (number_remove (λ (ts : List Tally). length (open_in ts)) heard_in open_append open_tallies p es)
+
+-- What is counted once a position's votes are changed.
+pub set_counted : (n j h i p : ℕ) (v w : List Voters) (es fs : Polls) → IsCounted n h es → Some w ≡ lookup (is_at (nat_cmp p)) es → fs ≡ set_value (is_at (nat_cmp p)) es v → AreDifferent v → j + length w ≡ n + length v → i + heard_in w ≡ h + heard_in v → IsCounted j i fs
+set_counted n j h i p v w es fs c o f d a b = record { rise = rw f (rise_set 0 (is_at (nat_cmp p)) v es c.rise); different = differ; count = (let m = counted in let k = c.count in omega arith); open_count = (let m = opened in let k = c.open_count in omega arith) }
   where
-    rises : Rise 0 fs
-    rises = rw f (rise_set 0 (is_at (nat_cmp p)) (with_voter k vote (poll_at p ms)) ms s)
+    there : IsSome (lookup (is_at (nat_cmp p)) es)
+    there = rw (← o) refl
 
-    differ : (q : ℕ) → AreDifferent (poll_at q ms)
-    differ q = subst AreDifferent (sym (u q)) (c.different q)
+    differ : (q : ℕ) → AreDifferent (poll_at q fs)
+    differ q = rw f (subst AreDifferent (sym (poll_set p q v es there)) (by_test (eqb q p)))
+      where
+        by_test : (b : Bool) → AreDifferent (cond b v (poll_at q es))
+        by_test true = d
+        by_test false = c.different q
 
-    there : (q : ℕ) → poll_at q fs ≡ cond (eqb q p) (with_voter k vote (poll_at p ms)) (poll_at q ms)
-    there q = rw f (poll_set p q (with_voter k vote (poll_at p ms)) ms i)
+    counted : length (tallies_of fs) + length w ≡ length (tallies_of es) + length v
+    counted = rw f (ap (λ (z : Option (List Voters)). length (tallies_of (set_value (is_at (nat_cmp p)) es v)) + length (found z)) o ∙ number_set length length length-append length_tallies p v es there)
 
-    set_length : length (tallies_of fs) + length (poll_at p ms) ≡ length (tallies_of ms) + length (with_voter k vote (poll_at p ms))
-    set_length = rw (f, ← poll_found p ms) (length_set p (with_voter k vote (found (lookup (is_at (nat_cmp p)) ms))) ms i)
+    opened : length (open_in (tallies_of fs)) + heard_in w ≡ length (open_in (tallies_of es)) + heard_in v
+    opened = rw f (ap (λ (z : Option (List Voters)). length (open_in (tallies_of (set_value (is_at (nat_cmp p)) es v))) + heard_in (found z)) o ∙ number_set (λ (ts : List Tally). length (open_in ts)) heard_in open_append open_tallies p v es there)
 
-    counted : j ≡ length (tallies_of fs)
-    counted = let r = set_length in let d = c.count in let h = ap length e in omega arith
+-- What is counted once a position has an empty list.
+pub insert_counted : (n h p : ℕ) (es fs : Polls) → 1 ≤ p → lookup (is_at (nat_cmp p)) es ≡ None → fs ≡ insert_entry nat_cmp es p [] → ((q : ℕ) → lookup (is_at (nat_cmp q)) fs ≡ cond (is_at (nat_cmp p) q) (Some []) (lookup (is_at (nat_cmp q)) es)) → IsCounted n h es → IsCounted n h fs
+insert_counted n h p es fs a o f u c = record { rise = rw f (rise_insert 0 p [] es a c.rise); different = (λ q. subst AreDifferent (sym (poll_insert p q es fs o (u q))) (c.different q)); count = c.count ∙ ap length (sym same); open_count = c.open_count ∙ ap (λ (ts : List Tally). length (open_in ts)) (sym same) }
+  where
+    same : tallies_of fs ≡ tallies_of es
+    same = rw f (tallies_insert p es o)
+
+-- an empty list of votes taken away is no vote less
+pub tallies_remove : (k : ℕ) (es : Polls) → lookup (is_at (nat_cmp k)) es ≡ Some [] → tallies_of (remove_entry (is_at (nat_cmp k)) es) ≡ tallies_of es
+tallies_remove k [] o = refl
+tallies_remove k (s ∷ ss) o = by_test (tallies_remove k ss) (is_at (nat_cmp k) s.0) o
+  where
+    empty : s.1 ≡ [] → tallies_of ss ≡ map (tally_of s.0) s.1 ++ tallies_of ss
+    empty e = rw e refl
+
+    by_test : (lookup (is_at (nat_cmp k)) ss ≡ Some [] → tallies_of (remove_entry (is_at (nat_cmp k)) ss) ≡ tallies_of ss) → (a : Bool) → cond a (Some s.1) (lookup (is_at (nat_cmp k)) ss) ≡ Some [] → tallies_of (cond a ss (s ∷ remove_entry (is_at (nat_cmp k)) ss)) ≡ map (tally_of s.0) s.1 ++ tallies_of ss
+    by_test rest true e = empty (cc)
+    by_test rest false e = ap (λ (ts : List Tally). map (tally_of s.0) s.1 ++ ts) (rest e)
+
+-- What is counted once a position's empty list is taken away.
+pub drop_counted : (n h p : ℕ) (es fs : Polls) → lookup (is_at (nat_cmp p)) es ≡ Some [] → fs ≡ remove_entry (is_at (nat_cmp p)) es → ((q : ℕ) → lookup (is_at (nat_cmp q)) fs ≡ cond (is_at (nat_cmp p) q) None (lookup (is_at (nat_cmp q)) es)) → IsCounted n h es → IsCounted n h fs
+drop_counted n h p es fs o f u c = record { rise = rw f (rise_remove 0 (is_at (nat_cmp p)) es c.rise); different = differ; count = c.count ∙ ap length (sym same); open_count = c.open_count ∙ ap (λ (ts : List Tally). length (open_in ts)) (sym same) }
+  where
+    same : tallies_of fs ≡ tallies_of es
+    same = rw f (tallies_remove p es o)
+
+    differ : (q : ℕ) → AreDifferent (poll_at q fs)
+    differ q = subst AreDifferent (sym (poll_remove p q es fs (u q))) (by_test (eqb q p))
+      where
+        by_test : (b : Bool) → AreDifferent (cond b [] (poll_at q es))
+        by_test true = tt
+        by_test false = c.different q

@@ -1,14 +1,14 @@
 -- The votes heard at each position that is not learnt, with the members that were heard to have accepted each.
-use Rattle.std.specs.Prelude.{◌≡◌, ◌≢◌, ℕ, ◌-◌, ◌^◌, ◌≤◌, ◌⊎◌, Bool, false, ◌&&◌, ◌||◌, ◌==◌, if◌then◌else◌, List, [], ◌∷◌, ◌++◌, map, length}
-use Rattle.std.specs.List.{list_any}
+use Rattle.std.specs.Prelude.{◌≡◌, ◌≢◌, ℕ, ◌-◌, ◌^◌, ◌≤◌, ◌⊎◌, Bool, true, false, not, ◌&&◌, ◌||◌, ◌==◌, if◌then◌else◌, List, [], ◌∷◌, ◌++◌, map, length}
+use Rattle.std.specs.List.{filter, list_any}
 use Rattle.std.specs.Int.RustNames.{bit_or}
 use Rattle.ballots.specs.Ballot.{has_member}
 use Rattle.ballots.specs.Values.{same_vote}
 use Rattle.ballots.specs.declared.value.Vote.{Vote}
 use Rattle.learner.specs.declared.poll.Voters.{Voters}
 use Rattle.paxos.specs.Lists.{Has}
-use Rattle.learner.specs.Terms.{Tally}
-use Rattle.learner.specs.Hearing.{AreDistinct, is_tallied}
+use Rattle.learner.specs.Terms.{Tally, open_in}
+use Rattle.learner.specs.Hearing.{AreDistinct, is_of, is_tallied}
 use Rattle.learner.specs.Slots.{Rise}
 
 -- the mask with a member's bit
@@ -53,11 +53,32 @@ abbrev pub tallies_of : Polls → List Tally
 tallies_of [] = []
 tallies_of (e ∷ es) = map (tally_of e.0) e.1 ++ tallies_of es
 
--- the entries' keys rise, no vote is twice at a position, and there are so many in all
-pub record IsCounted (votes : ℕ) (es : Polls) : Type 0 where
+-- somebody accepted the vote
+abbrev pub is_heard : Voters → Bool
+is_heard x = not (x.mask == 0)
+
+-- how many votes somebody accepted
+abbrev pub heard_in : List Voters → ℕ
+heard_in xs = length (filter is_heard xs)
+
+-- the vote is there, perhaps as room
+abbrev pub has_vote : Vote → List Voters → Bool
+has_vote vote xs = list_any (λ (x : Voters). same_vote vote x.vote) xs
+
+-- the votes with room for one, if it was not there
+abbrev pub with_room : Vote → List Voters → List Voters
+with_room vote xs = if has_vote vote xs then xs else xs ++ record { vote = vote; mask = 0 } ∷ []
+
+-- the entries' keys rise, no vote is twice at a position; there are so many in all, and so many that somebody accepted
+pub record IsCounted (votes heard : ℕ) (es : Polls) : Type 0 where
   pub rise : Rise 0 es
   pub different : (p : ℕ) → AreDifferent (poll_at p es)
   pub count : votes ≡ length (tallies_of es)
+  pub open_count : heard ≡ length (open_in (tallies_of es))
+
+-- a tally of the vote stands at the position, perhaps as room
+abbrev pub HasTally : (position : ℕ) → Vote → List Tally → Type 0
+HasTally p vote ts = list_any (is_of p vote) ts ≡ true
 
 -- a member's acceptance was added, and nothing else
 pub record IsAdded (k p : ℕ) (vote : Vote) (ts us : List Tally) : Type 0 where

@@ -1,7 +1,9 @@
 -- Values by position.
-use Rattle.std.specs.Prelude.{ℕ, ◌<◌, List, [], ◌∷◌}
+use Rattle.std.specs.Prelude.{ℕ, ◌<◌, ◌≤◌, List, [], ◌∷◌, IsSome}
 use Rattle.ballots.specs.declared.value.Value.{Value}
 use Rattle.ballots.specs.declared.value.Pair.{Pair}
+use Rattle.ballots.specs.Values.{positions}
+use Rattle.position_map.specs.Slots.{Slot, filled, value_at}
 
 -- positions are above p, and rise
 abbrev pub Rise : {A : Type 0} → (p : ℕ) → List (ℕ × A) → Type 0
@@ -12,3 +14,11 @@ Rise p (e ∷ es) = (p < e.0) × Rise e.0 es
 abbrev pub pairs_of : List (ℕ × Value) → List Pair
 pairs_of [] = []
 pairs_of (e ∷ es) = record { position = e.0; value = e.1 } ∷ pairs_of es
+
+-- a position that there may be
+abbrev pub IsPosition : ℕ → Type 0
+IsPosition p = (1 ≤ p) × (p ≤ positions)
+
+-- values stand at no other positions
+abbrev pub AreWithin : List (Slot Value) → Type 0
+AreWithin slots = (p : ℕ) → IsSome (value_at p (filled slots)) → IsPosition p

@@ -1,11 +1,14 @@
 //! Which values are chosen ("Paxos Made Simple", section 2.3).
 #![tactic(auto)]
 
-mod chosen;
+mod draft;
+mod heard;
 mod learner;
 mod poll;
 mod tallies;
 #[cfg(test)]
 mod tests;
 
+pub use draft::Draft;
+pub use heard::{Heard, run};
 pub use learner::Learner;

@@ -1,7 +1,8 @@
 //! The votes heard at one position.
 
-ghost use Rattle.std.specs.Prelude.{◌≡◌, ◌≤◌, ◌+◌, ℕ, if◌then◌else◌, true, false, [], ◌∷◌, ◌++◌, length, IfOk, OnErr, OnOk};
-ghost use Rattle.learner.specs.Polls.{mask_in, mask_with, with_voter};
+ghost use Rattle.std.specs.Prelude.{◌≡◌, ◌≤◌, ◌+◌, if◌then◌else◌, true, false, [], ◌∷◌, ◌++◌, length, IfOk, OnErr, OnOk};
+ghost use Rattle.ballots.specs.declared.value.Vote.{Vote};
+ghost use Rattle.learner.specs.Polls.{has_vote, heard_in, mask_in, mask_with, with_room, with_voter};
 
 use ballots::Vote;
 use std::alloc::{AllocError, Global};
@@ -12,7 +13,7 @@ use std::marker::Model;
 pub(super) struct Voters {
     /// The vote.
     pub(super) vote: Vote,
-    /// The members: bit `m - 1` is member `m`'s.
+    /// The members: bit `m - 1` is member `m`'s. With no members it is room for the vote.
     pub(super) mask: u64,
 }
 
@@ -41,11 +42,18 @@ impl Poll {
         }
     }
 
-    /// How many votes there are.
+    /// How many votes there are, with the room for one.
     pub(super) fn len(&self) -> usize
         ensures { result ≡ length self.now }
     {
         self.voters.len()
+    }
+
+    /// How many votes somebody accepted.
+    pub(super) fn heard(&self) -> usize
+        ensures { result ≡ heard_in self.now }
+    {
+        self.voters.iter().filter(|voters| voters.mask != 0).count()
     }
 
     /// The members that accepted a vote.
@@ -60,22 +68,56 @@ impl Poll {
         0
     }
 
-    /// Adds a member to those that accepted a vote. Says whether the vote is new. Where memory is refused, nothing changes.
-    pub(super) fn add(&mut self, member: u8, vote: &Vote) -> Result<bool, AllocError>
-        requires least { 1 ≤ member }
-        requires most { member ≤ 63 }
-        ensures added { OnOk result (self.new ≡ with_voter member vote.now self.old) }
+    /// Whether there is the vote, or room for it.
+    pub(super) fn has(&self, vote: &Vote) -> bool
+        ensures { result ≡ has_vote vote.now self.now }
+    {
+        for voters in &self.voters {
+            if vote.is_same(&voters.vote) {
+                return true;
+            }
+        }
+        false
+    }
+
+    /// Makes room for a vote. Says whether there was none. Where memory is refused, nothing changes.
+    pub(super) fn reserve(&mut self, vote: &Vote) -> Result<bool, AllocError>
+        ensures made { OnOk result (self.new ≡ with_room vote.now self.old) }
         ensures grew { IfOk result (λ b. length self.new ≡ length self.old + (if b then 1 else 0)) }
         ensures refused { OnErr result (self.new ≡ self.old) }
     {
-        if add_where_heard(&mut self.voters, member, vote) {
+        if self.has(vote) {
             return Ok(false);
         }
         self.voters.push(Voters {
             vote: vote.clone()?,
-            mask: mask_with(0, member),
+            mask: 0,
         })?;
         Ok(true)
+    }
+
+    /// Takes away the last vote, if it is room alone. Says whether it was.
+    pub(super) fn forget_room(&mut self) -> bool
+        ensures taken { result ≡ true → (vote : Vote) × (self.old ≡ self.new ++ record { vote = vote; mask = 0 } ∷ []) }
+        ensures same { result ≡ false → self.new ≡ self.old }
+    {
+        let count = self.voters.len();
+        if count == 0 || self.voters[count - 1].mask != 0 {
+            return false;
+        }
+        self.voters.pop();
+        true
+    }
+
+    /// Adds a member to those that accepted a vote, which is there or has room. Says whether nobody had accepted it before.
+    pub(super) fn count(&mut self, member: u8, vote: &Vote) -> bool
+        requires least { 1 ≤ member }
+        requires most { member ≤ 63 }
+        requires room { has_vote vote.now self.old ≡ true }
+        ensures counted { self.new ≡ with_voter member vote.now self.old }
+        ensures grew { heard_in self.new ≡ heard_in self.old + (if result then 1 else 0) }
+    {
+        add(&mut self.voters, member, vote)
     }
 }
 
@@ -88,18 +130,19 @@ pub(super) fn mask_with(mask: u64, member: u8) -> u64
     mask | 1 << (member - 1)
 }
 
-/// Adds a member to those that accepted a vote, where the vote was heard before. Says whether it was.
-fn add_where_heard(voters: &mut [Voters], member: u8, vote: &Vote) -> bool
+/// Adds a member to those that accepted a vote, which is there. Says whether nobody had accepted it before.
+fn add(voters: &mut [Voters], member: u8, vote: &Vote) -> bool
     requires least { 1 ≤ member }
     requires most { member ≤ 63 }
-    ensures heard { result ≡ true → voters.new ≡ with_voter member vote.now voters.old }
-    ensures new_to_it { result ≡ false → (k : ℕ) → k ≡ mask_with 0 member → voters.old ++ record { vote = vote.now; mask = k } ∷ [] ≡ with_voter member vote.now voters.old }
-    ensures same { result ≡ false → voters.new ≡ voters.old }
+    requires room { has_vote vote.now voters.old ≡ true }
+    ensures added { voters.new ≡ with_voter member vote.now voters.old }
+    ensures grew { heard_in (with_voter member vote.now voters.old) ≡ heard_in voters.old + (if result then 1 else 0) }
 {
     for heard in voters.iter_mut() {
         if vote.is_same(&heard.vote) {
+            let is_first = heard.mask == 0;
             heard.mask = mask_with(heard.mask, member);
-            return true;
+            return is_first;
         }
     }
     false

@@ -1,6 +1,0 @@
-use Rattle.std.proofs.Common.{◌≡◌}
-use Rattle.learner.proofs.Voting.{IsNotAmong}
-use Rattle.learner.proofs.poll.add_where_heard.Given as goal
-
-abbrev pub invariant-loop-heard : goal.invariant-loop-heard
-invariant-loop-heard l = record { same : l.voters ≡ l.initial.voters; others : IsNotAmong l.vote l.voters l.heard-index }
