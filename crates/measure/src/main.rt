@@ -1,6 +1,7 @@
 //! `measure WHAT N`: does something N times over, for `bench/parts` to take the time of. Nothing else stands on it.
 #![tactic(auto)]
 
+mod learning;
 mod nodes;
 mod votes;
 
@@ -27,6 +28,7 @@ fn run(rt: &HostRuntime) -> io::Result<u8> {
     let done = match what {
         "votes" => votes::put(rt.alloc(), count).map(|_| count),
         "prepares" => votes::prepared(rt.alloc(), count),
+        "learnt" => learning::learnt(rt.alloc(), count),
         "nodes" => nodes::made(rt.alloc(), count).map(|_| count),
         "print" => nodes::printed(rt.alloc(), count),
         "compare" => nodes::compared(rt.alloc(), count),

@@ -1,0 +1,7 @@
+pub mod Follows
+pub mod Steps
+pub mod Sound
+pub mod Starts
+pub mod Ahead
+pub mod Whole
+pub mod Forms

@@ -1,0 +1,10 @@
+//! Expressions, and the grammar that says which tokens are spelt so.
+#![tactic(auto)]
+
+mod ast;
+pub mod laws;
+
+pub use ast::{
+    Binary, Binding, Clause, Expr, KindTest, Name, NodeTest, Operation, Place, Quantifier, Sign,
+    SortKey,
+};
