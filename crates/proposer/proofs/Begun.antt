@@ -50,6 +50,7 @@ begun_led n heard b from known base x f h e =
       covers = λ m l k. h.covers m l k ∙ at_base ∙ sym (nothing_covered b base m (windows heard) f.unpromised);
       reports = λ p l. h.reports p ∙ sym (nothing_reported b base p (windows heard) f.unpromised);
       learnt = λ p l. h.learnt p ∙ f.learnt p (omega (arith, l, e));
+      unlearnt = λ w q. absurd q;
     }
 
 -- where no member is in a set, it has none

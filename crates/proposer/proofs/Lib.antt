@@ -3,3 +3,11 @@ pub mod Begun
 pub mod Resending
 pub mod Places
 pub mod Submitted
+pub mod Lasts
+pub mod Viewing
+pub mod Going
+pub mod Merging
+pub mod Hears
+pub mod Taken
+pub mod Promised
+pub mod Learned

@@ -14,7 +14,7 @@ rising_below k n [] l h = tt
 rising_below k n (p ∷ ps) l h = (omega (arith, l, h.0), h.1, h.2)
 
 -- a list from one of its places on
-from_place : (i : ℕ) (ps : List ℕ) → i < length ps → drop i ps ≡ get_or ps i 0 ∷ drop (i + 1) ps
+pub from_place : (i : ℕ) (ps : List ℕ) → i < length ps → drop i ps ≡ get_or ps i 0 ∷ drop (i + 1) ps
 from_place i ps l = let n : suc i ≡ i + 1 = omega arith in drop-cons ps i 0 l ∙ ap (λ k. get_or ps i 0 ∷ drop k ps) n
 
 -- what is left of rising positions once one is taken

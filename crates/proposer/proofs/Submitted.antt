@@ -1,5 +1,5 @@
 -- A request that found a place.
-use Rattle.std.proofs.Common.{◌≡◌, ℕ, suc, ◌-◌, ◌≤◌, Bool, true, false, not, ◌&&◌, cond, arith, refl, sym, ap, ap₂, ◌∙◌, subst, List, [], ◌∷◌, ◌++◌, length, Option, Some, None, is_none, ltb-true, ◌*◌}
+use Rattle.std.proofs.Common.{◌≡◌, ℕ, suc, ◌-◌, ◌≤◌, Bool, true, false, not, ◌&&◌, cond, arith, refl, sym, ap, ap₂, ◌∙◌, subst, List, [], ◌∷◌, ◌++◌, length, Option, Some, None, is_none, ⊎_elim, ltb-true, ◌*◌}
 use Rattle.std.specs.Prelude.{nat_lt, nat_le}
 use Rattle.std.proofs.lemmas.Bool.{leb-true}
 use Rattle.ballots.specs.Ballot.{count}
@@ -7,10 +7,13 @@ use Rattle.ballots.specs.Messages.{Packet}
 use Rattle.ballots.specs.Terms.{Request}
 use Rattle.ballots.specs.Values.{positions}
 use Rattle.ballots.specs.declared.value.Value.TheVariants.{Request as Of}
+use Rattle.ballots.specs.declared.value.Pair.{Pair}
 use Rattle.paxos.specs.Knowledge.{pair_of}
-use Rattle.paxos.specs.Proposing.{Turn, HasStopped, Full, Spent, Uncovered, NothingAbove, has_open, has_place, has_free_place, is_covered, turn, turns, proposes}
+use Rattle.paxos.specs.Proposing.{Turn, HasStopped, Full, Spent, Uncovered, NothingAbove, has_open, has_place, has_free_place, is_covered, turn, turns, passes, proposes, proposal}
 use Rattle.paxos.specs.Records.{Record}
 use Rattle.paxos.specs.Step.{Leader, Running, accepts, leading, quiet, on_new_request, cover_heard, report_heard, is_learnt_heard, turn_of as turn_heard}
+use Rattle.paxos.specs.Lists.{Has}
+use Rattle.paxos.proofs.Lists.{has_cases}
 use Rattle.paxos.proofs.Same.{SameAbove, free_place_same}
 use Rattle.paxos.proofs.Stopping.{turns_stop}
 use Rattle.proposer.specs.declared.sends.Sends.{Sends}
@@ -47,6 +50,15 @@ proposed_step n m q heard l x applied r one h f place =
     let u : Running = record { heard = heard; leader = Some l; applied = applied } in
     ap (λ b. cond b (leading n m u l (proposes (Of q) (turn_heard l)) [] []) (quiet u)) (ap₂ (λ a b. not a && b) unopened free)
 
+-- a request's position isn't learnt
+place_unlearnt : (n : ℕ) (l : Leading) → takes_request n l ≡ true → is_learnt_of l l.next ≡ false
+place_unlearnt n l h = by_test (has_place n (cover_of l) (turn_of l)) (is_learnt_of l l.next) h
+  where
+    by_test : (a b : Bool) → (a && is_none (cond a (cond b (Some (passes (turn_of l))) (proposal (report_of l) (is_learnt_of l) (turn_of l) (report_of l l.next))) None)) ≡ true → b ≡ false
+    by_test true false h = refl
+    by_test true true h = let f : ⊥ = cc in absurd f
+    by_test false b h = let f : ⊥ = cc in absurd f
+
 -- the proposer's part of it
 pub submitted_took : (x y : Proposer) (q : Request) (l : Leading) (s : Sends) → x.lead ≡ Some l → takes_request x.members l ≡ true → 1 ≤ l.next → IsAcceptOf (Of q) l s
     → y ≡ record { members = x.members; member = x.member; lead = Some (proposing (Of q) l) } → is_open q x ≡ false → (heard : List Packet) (leader : Option Leader) (applied : ℕ) (r : Record) → Knows heard leader x
@@ -70,6 +82,7 @@ submitted_took x y q l s e place one sent f unopened heard (Some h) applied r k 
           covers = led.covers;
           reports = λ p a. led.reports p (omega (arith, a));
           learnt = λ p a. led.learnt p (omega (arith, a));
+          unlearnt = λ w i. ⊎_elim (led.unlearnt w) (λ (j : Has (pair_of h.next (Of q) ∷ []) w). ⊎_elim (λ (g : pair_of h.next (Of q) ≡ w). ap (λ (z : Pair). is_learnt_heard x.members heard z.position) (sym g) ∙ sym (led.learnt h.next (omega arith)) ∙ ap (is_learnt_of l) (sym led.next) ∙ place_unlearnt x.members l place) (λ g. absurd g) j) (has_cases h.proposals (pair_of h.next (Of q) ∷ []) w i);
         },
       );
       sends = sym (rw (sent.no_prepares, sent.one_accept) (ap₂ (λ b p. accepts x.members x.member b (pair_of p (Of q) ∷ [])) (sent.ballot_is ∙ led.ballot) led.next));

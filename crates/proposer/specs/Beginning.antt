@@ -1,5 +1,5 @@
 -- What is given where a member begins a ballot ("Paxos Made Simple", sections 2.2 and 3).
-use Rattle.std.specs.Prelude.{◌≡◌, ◌+◌, ◌≤◌, ℕ, suc, Bool, false, ◌==◌, List, [], ◌∷◌, None}
+use Rattle.std.specs.Prelude.{◌≡◌, ◌+◌, ◌≤◌, ℕ, suc, Bool, false, ◌==◌, List, [], ◌∷◌, length, None}
 use Rattle.std.specs.List.{list_any}
 use Rattle.ballots.specs.Ballot.{same_ballot}
 use Rattle.ballots.specs.Values.{positions}
@@ -30,6 +30,7 @@ pub record IsBegun (members : ℕ) (ballot : Ballot) (from : ℕ) (known : List 
   pub base : from ≡ suc x.base
   pub next : x.next ≡ from
   pub proposals : x.proposals ≡ []
+  pub many : length x.covers ≡ members
   pub covers : (m : ℕ) → 1 ≤ m → m ≤ members → cover_of x m ≡ x.base
   pub reports : (p : ℕ) → report_of x p ≡ None
   pub learnt : (p : ℕ) → is_learnt_of x p ≡ is_in p known

@@ -1,17 +1,20 @@
 -- When a proposer knows what a member heard, and when it has taken its part of the member's step.
-use Rattle.std.specs.Prelude.{◌≡◌, ◌≤◌, ℕ, suc, nat_lt, if◌then◌else◌, List, [], ◌∷◌, ◌++◌, map, flat_map, Option, Some, None}
+use Rattle.std.specs.Prelude.{◌≡◌, ◌≤◌, ℕ, suc, false, nat_lt, if◌then◌else◌, List, [], ◌∷◌, ◌++◌, map, flat_map, Option, Some, None}
 use Rattle.ballots.specs.declared.ballot.Ballot.{Ballot}
+use Rattle.ballots.specs.declared.value.Pair.{Pair}
 use Rattle.ballots.specs.declared.value.Value.{Value}
 use Rattle.ballots.specs.Messages.{Packet, Prepare, packet, up_to}
 use Rattle.ballots.specs.Values.{positions}
 use Rattle.paxos.specs.Knowledge.{pair_of}
+use Rattle.paxos.specs.Lists.{Has}
 use Rattle.paxos.specs.Step.{Leader, Running, Effect, accepts, cover_heard, report_heard, is_learnt_heard}
 use Rattle.paxos.specs.Proposing.{HasStopped}
 use Rattle.proposer.specs.Terms.{Leading, Proposer, cover_of, report_of, is_learnt_of, turn_of}
 use Rattle.proposer.specs.declared.sends.Sends.{Sends}
 use Rattle.proposer.specs.declared.sends.Asked.{Asked}
 
--- a leader that heard this: how far each member covers, and from its next position on the highest reports and what is learnt
+-- a leader that heard this: how far each member covers, and from its next position on the highest reports and what is learnt; nothing
+-- is learnt where a proposal is open
 pub record IsLed (members : ℕ) (heard : List Packet) (l : Leader) (x : Leading) : Type 0 where
   pub ballot : x.ballot ≡ l.ballot
   pub base : x.base ≡ l.base
@@ -20,6 +23,7 @@ pub record IsLed (members : ℕ) (heard : List Packet) (l : Leader) (x : Leading
   pub covers : (m : ℕ) → 1 ≤ m → m ≤ members → cover_of x m ≡ cover_heard heard l m
   pub reports : (p : ℕ) → l.next ≤ p → report_of x p ≡ report_heard heard l p
   pub learnt : (p : ℕ) → l.next ≤ p → is_learnt_of x p ≡ is_learnt_heard members heard p
+  pub unlearnt : (e : Pair) → Has l.proposals e → is_learnt_heard members heard e.position ≡ false
 
 -- the proposer leads where the member does, and knows what it heard
 abbrev pub Knows : List Packet → Option Leader → Proposer → Type 0

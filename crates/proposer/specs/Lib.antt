@@ -1,5 +1,10 @@
 pub mod Terms
 pub mod Knowing
 pub mod Inside
+pub mod Views
+pub mod Turning
+pub mod Merging
+pub mod Taking
+pub mod Hearing
 pub mod Beginning
 pub mod Submitting

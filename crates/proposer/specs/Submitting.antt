@@ -5,18 +5,21 @@ use Rattle.ballots.specs.Values.{positions}
 use Rattle.ballots.specs.declared.value.Value.TheVariants.{Request as Of}
 use Rattle.paxos.specs.Proposing.{has_free_place}
 use Rattle.proposer.specs.declared.draft.Change.{Change}
-use Rattle.proposer.specs.declared.draft.Change.TheVariants.{Begin, Propose}
+use Rattle.proposer.specs.declared.draft.Change.TheVariants.{Nothing, Begin, Propose, Take}
 use Rattle.proposer.specs.declared.sends.Sends.{Sends}
 use Rattle.proposer.specs.Knowing.{IsAcceptOf}
+use Rattle.proposer.specs.Taking.{CanTake}
 use Rattle.proposer.specs.Terms.{Leading, Proposer, cover_of, report_of, is_learnt_of, turn_of}
 
 -- a request finds a place at a leader
 abbrev pub takes_request : (members : ℕ) → Leading → Bool
 takes_request n l = has_free_place n (cover_of l) (report_of l) (is_learnt_of l) (turn_of l)
 
--- There is place for what a change proposes.
+-- There is place and room for what a change proposes and takes in, and its covers are those of the members.
 abbrev pub IsReady : Proposer → Change → Type 0
-IsReady x (Begin lead) = Unit {0}
+IsReady x Nothing = Unit {0}
+IsReady x (Begin lead) = length lead.covers ≡ x.members
+IsReady x (Take news) = (l : Leading) × (x.lead ≡ Some l) × CanTake l news
 IsReady x (Propose value) = (l : Leading) × (x.lead ≡ Some l) × (length l.proposals < 16) × (l.next ≤ positions)
 
 -- The request found a place: it is proposed at the next position, and this is sent.

@@ -1,19 +1,28 @@
 //! What a proposer has while it leads.
 
-ghost use Rattle.std.specs.Prelude.{◌≡◌, ◌≤◌, ◌<◌, ℕ, length, nat_le, flat_map, is_some, replicate, ◌++◌, IfOk, OnOk};
+ghost use Rattle.std.specs.Prelude.{◌≡◌, ◌≤◌, ◌<◌, ◌+◌, ℕ, [], ◌∷◌, length, nat_le, flat_map, is_some, replicate, ◌++◌, IfOk, OnOk};
 ghost use Rattle.ballots.specs.Terms.{Request};
+ghost use Rattle.std.specs.Option.{option_copied};
+ghost use Rattle.std.specs.Vec.{vec_capacity};
 ghost use Rattle.ballots.specs.Ballot.{count};
-ghost use Rattle.ballots.specs.Messages.{up_to};
+ghost use Rattle.ballots.specs.Messages.{up_to, window_of};
 ghost use Rattle.ballots.specs.Values.{is_numbered, positions};
-ghost use Rattle.paxos.specs.Proposing.{has_free_place, has_open, has_place};
-ghost use Rattle.position_map.specs.Slots.{filled, value_at};
+ghost use Rattle.paxos.specs.Knowledge.{joins};
+ghost use Rattle.paxos.specs.Proposing.{has_free_place, has_open, has_place, still_open};
+ghost use Rattle.position_map.specs.Slots.{filled, value_at, HasSlot};
 ghost use Rattle.proposer.specs.Beginning.{is_in, IsBegun, IsRising};
 ghost use Rattle.proposer.specs.Knowing.{asked_of, IsAcceptOf, IsAgain};
 ghost use Rattle.proposer.specs.Inside.{IsLastKnown};
+ghost use Rattle.proposer.specs.Merging.{HaveRoom, HavePlaces, IsCovering, IsLearning, IsMerged, advanced, with_learnt, with_proposals, with_reports};
+ghost use Rattle.proposer.specs.Taking.{CanTake, HasTaken, IsAsWas, IsSaid, Tells, left_open, view_of};
+ghost use Rattle.proposer.specs.Turning.{HasGone};
+ghost use Rattle.proposer.specs.Views.{AreRising};
 ghost use Rattle.proposer.specs.Terms.{cover_of, is_learnt_of, proposing, report_of, turn_of};
 
+use super::draft::News;
 use super::sends::{Asked, Sends};
-use ballots::{Ballot, Members, Pair, Value, Vote};
+use super::view::{Made, View};
+use ballots::{Ballot, Entry, Members, Pair, Value, Vote, Window};
 use position_map::PositionMap;
 use std::alloc::{AllocError, Global};
 use std::marker::Model;
@@ -22,7 +31,7 @@ use std::marker::Model;
 pub(super) const POSITIONS: u32 = 1_000_000;
 
 /// The proposals that are open at most.
-const MOST_OPEN: usize = 16;
+pub(super) const MOST_OPEN: usize = 16;
 
 /// What a proposer has while it leads.
 #[derive(Drop)]
@@ -59,11 +68,11 @@ impl Model for Lead {
       learnt = l.learnt;
     } };
 
-    ghost use Rattle.std.specs.Prelude.{◌≤◌};
+    ghost use Rattle.std.specs.Prelude.{◌≤◌, length};
     ghost use Rattle.std.specs.Vec.{vec_capacity};
     ghost use Rattle.proposer.specs.Inside.{IsWithin};
 
-    ghost invariant = { λ l. (1 ≤ l.next) × (16 ≤ vec_capacity l.proposals) × IsWithin l.reports × IsWithin l.learnt };
+    ghost invariant = { λ l. (1 ≤ l.next) × (length l.proposals.items ≤ 16) × (16 ≤ vec_capacity l.proposals) × IsWithin l.reports × IsWithin l.learnt };
 }
 
 impl Lead {
@@ -91,13 +100,186 @@ impl Lead {
     }
 
     /// How far a member's windows cover.
-    fn cover(&self, member: u8) -> u32
+    pub(super) fn cover(&self, member: u8) -> u32
         requires least { 1 ≤ member }
         ensures { result ≡ cover_of self.now member }
     {
         match self.covers.get(usize::from(member) - 1) {
             Some(cover) => *cover,
             None => self.base,
+        }
+    }
+
+    /// Takes in reported votes: of two at a position the one of the higher ballot stays. It takes no memory.
+    pub(super) fn merge(&mut self, entries: Vec<Entry>)
+        requires rising { AreRising 1 entries.items }
+        requires room { HaveRoom entries.items self.old.reports }
+        ensures same { self.new ≡ with_reports self.new.reports self.old }
+        ensures merged { IsMerged entries.items self.old.reports self.new.reports }
+    {
+        merge_all(&mut self.reports, entries);
+    }
+
+    /// Takes in learnt positions. It takes no memory.
+    pub(super) fn learn(&mut self, learnt: &[u32])
+        requires rising { IsRising 1 learnt.now }
+        requires room { HavePlaces learnt.now self.old.learnt }
+        ensures same { self.new ≡ with_learnt self.new.learnt self.old }
+        ensures learning { IsLearning learnt.now self.old.learnt self.new.learnt }
+    {
+        learn_all(&mut self.learnt, learnt);
+    }
+
+    /// Whether a member's window is of its ballot, leaves no gap after what that member covers, and covers more.
+    pub(super) fn joins(&self, sender: u8, window: &Window) -> bool
+        requires least { 1 ≤ sender }
+        ensures { result ≡ joins self.now.ballot (cover_of self.now sender) (window_of window.now) }
+    {
+        let cover = self.cover(sender);
+        self.ballot.round == window.ballot.round
+            && self.ballot.member == window.ballot.member
+            && u64::from(window.from) <= u64::from(cover) + 1
+            && cover < window.covered
+    }
+
+    #[tactic(auto, unfolding(ballots::specs::Values::positions))]
+    /// What it sends once it took in what a message told: a member that promised is asked on, and what was proposed goes to all.
+    pub(super) fn sends_of(&self, alloc: Global, news: &News) -> Result<Sends, AllocError>
+        ensures { IfOk result (λ s. IsSaid self.now news.now s) }
+    {
+        let mut prepares = Vec::new(alloc);
+        if news.member > 0 && news.covered < POSITIONS {
+            prepares.push(Asked {
+                member: news.member,
+                from: news.covered + 1,
+            })?;
+        }
+        Ok(Sends {
+            ballot: self.ballot,
+            prepares,
+            accepts: news.made.proposals.clone()?,
+        })
+    }
+
+    /// What a message tells, with room for it, and what proposing comes to then. Nothing but room changes.
+    ///
+    /// It fails where memory is refused.
+    pub(super) fn news(
+        &mut self,
+        alloc: Global,
+        members: Members,
+        member: u8,
+        covered: u32,
+        entries: Vec<Entry>,
+        learnt: Vec<u32>,
+    ) -> Result<News, AllocError>
+        requires entries { AreRising 1 entries.items }
+        requires learnt { IsRising 1 learnt.items }
+        requires member { member ≤ length self.old.covers }
+        ensures same { IsAsWas self.old self.new }
+        ensures next { OnOk result (1 ≤ self.new.next) }
+        ensures told { IfOk result (λ n. Tells member covered entries.items learnt.items n) }
+        ensures gone { IfOk result (λ n. HasGone members (view_of self.new n) (left_open self.new n) self.new.next n.made) }
+        ensures ready { IfOk result (λ n. CanTake self.new n) }
+    {
+        self.make_room(&entries, &learnt)?;
+        let waiting = self.left_open(&learnt);
+        let from = self.next;
+        let view = View {
+            lead: self,
+            member,
+            covered,
+            entries: &entries,
+            learnt: &learnt,
+        };
+        let made = view.go_on(alloc, members, waiting, from)?;
+        Ok(News {
+            member,
+            covered,
+            entries,
+            learnt,
+            made,
+        })
+    }
+
+    /// Makes room for votes and learnt positions, and takes away the room that an earlier draft has left.
+    fn make_room(&mut self, entries: &[Entry], learnt: &[u32]) -> Result<(), AllocError>
+        requires entries { AreRising 1 entries.now }
+        requires learnt { IsRising 1 learnt.now }
+        ensures same { IsAsWas self.old self.new }
+        ensures room { OnOk result (HaveRoom entries.now self.new.reports) }
+        ensures places { OnOk result (HavePlaces learnt.now self.new.learnt) }
+    {
+        self.reports.forget_rooms();
+        self.learnt.forget_rooms();
+        reserve_entries(&mut self.reports, entries)?;
+        reserve_positions(&mut self.learnt, learnt)
+    }
+
+    /// How many proposals are open once these positions are learnt.
+    fn left_open(&self, learnt: &[u32]) -> usize
+        ensures count { result ≡ length (still_open (λ p. is_in p learnt.now) self.now.proposals) }
+        ensures most { result ≤ 16 }
+    {
+        let mut open_ones = 0;
+        for proposal in &self.proposals {
+            if !is_among(learnt, proposal.position) {
+                open_ones += 1;
+            }
+        }
+        open_ones
+    }
+
+    /// Takes in what a message told, closes proposals and goes on to what proposing came to. It takes no memory.
+    pub(super) fn take(&mut self, news: News)
+        requires ready { CanTake self.old news }
+        ensures { HasTaken self.old news self.new }
+    {
+        let News {
+            member,
+            covered,
+            entries,
+            learnt,
+            made,
+        } = news;
+        if member > 0 {
+            self.cover_to(member, covered);
+        }
+        self.merge(entries);
+        self.learn(&learnt);
+        self.close(&learnt);
+        self.advance(made);
+    }
+
+    /// A member's windows cover this far.
+    pub(super) fn cover_to(&mut self, member: u8, covered: u32)
+        requires least { 1 ≤ member }
+        requires there { member ≤ length self.old.covers }
+        ensures { IsCovering member covered self.old self.new }
+    {
+        self.covers[usize::from(member) - 1] = covered;
+    }
+
+    /// Closes the proposals at learnt positions.
+    pub(super) fn close(&mut self, learnt: &[u32])
+        ensures { self.new ≡ with_proposals (still_open (λ p. is_in p learnt.now) self.old.proposals) self.old }
+    {
+        close_all(&mut self.proposals, learnt);
+    }
+
+    /// Goes on to what proposing came to. It takes no memory.
+    pub(super) fn advance(&mut self, made: Made)
+        requires least { 1 ≤ made.next }
+        requires most { length self.old.proposals + length made.proposals.items ≤ 16 }
+        ensures { self.new ≡ advanced made.next made.proposals.items self.old }
+    {
+        let Made {
+            next,
+            mut proposals,
+        } = made;
+        // There is room for 16 from the start.
+        if self.proposals.append(&mut proposals).is_ok() {
+            self.next = next;
         }
     }
 
@@ -167,8 +349,22 @@ impl Lead {
         found
     }
 
+    /// The highest vote reported at a position.
+    pub(super) fn report(&self, position: u32) -> Option<&Vote>
+        ensures { option_copied result ≡ report_of self.now position }
+    {
+        self.reports.get(position)
+    }
+
+    /// Whether a position is learnt.
+    pub(super) fn is_learnt(&self, position: u32) -> bool
+        ensures { result ≡ is_learnt_of self.now position }
+    {
+        self.learnt.get(position).is_some()
+    }
+
     /// The last position that has a report or is learnt, 0 where there is none.
-    fn last_known(&self) -> u32
+    pub(super) fn last_known(&self) -> u32
         ensures { IsLastKnown self.now result }
     {
         let reported = self.reports.last().unwrap_or(0);
@@ -259,4 +455,95 @@ fn is_numbered(value: &Value, client: u32, number: u64) -> bool
         Value::NoOp => false,
         Value::Request(request) => request.id().client == client && request.id().number == number,
     }
+}
+
+/// Takes in reported votes: of two at a position the one of the higher ballot stays.
+fn merge_all(reports: &mut PositionMap<Vote>, entries: Vec<Entry>)
+    requires rising { AreRising 1 entries.items }
+    requires room { HaveRoom entries.items reports.old }
+    ensures { IsMerged entries.items reports.old reports.new }
+{
+    let mut left = entries;
+    while let Some(entry) = left.pop() {
+        merge_one(reports, entry);
+    }
+}
+
+/// Takes in a reported vote.
+fn merge_one(reports: &mut PositionMap<Vote>, entry: Entry)
+    requires most { entry.position ≤ positions }
+    requires room { HasSlot entry.position reports.old }
+    ensures { IsMerged (entry ∷ []) reports.old reports.new }
+{
+    if let Some(known) = reports.get(entry.position) {
+        if !known.ballot.is_below(entry.vote.ballot) {
+            return;
+        }
+    }
+    reports.fill(entry.position, entry.vote);
+}
+
+/// Takes in learnt positions.
+fn learn_all(map: &mut PositionMap<()>, learnt: &[u32])
+    requires rising { IsRising 1 learnt.now }
+    requires room { HavePlaces learnt.now map.old }
+    ensures { IsLearning learnt.now map.old map.new }
+{
+    for position in learnt {
+        map.fill(*position, ());
+    }
+}
+
+/// Closes the proposals at learnt positions.
+fn close_all(proposals: &mut Vec<Pair>, learnt: &[u32])
+    ensures kept { proposals.new.items ≡ still_open (λ p. is_in p learnt.now) proposals.old.items }
+    ensures fewer { length proposals.new.items ≤ length proposals.old.items }
+    ensures capacity { vec_capacity proposals.old ≤ vec_capacity proposals.new }
+{
+    let mut index = 0;
+    while index < proposals.len() {
+        if is_among(learnt, proposals[index].position) {
+            proposals.remove(index);
+        } else {
+            index += 1;
+        }
+    }
+}
+
+/// Whether a position is among these.
+pub(super) fn is_among(positions: &[u32], position: u32) -> bool
+    ensures { result ≡ is_in position positions.now }
+{
+    positions.contains(&position)
+}
+
+/// Makes room for votes.
+fn reserve_entries(reports: &mut PositionMap<Vote>, entries: &[Entry]) -> Result<(), AllocError>
+    requires rising { AreRising 1 entries.now }
+    ensures same { filled reports.new ≡ filled reports.old }
+    ensures room { OnOk result (HaveRoom entries.now reports.new) }
+{
+    for entry in entries {
+        reports.reserve(entry.position)?;
+    }
+    Ok(())
+}
+
+/// Makes room for learnt positions.
+fn reserve_positions(map: &mut PositionMap<()>, learnt: &[u32]) -> Result<(), AllocError>
+    requires rising { IsRising 1 learnt.now }
+    ensures same { filled map.new ≡ filled map.old }
+    ensures places { OnOk result (HavePlaces learnt.now map.new) }
+{
+    for position in learnt {
+        map.reserve(*position)?;
+    }
+    Ok(())
+}
+
+/// A copy of entries.
+pub(super) fn copy_entries(entries: &Vec<Entry>) -> Result<Vec<Entry>, AllocError>
+    ensures { IfOk result (λ v. v.items ≡ entries.now.items) }
+{
+    entries.clone()
 }

@@ -3,11 +3,13 @@
 
 mod draft;
 mod fault;
+pub mod laws;
 mod lead;
 mod proposer;
 mod sends;
 #[cfg(test)]
 mod tests;
+mod view;
 
 pub use draft::Draft;
 pub use fault::ProposerFault;

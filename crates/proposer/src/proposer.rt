@@ -1,24 +1,28 @@
 //! A proposer.
 
-ghost use Rattle.std.specs.Prelude.{◌≡◌, ◌≢◌, ◌≤◌, ◌<◌, ◌↔◌, ℕ, suc, false, List, Option, None, Some, IfOk, IfErr, IsErrOf, OnErr, option_map};
+ghost use Rattle.std.specs.Prelude.{◌≡◌, ◌≢◌, ◌≤◌, ◌<◌, ◌↔◌, ℕ, suc, false, List, [], ◌∷◌, map, Option, None, Some, IfOk, IfErr, IsErrOf, OnErr, option_map};
 ghost use Rattle.ballots.specs.Ballot.{last_round};
-ghost use Rattle.ballots.specs.Messages.{Packet, Prepare, to_all};
+ghost use Rattle.ballots.specs.Messages.{Packet, Prepare, Promise, packet, to_all, window_of};
 ghost use Rattle.ballots.specs.Terms.{Request as RequestTerm};
 ghost use Rattle.ballots.specs.Values.{positions};
+ghost use Rattle.ballots.specs.declared.value.Pair.{Pair};
 ghost use Rattle.ballots.specs.declared.value.Value.{Value};
-ghost use Rattle.paxos.specs.Knowledge.{news, prefix};
+ghost use Rattle.paxos.specs.Knowledge.{Heard, newly, news, news_of, prefix};
 ghost use Rattle.paxos.specs.Records.{Record};
-ghost use Rattle.paxos.specs.Step.{Leader, begins, on_new_request, on_resend, yields};
+ghost use Rattle.paxos.specs.Step.{Leader, begins, on_new_request, on_news, on_promise, on_resend, yields};
 ghost use Rattle.proposer.specs.Beginning.{IsBegun, IsFresh, IsRising};
+ghost use Rattle.proposer.specs.Hearing.{IsUnchanged, IsWindow, TakesLearnt, TakesPromise};
 ghost use Rattle.proposer.specs.Knowing.{IsStopped, Knows, TookPart, accepts_first, prepares_first};
+ghost use Rattle.proposer.specs.declared.draft.News.{News};
+ghost use Rattle.proposer.specs.Taking.{HasTaken};
 ghost use Rattle.proposer.specs.Submitting.{IsReady, IsSubmitted, takes_request};
 ghost use Rattle.proposer.specs.Terms.{Leading, is_open, proposing, yielded};
 
 use super::draft::{Change, Draft};
 use super::fault::ProposerFault;
-use super::lead::{Lead, POSITIONS};
+use super::lead::{Lead, POSITIONS, copy_entries};
 use super::sends::Sends;
-use ballots::{Ballot, Members, Request, Value};
+use ballots::{Ballot, Members, Request, Value, Window};
 use std::alloc::{AllocError, Global};
 use std::marker::Model;
 
@@ -43,7 +47,10 @@ impl Model for Proposer {
 
     ghost view = { λ p. record { members = p.members; member = p.member; lead = p.lead } };
 
-    ghost invariant = { λ p. (1 ≤ p.member) × (p.member ≤ p.members) };
+    ghost use Rattle.std.specs.Prelude.{◌≡◌, Some, length};
+    ghost use Rattle.proposer.specs.Terms.{Leading};
+
+    ghost invariant = { λ p. (1 ≤ p.member) × (p.member ≤ p.members) × ((l : Leading) → p.lead ≡ Some l → length l.covers ≡ p.members) };
 }
 
 impl Proposer {
@@ -126,6 +133,7 @@ impl Proposer {
             → r.promise ≡ promise → from ≡ suc (prefix self.old.members (news heard)) → IsFresh self.old.members heard ballot from learnt.now
             → TookPart (begins self.old.members self.old.member r (record { heard = heard; leader = leader; applied = applied }))
             (to_all self.old.members self.old.member (Prepare ballot from)) self.new) }
+        ensures place { (self.new.members ≡ self.old.members) × (self.new.member ≡ self.old.member) }
         ensures stopped { IfOk result (λ _. IsStopped self.new) }
         ensures no_place { IsErrOf result ProposerFault.NoPlace ↔ (positions < from) }
         ensures no_round { IsErrOf result ProposerFault.NoRound ↔ ((from ≤ positions) × (last_round ≤ promise.round)) }
@@ -151,6 +159,7 @@ impl Proposer {
         requires rising { IsRising from learnt.now }
         ensures ballot { IfOk result (λ d. d.answer ≡ record { round = suc promise.round; member = self.now.member }) }
         ensures begun { IfOk result (λ d. (lead : Leading) × (d.change ≡ Change.Begin lead) × IsBegun self.now.members d.answer from learnt.now lead) }
+        ensures ready { IfOk result (λ d. IsReady self.now d.change) }
         ensures no_place { IsErrOf result ProposerFault.NoPlace ↔ (positions < from) }
         ensures no_round { IsErrOf result ProposerFault.NoRound ↔ ((from ≤ positions) × (last_round ≤ promise.round)) }
         ensures fault { IfErr result (λ fault. fault ≢ ProposerFault.NotLeading) }
@@ -182,6 +191,7 @@ impl Proposer {
         ensures took { IfOk result (λ sends. (heard : List Packet) (leader : Option Leader) (applied : ℕ) (r : Record) → Knows heard leader self.old
             → TookPart (on_new_request self.old.members self.old.member r (record { heard = heard; leader = leader; applied = applied }) request.now leader)
             (prepares_first self.old.members self.old.member (Some sends)) self.new) }
+        ensures place { (self.new.members ≡ self.old.members) × (self.new.member ≡ self.old.member) }
         ensures stopped { IfOk result (λ _. IsStopped self.new) }
         ensures not_leading { IsErrOf result ProposerFault.NotLeading ↔ (self.old.lead ≡ None) }
         ensures no_place { (l : Leading) → self.old.lead ≡ Some l → (IsErrOf result ProposerFault.NoPlace ↔ (takes_request self.old.members l ≡ false)) }
@@ -219,10 +229,126 @@ impl Proposer {
         })
     }
 
+    /// Takes in a promise of a member. A window of its ballot that joins is merged, and proposing goes on. The answer is the next
+    /// Prepare to that member, if it is not covered to the end, and the Accepts of what is proposed; nothing where it does not lead or
+    /// the window does not join.
+    ///
+    /// It fails where memory is refused, and nothing but room has changed then.
+    pub fn on_promise(
+        &mut self,
+        alloc: Global,
+        sender: u8,
+        window: &Window,
+    ) -> Result<Option<Sends>, AllocError>
+        requires least { 1 ≤ sender }
+        requires most { sender ≤ self.old.members }
+        requires window { IsWindow (window_of window.now) }
+        ensures took { IfOk result (λ sends. (heard : List Packet) (leader : Option Leader) (applied : ℕ) (target : ℕ) → Knows heard leader self.old
+            → TookPart (on_promise self.old.members self.old.member heard
+            (record { heard = packet sender (Promise (window_of window.now)) target ∷ heard; leader = leader; applied = applied }) sender (window_of window.now) leader)
+            (prepares_first self.old.members self.old.member sends) self.new) }
+        ensures place { (self.new.members ≡ self.old.members) × (self.new.member ≡ self.old.member) }
+        ensures stopped { IfOk result (λ _. IsStopped self.old → IsStopped self.new) }
+        ensures refused { OnErr result (IsUnchanged self.old self.new) }
+    {
+        let draft = self.draft_promise(alloc, sender, window)?;
+        Ok(self.commit(draft))
+    }
+
+    /// Takes in the positions that one message told newly, rising. Their proposals are closed, and proposing goes on. The answer is the
+    /// Accepts of what is proposed; nothing where it does not lead or nothing is told.
+    ///
+    /// It fails where memory is refused, and nothing but room has changed then.
+    pub fn on_learned(&mut self, alloc: Global, learnt: &[u32]) -> Result<Option<Sends>, AllocError>
+        requires rising { IsRising 1 learnt.now }
+        ensures took { IfOk result (λ sends. (heard : List Packet) (leader : Option Leader) (applied : ℕ) (k : Packet) (h : Heard)
+            → news_of k.sender k.body ≡ h ∷ [] → learnt.now ≡ map (λ (e : Pair). e.position) (newly self.old.members h (news heard)) → Knows heard leader self.old
+            → TookPart (on_news self.old.members self.old.member heard (record { heard = k ∷ heard; leader = leader; applied = applied }) h)
+            (prepares_first self.old.members self.old.member sends) self.new) }
+        ensures place { (self.new.members ≡ self.old.members) × (self.new.member ≡ self.old.member) }
+        ensures stopped { IfOk result (λ _. IsStopped self.old → IsStopped self.new) }
+        ensures refused { OnErr result (IsUnchanged self.old self.new) }
+    {
+        let draft = self.draft_learned(alloc, learnt)?;
+        Ok(self.commit(draft))
+    }
+
+    /// What `on_promise` is about to answer and to change, with the room that it takes.
+    ///
+    /// It fails where memory is refused.
+    pub fn draft_promise(
+        &mut self,
+        alloc: Global,
+        sender: u8,
+        window: &Window,
+    ) -> Result<Draft<Option<Sends>>, AllocError>
+        requires least { 1 ≤ sender }
+        requires most { sender ≤ self.old.members }
+        requires window { IsWindow (window_of window.now) }
+        ensures same { IsUnchanged self.old self.new }
+        ensures takes { IfOk result (λ d. TakesPromise self.new.members self.new.lead sender (window_of window.now) d.change d.answer) }
+        ensures ready { IfOk result (λ d. IsReady self.new d.change) }
+    {
+        if let Some(lead) = &mut self.lead {
+            if lead.joins(sender, window) {
+                let entries = copy_entries(&window.entries)?;
+                let news = lead.news(
+                    alloc,
+                    self.members,
+                    sender,
+                    window.covered,
+                    entries,
+                    Vec::new(alloc),
+                )?;
+                return Ok(Draft {
+                    answer: Some(lead.sends_of(alloc, &news)?),
+                    change: Change::Take(news),
+                });
+            }
+        }
+        Ok(Draft {
+            answer: None,
+            change: Change::Nothing,
+        })
+    }
+
+    /// What `on_learned` is about to answer and to change, with the room that it takes.
+    ///
+    /// It fails where memory is refused.
+    pub fn draft_learned(
+        &mut self,
+        alloc: Global,
+        learnt: &[u32],
+    ) -> Result<Draft<Option<Sends>>, AllocError>
+        requires rising { IsRising 1 learnt.now }
+        ensures same { IsUnchanged self.old self.new }
+        ensures takes { IfOk result (λ d. TakesLearnt self.new.members self.new.lead learnt.now d.change d.answer) }
+        ensures ready { IfOk result (λ d. IsReady self.new d.change) }
+    {
+        if let Some(lead) = &mut self.lead {
+            if !learnt.is_empty() {
+                let positions = Vec::from_slice(alloc, learnt)?;
+                let news = lead.news(alloc, self.members, 0, 0, Vec::new(alloc), positions)?;
+                return Ok(Draft {
+                    answer: Some(lead.sends_of(alloc, &news)?),
+                    change: Change::Take(news),
+                });
+            }
+        }
+        Ok(Draft {
+            answer: None,
+            change: Change::Nothing,
+        })
+    }
+
     /// Makes the change of a draft that this proposer made, and has not changed since, and gives its answer. It takes no memory.
     pub fn commit<A>(&mut self, draft: Draft<A>) -> A
         requires ready { IsReady self.old draft.change }
         ensures answer { result ≡ draft.answer }
+        ensures place { (self.new.members ≡ self.old.members) × (self.new.member ≡ self.old.member) }
+        ensures nothing { draft.change ≡ Change.Nothing → self.new ≡ self.old }
+        ensures taken { (l : Leading) (news : News) → self.old.lead ≡ Some l → draft.change ≡ Change.Take news
+            → (x : Leading) × (self.new ≡ record { members = self.old.members; member = self.old.member; lead = Some x }) × HasTaken l news x }
         ensures begun { (lead : Leading) → draft.change ≡ Change.Begin lead
             → self.new ≡ record { members = self.old.members; member = self.old.member; lead = Some lead } }
         ensures proposed { (l : Leading) (value : Value) → self.old.lead ≡ Some l → draft.change ≡ Change.Propose value
@@ -230,10 +356,16 @@ impl Proposer {
     {
         let Draft { answer, change } = draft;
         match change {
+            Change::Nothing => {}
             Change::Begin(lead) => self.lead = Some(lead),
             Change::Propose(value) => {
                 if let Some(lead) = &mut self.lead {
                     lead.propose(value);
+                }
+            }
+            Change::Take(news) => {
+                if let Some(lead) = &mut self.lead {
+                    lead.take(news);
                 }
             }
         }

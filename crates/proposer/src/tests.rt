@@ -1,8 +1,12 @@
-// How a proposer begins, says again and yields.
+// How a proposer begins, proposes, says again and yields.
 //
 // `rt try --test --fail-alloc N` refuses each allocation in turn.
+ghost use Rattle.std.specs.Prelude.{◌≡◌, ◌≤◌, IfOk};
+ghost use Rattle.ballots.specs.Messages.{window_of};
+ghost use Rattle.proposer.specs.Hearing.{IsWindow};
+
 use crate::{Proposer, ProposerFault};
-use ballots::{Ballot, Members, Request};
+use ballots::{Ballot, Entry, Members, Request, Value, Vote, Window};
 use std::alloc::Global;
 use std::process::Abort;
 use std::test::Fail;
@@ -12,7 +16,9 @@ fn ballot(round: u64, member: u8) -> Ballot {
 }
 
 // The proposer of member 2 of three.
-fn second_of_three(rt: &impl Abort) -> Result<Proposer, Fail> {
+fn second_of_three(rt: &impl Abort) -> Result<Proposer, Fail>
+    ensures { IfOk result (λ p. 2 ≤ p.members) }
+{
     let members = Members::new(3).ok_or("no members")?;
     assert!(rt; 2 <= members.count());
     Ok(Proposer::new(members, 2))
@@ -67,5 +73,60 @@ fn a_request_finds_no_place_before_promises(rt: HostRuntime) -> Result<(), Fail>
     let _ballot = proposer.begin(alloc, Ballot::NONE, 1, &[])?;
     assert!(rt; !proposer.has_open(7, 1));
     assert!(rt; proposer.submit(alloc, &request).err() == Some(ProposerFault::NoPlace));
+    Ok(())
+}
+
+// A vote of ballot (1,1) for the no-op.
+fn voted(position: u32) -> Entry
+    ensures { result.position ≡ position }
+{
+    Entry {
+        position,
+        vote: Vote {
+            ballot: ballot(1, 1),
+            value: Value::NoOp,
+        },
+    }
+}
+
+#[tactic(auto, unfolding(ballots::specs::Values::positions))]
+// A window of ballot (2,2) over all positions, with votes at 1 and 3.
+fn votes_at_one_and_three(alloc: Global) -> Result<Window, Fail>
+    ensures { IfOk result (λ w. IsWindow (window_of w)) }
+{
+    let mut entries = Vec::new(alloc);
+    entries.push(voted(1))?;
+    entries.push(voted(3))?;
+    Ok(Window {
+        ballot: ballot(2, 2),
+        from: 1,
+        covered: 1_000_000,
+        entries,
+    })
+}
+
+#[tactic(auto, unfolding(ballots::specs::Values::positions))]
+// A window of ballot (2,2) over all positions, without votes.
+fn no_votes(alloc: Global) -> Window
+    ensures { IsWindow (window_of result) }
+{
+    Window {
+        ballot: ballot(2, 2),
+        from: 1,
+        covered: 1_000_000,
+        entries: Vec::new(alloc),
+    }
+}
+
+#[tactic(auto, unfolding(ballots::specs::Values::positions))]
+#[test]
+fn a_gap_between_reports_is_filled(rt: HostRuntime) -> Result<(), Fail> {
+    let alloc = rt.alloc();
+    let mut proposer = second_of_three(&rt)?;
+    let _ballot = proposer.begin(alloc, ballot(1, 1), 1, &[])?;
+    let first = proposer.on_promise(alloc, 1, &votes_at_one_and_three(alloc)?)?;
+    assert_eq!(rt; first.ok_or("it joins")?.accepts.len(), 0);
+    let second = proposer.on_promise(alloc, 2, &no_votes(alloc))?;
+    assert_eq!(rt; second.ok_or("it joins")?.accepts.len(), 3);
     Ok(())
 }
