@@ -18,7 +18,7 @@ use Rattle.paxos.proofs.Kept.{slot, Asked, Leads, MaySay}
 use Rattle.paxos.proofs.Effects.{Stands, None_new, Good, plain_good, weaker_leads, nothing_new, sent_to_each, same_heard, same_applied, same_told, quiet_good}
 
 -- a leader that did not yield is the one from before, of no lower ballot
-yields_is : (b : Ballot) (o : Option Leader) (l : Leader) → yields b o ≡ Some l → (o ≡ Some l) × (below l.ballot b ≡ false)
+pub yields_is : (b : Ballot) (o : Option Leader) (l : Leader) → yields b o ≡ Some l → (o ≡ Some l) × (below l.ballot b ≡ false)
 yields_is b None l h = absurd (none-some l h)
 yields_is b (Some k) l h = one k l (below k.ballot b) refl h
   where

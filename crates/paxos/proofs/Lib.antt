@@ -16,6 +16,11 @@ pub mod Accepting
 pub mod Leading
 pub mod Answering
 pub mod Runs
+pub mod Ranges
+pub mod Places
+pub mod Steps
+pub mod Settled
+pub mod WellFormed
 pub mod Worlds
 pub mod Quick
 pub mod Playing

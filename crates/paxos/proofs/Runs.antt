@@ -10,7 +10,7 @@ use Rattle.paxos.specs.Application.{Application}
 use Rattle.paxos.specs.Records.{Record, vote_at}
 use Rattle.paxos.specs.Knowledge.{news, learnt, prefix, values_to}
 use Rattle.paxos.specs.Step.{Running, Effect, quiet, on_message, may_begin, begins, on_begin}
-use Rattle.paxos.specs.World.{Member, World, started, fresh, start, Event, Deliver, Begin, Resend, CatchUp, Submits, Asks, StopInDeliver, StopInBegin, Stop, Start, Choice, stops_in, settles, runs, takes, acts, delivers, begins_in, asks, restarts, starts, happens, Happening, run, Run}
+use Rattle.paxos.specs.World.{Member, World, started, fresh, start, Event, Deliver, Begin, Resend, CatchUp, Submits, Asks, StopInDeliver, StopInBegin, Stop, Start, Choice, keeps_in, stops_in, settles, runs, takes, acts, delivers, begins_in, asks, restarts, starts, happens, Happening, run, Run}
 use Rattle.paxos.specs.Agreement.{HasVoted, IsChosen, IsTold, Agreement, IsRunning}
 use Rattle.paxos.specs.Proposable.{IsFree, IsOfHighest, IsProposable, IsIssued, P2c}
 use Rattle.paxos.proofs.Order.{below_self}
@@ -173,8 +173,8 @@ happens_keeps app w c (Resend m) i = acts_keeps w i m _ (λ r u s. settles_good 
 happens_keeps app w c (CatchUp m) i = acts_keeps w i m _ (λ r u s. settles_good w m r c _ s.rising (catch_up_tick_good w m r u s))
 happens_keeps app w c (Submits m q) i = asks_keeps w i m (Submit q) tt (at w.members m)
 happens_keeps app w c (Asks m q) i = asks_keeps w i m (Ask q) tt (at w.members m)
-happens_keeps app w c (StopInDeliver k kept) i = delivers_keeps w i app (stops_in kept) (λ m r e rising g. stops_in_good w m r kept e rising g) (at w.sent k) (λ p h. at_has w.sent k p h)
-happens_keeps app w c (StopInBegin m kept) i = acts_keeps w i m _ (λ r u s. stops_in_good w m r kept (on_begin (length w.members) m r u) s.rising (begin_good w m r u s))
+happens_keeps app w c (StopInDeliver k kept) i = delivers_keeps w i app (stops_in (keeps_in c.fails kept)) (λ m r e rising g. stops_in_good w m r (keeps_in c.fails kept) e rising g) (at w.sent k) (λ p h. at_has w.sent k p h)
+happens_keeps app w c (StopInBegin m kept) i = acts_keeps w i m _ (λ r u s. stops_in_good w m r (keeps_in c.fails kept) (on_begin (length w.members) m r u) s.rising (begin_good w m r u s))
 happens_keeps app w c (Stop m) i = acts_keeps w i m _ (λ r u s. stops_in_good w m r false (quiet u) s.rising (quiet_good w m r u s))
 happens_keeps app w c (Start m) i = starts_keeps w i c.fails m (at w.members m) refl
 

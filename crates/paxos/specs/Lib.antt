@@ -6,5 +6,6 @@ pub mod Proposing
 pub mod Step
 pub mod World
 pub mod Agreement
+pub mod WellFormed
 pub mod Proposable
 pub mod Examples

@@ -91,6 +91,11 @@ after w m r e = record {
 abbrev pub stops_in : (kept : Bool) → Effect → Effect
 stops_in kept e = record { write = if kept then e.write else Nothing; running = None; sends = []; tells = [] }
 
+-- what a stop inside a write keeps: what the event says, unless the store fails then, which may leave either
+abbrev pub keeps_in : (fails : Option Bool) → (kept : Bool) → Bool
+keeps_in None kept = kept
+keeps_in (Some left) kept = left
+
 -- a store that fails in a step that writes stops the member
 abbrev pub may_fail : Option Bool → Effect → Effect
 may_fail None e = e
@@ -161,8 +166,8 @@ happens app w c (Resend m) = acts w m (λ r u. settles (length w.members) c (on_
 happens app w c (CatchUp m) = acts w m (λ r u. settles (length w.members) c (on_catch_up_tick (length w.members) m u))
 happens app w c (Submits m q) = asks w m (Submit q) (at w.members m)
 happens app w c (Asks m q) = asks w m (Ask q) (at w.members m)
-happens app w c (StopInDeliver k kept) = delivers app w (stops_in kept) (at w.sent k)
-happens app w c (StopInBegin m kept) = acts w m (λ r u. stops_in kept (on_begin (length w.members) m r u))
+happens app w c (StopInDeliver k kept) = delivers app w (stops_in (keeps_in c.fails kept)) (at w.sent k)
+happens app w c (StopInBegin m kept) = acts w m (λ r u. stops_in (keeps_in c.fails kept) (on_begin (length w.members) m r u))
 happens app w c (Stop m) = acts w m (λ r u. stops_in false (quiet u))
 happens app w c (Start m) = starts w c.fails m (at w.members m)
 

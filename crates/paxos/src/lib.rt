@@ -9,17 +9,19 @@ ghost use Rattle.paxos.specs.Lists.{at};
 ghost use Rattle.paxos.specs.Agreement.{Agreement};
 ghost use Rattle.paxos.specs.Examples.{accepted_from, ballot, request, vote, no_op, votes_to, reporting, after_stop, straight, applied_in, leader_change, gap_heard, gap_leader, gap_proposed, gap_accepted, other_request};
 ghost use Rattle.paxos.specs.Knowledge.{Heard, AcceptedBy, learnt, pair_of, IsHeard, prefix, values_to, reported};
+ghost use Rattle.ballots.specs.Ballot.{most_members};
 ghost use Rattle.ballots.specs.Values.{positions};
 ghost use Rattle.ballots.specs.declared.value.Value.{Value};
 ghost use Rattle.ballots.specs.declared.value.Value.TheVariants.{NoOp, Request as Of};
 ghost use Rattle.ballots.specs.declared.value.Vote.{Vote};
 ghost use Rattle.ballots.specs.declared.value.Pair.{Pair};
-ghost use Rattle.ballots.specs.Messages.{Promise, packet};
+ghost use Rattle.ballots.specs.Messages.{Promise, Packet, packet};
 ghost use Rattle.paxos.specs.Application.{Application};
 ghost use Rattle.paxos.specs.Proposable.{P2c};
 ghost use Rattle.paxos.specs.Proposing.{turns, WentOn};
-ghost use Rattle.paxos.specs.Records.{window};
-ghost use Rattle.paxos.specs.Step.{goes_on};
+ghost use Rattle.paxos.specs.Records.{Record, window};
+ghost use Rattle.paxos.specs.Step.{Running, goes_on, on_message, on_begin, on_resend, on_catch_up_tick};
+ghost use Rattle.paxos.specs.WellFormed.{IsMessage, IsCalledFor, IsState, IsStep, IsWellFormed};
 ghost use Rattle.paxos.specs.World.{World, told_to, start, Event, Happening, run, Run};
 
 /// No position has two chosen values; what a member has learnt it was told, and what it was told is chosen; and members that
@@ -41,6 +43,33 @@ pub fn agreement()
 pub fn promised_or_free()
     ensures { (app : Application) (members : ℕ) (events : List Happening) (k : ℕ)
         → P2c (run app (start members) (take k events)) }
+{}
+
+/// Each step of a member keeps what it keeps and leads well formed, and sends and tells nothing else.
+///
+/// This holds for all that a member of up to 63 may keep and have heard, where a message comes well formed, and tells of no
+/// promise above the member's own. A ballot is asked for and proposed under by its own member alone, votes are not above the
+/// promise, and a window ends with the last position or with its eighth vote.
+pub fn steps_are_well_formed()
+    ensures message { (app : Application) (n m : ℕ) (k : Packet) (r : Record) (u : Running)
+        → 1 ≤ m → m ≤ n → n ≤ most_members
+        → IsMessage n k → IsCalledFor r k.body → IsState n m r u → IsStep n m r (on_message app n m k r u) }
+    ensures begin { (n m : ℕ) (r : Record) (u : Running)
+        → 1 ≤ m → m ≤ n → n ≤ most_members → IsState n m r u → IsStep n m r (on_begin n m r u) }
+    ensures resend { (n m : ℕ) (r : Record) (u : Running)
+        → 1 ≤ m → m ≤ n → n ≤ most_members → IsState n m r u → IsStep n m r (on_resend n m u) }
+    ensures catch_up { (n m : ℕ) (r : Record) (u : Running)
+        → 1 ≤ m → m ≤ n → n ≤ most_members → IsState n m r u → IsStep n m r (on_catch_up_tick n m u) }
+{}
+
+/// All members and all messages ever sent are well formed, and no promise is on its way to a member that has not promised as
+/// much.
+///
+/// This holds for 1 to 63 members and after every list of events, whatever each event left open; so it does after each
+/// beginning of the list, which is a list too.
+pub fn runs_are_well_formed()
+    ensures { (app : Application) (members : ℕ) (events : List Happening)
+        → 1 ≤ members → members ≤ most_members → IsWellFormed (run app (start members) events) }
 {}
 
 /// A position is learnt exactly where a majority was heard to have accepted one vote there, or its value was told as chosen; the
