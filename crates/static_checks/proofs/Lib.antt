@@ -1,0 +1,5 @@
+pub mod Folds
+pub mod Mapped
+pub mod Passes
+pub mod Here
+pub mod Nesting

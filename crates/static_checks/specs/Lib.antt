@@ -1,0 +1,6 @@
+pub mod Parts
+pub mod Functions
+pub mod Variables
+pub mod Categories
+pub mod Brackets
+pub mod Inside

@@ -1,0 +1,13 @@
+//! Static faults of queries: checks of tokens and of expressions, each over the whole (XQuery 1.0, section 2.3.1).
+#![tactic(auto)]
+
+mod brackets;
+mod category;
+mod functions;
+mod parts;
+mod variables;
+
+pub use brackets::nests_too_deep;
+pub use category::Category;
+pub use functions::has_unknown_call;
+pub use variables::binds_a_name_twice;
