@@ -1,15 +1,16 @@
 -- Changes that are drafted, and made.
-use Rattle.std.proofs.Common.{◌≡◌, ℕ, ◌+◌, ◌<◌, ◌≤◌, true, false, refl, sym, ap, subst, ◌∙◌, List, [], ◌∷◌, ◌++◌, None, is_some, length, take, get_or, Result, Ok, Err}
+use Rattle.std.proofs.Common.{◌≡◌, ℕ, suc, ◌+◌, ◌<◌, ◌≤◌, Bool, true, false, cond, arith, refl, sym, ap, subst, ◌∙◌, List, [], ◌∷◌, ◌++◌, None, is_none, is_some, length, take, get_or, Result, Ok, Err}
 use Rattle.std.specs.Prelude.{IfOk}
 use Rattle.std.specs.List.{All}
 use Rattle.std.proofs.lemmas.List.Elements.{All-filter, filter_more}
 use Rattle.ballots.specs.Ballot.{is_majority}
+use Rattle.ballots.specs.Values.{positions}
 use Rattle.ballots.specs.declared.value.Vote.{Vote}
 use Rattle.ballots.specs.declared.value.Pair.{Pair}
 use Rattle.paxos.specs.Knowledge.{AcceptedBy, Heard, pair_of, value_at}
-use Rattle.learner.specs.Changes.{Change, Counts, HasCounted, IsAsWas, IsChanged, IsDue, Learns, Nothing, change_of, not_learnt, positions_of, with_member}
+use Rattle.learner.specs.Changes.{Change, Counts, HasCounted, IsAsWas, IsChanged, IsDue, Learns, Nothing, change_of, not_learnt, positions_in, positions_of, with_member}
 use Rattle.learner.specs.Drafts.{Draft}
-use Rattle.learner.specs.Hearing.{HasHeard, news_at}
+use Rattle.learner.specs.Hearing.{AreAbove, HasHeard, IsRising, news_at}
 use Rattle.learner.specs.Polls.{IsAdded}
 use Rattle.learner.specs.Slots.{IsPosition}
 use Rattle.learner.specs.Terms.{Learner, Tally, learnt_of}
@@ -59,3 +60,24 @@ drafts_ok (Err e) h l b c n = tt
 pub drafts_due : {E : Type 0} (r : Result Draft E) (learnt pairs : List Pair) → IfOk r (λ (d : Draft). d.change ≡ Learns (not_learnt learnt pairs)) → All (λ (e : Pair). IsPosition e.position) pairs → IfOk r (λ (d : Draft). IsDue d.change)
 drafts_due (Ok d) learnt pairs c a = rw c (All-filter _ (λ (e : Pair). IsPosition e.position) pairs a)
 drafts_due (Err e) learnt pairs c a = tt
+
+-- positions that rise from somewhere rise from below
+rising_below : (k n : ℕ) (ps : List ℕ) → k ≤ n → IsRising n ps → IsRising k ps
+rising_below k n [] l h = tt
+rising_below k n (p ∷ ps) l h = (omega (arith, l, h.0), h.1, h.2)
+
+-- a pair before others, or none
+rising_if : (k : ℕ) (e : Pair) (rest : List Pair) (b : Bool) → k ≤ e.position → e.position ≤ positions → IsRising (e.position + 1) (positions_in rest) → IsRising k (positions_in (cond b (e ∷ rest) rest))
+rising_if k e rest true l m h = (l, m, h)
+rising_if k e rest false l m h = rising_below k (e.position + 1) (positions_in rest) (omega (arith, l)) h
+
+-- of pairs that rise, those that are not learnt rise
+pub rising_pairs : (k p : ℕ) (learnt pairs : List Pair) → k ≤ p + 1 → AreAbove p pairs → All (λ (e : Pair). e.position ≤ positions) pairs → IsRising k (positions_in (not_learnt learnt pairs))
+rising_pairs k p learnt [] l h a = tt
+rising_pairs k p learnt (e ∷ es) l h a =
+    rising_if k e (not_learnt learnt es) (is_none (value_at e.position learnt)) (omega (arith, l, h.0)) (a 0 e (omega arith)) (rising_pairs (e.position + 1) e.position learnt es (omega arith) h.1 (λ i d b. a (suc i) d (omega (arith, b))))
+
+-- the news of a draft rise where its change's positions do
+pub drafts_rising : {E : Type 0} (r : Result Draft E) (change : Change) → IfOk r (λ (d : Draft). d.change ≡ change) → IfOk r (λ (d : Draft). d.news ≡ positions_of d.change) → IsRising 1 (positions_of change) → IfOk r (λ (d : Draft). IsRising 1 d.news)
+drafts_rising (Ok d) change c n h = rw (n, c) h
+drafts_rising (Err e) change c n h = tt

@@ -1,13 +1,13 @@
 //! A learner.
 
-ghost use Rattle.std.specs.Prelude.{◌≡◌, ◌≤◌, ℕ, List, [], ◌∷◌, ◌++◌, None, is_some, length, IfOk, OnErr, OnOk, MatchOption};
+ghost use Rattle.std.specs.Prelude.{◌≡◌, ◌≤◌, ℕ, List, [], ◌∷◌, ◌++◌, None, is_some, length, IfOk, IsSome, OnErr, OnOk, MatchOption};
 ghost use Rattle.std.specs.List.{All};
 ghost use Rattle.std.specs.Option.{option_copied};
 ghost use Rattle.ballots.specs.Values.{positions};
-ghost use Rattle.position_map.specs.Slots.{filled, HasSlot};
+ghost use Rattle.position_map.specs.Slots.{filled, value_at as value_in, HasSlot};
 ghost use Rattle.paxos.specs.Knowledge.{AcceptedBy, ChosenAre, Heard, first, last_of_run, learnt as learnt_at, pair_of, prefix, value_at};
 ghost use Rattle.learner.specs.Changes.{AreForgotten, change_of, HasRoom, IsAsWas, IsChanged, IsDue, Learns, not_learnt, positions_in, positions_of};
-ghost use Rattle.learner.specs.Hearing.{AreAbove, HasHeard, IsLowest, news_at};
+ghost use Rattle.learner.specs.Hearing.{AreAbove, HasHeard, IsLowest, IsRising, news_at};
 ghost use Rattle.learner.specs.Slots.{AreWithin, IsPosition, pairs_of};
 ghost use Rattle.learner.specs.Terms.{learnt_of, open_in, open_of};
 
@@ -113,6 +113,7 @@ impl Learner {
         requires most { position ≤ positions }
         ensures heard { OnOk result ((heard : List Heard) → HasHeard heard self.old → HasHeard (AcceptedBy member position vote.now ∷ heard) self.new) }
         ensures newly { IfOk result (λ v. (heard : List Heard) → HasHeard heard self.old → v.items ≡ news_at self.old.members (AcceptedBy member position vote.now) heard) }
+        ensures rising { IfOk result (λ v. IsRising 1 v.items) }
         ensures members { self.new.members ≡ self.old.members }
         ensures refused { OnErr result (IsAsWas self.old self.new) }
     {
@@ -128,6 +129,7 @@ impl Learner {
         requires most { All (λ e. e.position ≤ positions) pairs.now }
         ensures heard { OnOk result ((heard : List Heard) → HasHeard heard self.old → HasHeard (ChosenAre pairs.now ∷ heard) self.new) }
         ensures newly { IfOk result (λ v. (heard : List Heard) → HasHeard heard self.old → v.items ≡ news_at self.old.members (ChosenAre pairs.now) heard) }
+        ensures rising { IfOk result (λ v. IsRising 1 v.items) }
         ensures members { self.new.members ≡ self.old.members }
         ensures refused { OnErr result (IsAsWas self.old self.new) }
     {
@@ -152,6 +154,7 @@ impl Learner {
         ensures change { IfOk result (λ d. d.change ≡ change_of self.old (AcceptedBy member position vote.now)) }
         ensures news { IfOk result (λ d. d.news ≡ positions_of d.change) }
         ensures newly { IfOk result (λ d. (heard : List Heard) → HasHeard heard self.old → d.news ≡ news_at self.old.members (AcceptedBy member position vote.now) heard) }
+        ensures rising { IfOk result (λ d. IsRising 1 d.news) }
         ensures room { IfOk result (λ d. HasRoom self.new d.change) }
         ensures due { IfOk result (λ d. IsDue d.change) }
         ensures same { IsAsWas self.old self.new }
@@ -184,6 +187,7 @@ impl Learner {
         ensures change { IfOk result (λ d. d.change ≡ change_of self.old (ChosenAre pairs.now)) }
         ensures news { IfOk result (λ d. d.news ≡ positions_of d.change) }
         ensures newly { IfOk result (λ d. (heard : List Heard) → HasHeard heard self.old → d.news ≡ news_at self.old.members (ChosenAre pairs.now) heard) }
+        ensures rising { IfOk result (λ d. IsRising 1 d.news) }
         ensures room { IfOk result (λ d. HasRoom self.new d.change) }
         ensures due { IfOk result (λ d. IsDue d.change) }
         ensures same { IsAsWas self.old self.new }
@@ -214,7 +218,8 @@ impl Learner {
 
     /// Takes away the room that a draft has left.
     fn forget_rooms(&mut self)
-        ensures { IsAsWas self.old self.new }
+        ensures same { IsAsWas self.old self.new }
+        ensures full { (q : ℕ) → HasSlot q self.new.slots → IsSome (value_in q (filled self.new.slots)) }
     {
         self.chosen.forget_rooms();
         self.tallies.forget_room();

@@ -3,6 +3,7 @@
 
 mod learning;
 mod nodes;
+mod proposing;
 mod votes;
 
 use std::io;
@@ -29,6 +30,7 @@ fn run(rt: &HostRuntime) -> io::Result<u8> {
         "votes" => votes::put(rt.alloc(), count).map(|_| count),
         "prepares" => votes::prepared(rt.alloc(), count),
         "learnt" => learning::learnt(rt.alloc(), count),
+        "proposed" => proposing::proposed(rt.alloc(), count),
         "nodes" => nodes::made(rt.alloc(), count).map(|_| count),
         "print" => nodes::printed(rt.alloc(), count),
         "compare" => nodes::compared(rt.alloc(), count),

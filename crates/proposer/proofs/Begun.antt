@@ -13,6 +13,7 @@ use Rattle.paxos.specs.Step.{Leader, begins, next_ballot}
 use Rattle.proposer.specs.Beginning.{IsBegun, IsFresh}
 use Rattle.proposer.specs.Knowing.{IsLed, IsStopped, TookPart}
 use Rattle.proposer.specs.Terms.{Leading, Proposer, cover_of, report_of, is_learnt_of, turn_of}
+use Rattle.proposer.proofs.Positions.{some_one}
 
 -- neither of two
 neither : (a b : Bool) → (a || b) ≡ false → (a ≡ false) × (b ≡ false)
@@ -87,6 +88,3 @@ pub begun_proposer : (n m : ℕ) (b : Ballot) (from : ℕ) (known : List ℕ) (l
 begun_proposer n m b from known lead y h e = λ x f.
     let same : lead ≡ x = some_one (sym (ap (λ (z : Proposer). z.lead) e) ∙ f) in
     rw e (subst (λ z. HasStopped n (cover_of z) (report_of z) (is_learnt_of z) (turn_of z)) same (begun_stopped n b from known lead h))
-  where
-    some_one : {a c : Leading} → Some a ≡ Some c → a ≡ c
-    some_one q = cc

@@ -1,5 +1,5 @@
 -- Drafts of promises and of learnt positions.
-use Rattle.std.proofs.Common.{◌≡◌, ◌≢◌, ℕ, ◌+◌, ◌≤◌, Bool, true, false, arith, refl, sym, ap, ap₂, ◌∙◌, subst, List, [], ◌∷◌, length, Option, Some}
+use Rattle.std.proofs.Common.{◌≡◌, ◌≢◌, ℕ, ◌+◌, ◌≤◌, Bool, true, false, arith, refl, sym, ap, ◌∙◌, subst, List, [], ◌∷◌, length, Option, Some}
 use Rattle.std.specs.Prelude.{◌==◌}
 use Rattle.ballots.specs.Messages.{Window}
 use Rattle.ballots.specs.Values.{positions}

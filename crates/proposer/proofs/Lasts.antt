@@ -1,5 +1,5 @@
 -- The last of entries and of positions that rise.
-use Rattle.std.proofs.Common.{◌≡◌, ℕ, zero, suc, ◌+◌, ◌-◌, ◌≤◌, ◌<◌, Bool, true, false, ◌||◌, arith, refl, sym, ap, ◌∙◌, subst, List, [], ◌∷◌, length, Option, Some, None, IsSome, eqb}
+use Rattle.std.proofs.Common.{◌≡◌, ℕ, zero, suc, ◌+◌, ◌-◌, ◌≤◌, ◌<◌, Bool, true, false, ◌||◌, arith, refl, List, [], ◌∷◌, length, Some, None, IsSome, eqb}
 use Rattle.std.specs.Prelude.{slice_get}
 use Rattle.std.proofs.lemmas.Bool.{eq-eqb, ne_eqb}
 use Rattle.ballots.specs.Values.{positions}
@@ -7,6 +7,7 @@ use Rattle.ballots.specs.declared.value.Entry.{Entry}
 use Rattle.paxos.specs.Records.{vote_at}
 use Rattle.proposer.specs.Beginning.{is_in, IsRising}
 use Rattle.proposer.specs.Views.{AreRising}
+use Rattle.proposer.proofs.Positions.{some_one}
 
 -- what is known of the last entry
 pub record IsLastEntry (k : ℕ) (es : List Entry) (e : Entry) : Type 0 where
@@ -14,9 +15,6 @@ pub record IsLastEntry (k : ℕ) (es : List Entry) (e : Entry) : Type 0 where
   pub most : e.position ≤ positions
   pub above : (p : ℕ) → e.position < p → vote_at p es ≡ None
   pub there : IsSome (vote_at e.position es)
-
-some_one : {A : Type 0} {a b : A} → Some a ≡ Some b → a ≡ b
-some_one h = cc
 
 -- of a list of one
 one_entry : (k : ℕ) (x : Entry) → AreRising k (x ∷ []) → IsLastEntry k (x ∷ []) x

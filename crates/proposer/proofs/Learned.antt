@@ -1,16 +1,15 @@
 -- The proposer's part of what a member does with what it learns.
-use Rattle.std.proofs.Common.{◌≡◌, ℕ, suc, ◌+◌, ◌≤◌, ◌<◌, ◌⊎◌, inl, inr, ⊎_elim, Bool, true, false, not, ◌||◌, ◌&&◌, cond, arith, refl, sym, ap, ap₂, ◌∙◌, subst, List, [], ◌∷◌, ◌++◌, map, Option, Some, None, is_some, eqb}
-use Rattle.std.specs.Prelude.{is_none, flat_map, filter, option_to_list}
+use Rattle.std.proofs.Common.{◌≡◌, ℕ, ◌⊎◌, inl, inr, ⊎_elim, Bool, true, false, not, ◌||◌, cond, arith, refl, sym, ap, ap₂, ◌∙◌, subst, List, [], ◌∷◌, ◌++◌, map, Option, Some, None, is_some, eqb}
+use Rattle.std.specs.Prelude.{is_none, option_to_list}
 use Rattle.std.proofs.lemmas.Bool.{eq-eqb, ne_eqb, cases_eq}
 use Rattle.ballots.specs.Messages.{Packet, Body, Promise}
-use Rattle.ballots.specs.declared.value.Entry.{Entry}
 use Rattle.ballots.specs.declared.value.Pair.{Pair}
 use Rattle.ballots.specs.declared.value.Value.{Value}
 use Rattle.paxos.specs.Knowledge.{Heard, AcceptedBy, ChosenAre, news, news_of, newly, newly_at, pair_of, promised_of, windows, learnt, cover, reported, higher}
 use Rattle.paxos.specs.Lists.{Has}
 use Rattle.paxos.specs.Proposing.{Turn, still_open}
 use Rattle.paxos.specs.Records.{vote_at}
-use Rattle.paxos.specs.Step.{Leader, Running, Effect, accepts, closes, goes_on, leading, learns, on_news, quiet, cover_heard, report_heard, is_learnt_heard}
+use Rattle.paxos.specs.Step.{Leader, Effect, accepts, closes, goes_on, leading, learns, on_news, cover_heard, report_heard, is_learnt_heard}
 use Rattle.paxos.proofs.Lists.{has_flat}
 use Rattle.paxos.proofs.News.{learnt_more, newly_or_older}
 use Rattle.proposer.specs.declared.draft.Change.{Change}
@@ -19,8 +18,8 @@ use Rattle.proposer.specs.declared.sends.Sends.{Sends}
 use Rattle.proposer.specs.Beginning.{is_in}
 use Rattle.proposer.specs.Hearing.{IsTaking, IsQuiet, TakesLearnt}
 use Rattle.proposer.specs.Knowing.{IsLed, IsStopped, Knows, TookPart, prepare_of, prepares_first}
-use Rattle.proposer.specs.Taking.{asked_on, left_open, view_of}
-use Rattle.proposer.specs.Terms.{Leading, Proposer, cover_of, report_of, is_learnt_of}
+use Rattle.proposer.specs.Taking.{asked_on}
+use Rattle.proposer.specs.Terms.{Leading, Proposer, cover_of, report_of}
 use Rattle.proposer.proofs.Merging.{higher_none}
 use Rattle.proposer.proofs.Promised.{Commits, or_none, taking_stopped, quiet_stopped}
 use Rattle.proposer.proofs.Taken.{Agrees, later, step_goes, taken_led}

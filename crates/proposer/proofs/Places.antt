@@ -1,18 +1,23 @@
 -- Where a request finds a place.
-use Rattle.std.proofs.Common.{◌≡◌, ℕ, ◌≤◌, ◌<◌, ◌⊎◌, inl, inr, Bool, true, false, ◌&&◌, cond, arith, refl, sym, ap, ◌∙◌, subst, Option, Some, None, IsSome, is_none, ⊎_elim}
-use Rattle.std.specs.Prelude.{nat_lt}
-use Rattle.std.proofs.lemmas.Bool.{cases_lt, lt-ltb}
-use Rattle.std.proofs.lemmas.Bool.Decides.{nat_tests}
+use Rattle.std.proofs.Common.{◌≡◌, ℕ, ◌*◌, ◌≤◌, ◌<◌, eqb, length, [], ◌⊎◌, inl, inr, Bool, true, false, ◌&&◌, cond, arith, refl, sym, ap, ◌∙◌, subst, Option, Some, None, IsSome, is_none, ⊎_elim}
+use Rattle.std.specs.Prelude.{nat_le, nat_lt}
+use Rattle.std.proofs.lemmas.Bool.{cases_lt, le-ltb, lt-ltb, ne_eqb}
+use Rattle.ballots.specs.Values.{positions}
 use Rattle.ballots.specs.declared.value.Value.TheVariants.{NoOp}
 use Rattle.ballots.specs.declared.value.Vote.{Vote}
 use Rattle.paxos.specs.Proposing.{Turn, passes, proposes, proposal, has_place, has_free_place, lies_above}
-use Rattle.paxos.proofs.Same.{lies_below_last}
+use Rattle.paxos.proofs.Same.{count_agrees, lies_below_last}
 use Rattle.proposer.specs.Inside.{IsLastKnown}
 use Rattle.proposer.specs.Terms.{Leading, cover_of, report_of, is_learnt_of, turn_of}
+use Rattle.proposer.specs.Views.{cover_in}
 
--- a number isn't below one that isn't above it
-not_below : (a b : ℕ) → b ≤ a → nat_lt a b ≡ false
-not_below a b l = grind (arith, nat_tests)
+-- a leader that is told nothing has place where it had
+pub untold_place : (n : ℕ) (l : Leading) (t : Turn) → has_place n (cover_in (record { lead = l; member = 0; covered = 0; entries = []; learnt = [] })) t ≡ has_place n (cover_of l) t
+untold_place n l t = ap (λ (k : ℕ). nat_lt (length t.proposals) 16 && (nat_le t.next positions && nat_lt n (2 * k)))
+    (count_agrees n (λ m. nat_le t.next (cond (eqb m 0) 0 (cover_of l m))) (λ m. nat_le t.next (cover_of l m)) (λ m one most. ap (nat_le t.next) (as_before m one)))
+  where
+    as_before : (m : ℕ) → 0 < m → cond (eqb m 0) 0 (cover_of l m) ≡ cover_of l m
+    as_before m one = rw (ne_eqb m 0 (λ e. omega (arith, e, one))) refl
 
 -- a place is free exactly where nothing is known at the next position or above
 pub free_place_is : (n : ℕ) (l : Leading) (last : ℕ) → 1 ≤ l.next → IsLastKnown l last → (has_place n (cover_of l) (turn_of l) && nat_lt last l.next) ≡ has_free_place n (cover_of l) (report_of l) (is_learnt_of l) (turn_of l)
@@ -64,8 +69,8 @@ free_place_is n l last one k = by_place (has_place n (cover_of l) (turn_of l)) (
     by_place : (place : Bool) → (last < l.next) ⊎ (l.next ≤ last) → (place && nat_lt last l.next) ≡ (place && is_none (cond place (cond (is_learnt_of l l.next) (Some (passes (turn_of l))) (proposal (report_of l) (is_learnt_of l) (turn_of l) (report_of l l.next))) None))
     by_place false h = refl
     by_place true (inl a) = let u = k.above l.next a in
-        lt-ltb last l.next a ∙ sym (turn_is ∙ unknown (is_learnt_of l l.next) (nat_lt l.next last) (report_of l l.next) u.1 u.0 (not_below l.next last (omega (arith, a))))
-    by_place true (inr a) = not_below last l.next a ∙ sym (turn_is ∙ from_next a (cases_lt l.next last))
+        lt-ltb last l.next a ∙ sym (turn_is ∙ unknown (is_learnt_of l l.next) (nat_lt l.next last) (report_of l l.next) u.1 u.0 (le-ltb l.next last (omega (arith, a))))
+    by_place true (inr a) = le-ltb last l.next a ∙ sym (turn_is ∙ from_next a (cases_lt l.next last))
 
 -- the same where there is place
 pub free_place_when : (n : ℕ) (l : Leading) (last : ℕ) → 1 ≤ l.next → IsLastKnown l last → has_place n (cover_of l) (turn_of l) ≡ true → nat_lt last l.next ≡ has_free_place n (cover_of l) (report_of l) (is_learnt_of l) (turn_of l)

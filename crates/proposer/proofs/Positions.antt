@@ -43,6 +43,10 @@ pub absent : {A : Type 0} (o : Option A) → is_some o ≡ false → o ≡ None
 absent None e = refl
 absent (Some x) e = let f : ⊥ = cc in absurd f
 
+-- two values that are one option
+pub some_one : {A : Type 0} {a b : A} → Some a ≡ Some b → a ≡ b
+some_one e = cc
+
 -- each element of equal ones is that one
 pub same_each : (n m c : ℕ) → unwrap_or (at (replicate n c) m) c ≡ c
 same_each n zero c = refl

@@ -1,17 +1,15 @@
 -- The proposer's part of what a member does with a promise.
-use Rattle.std.proofs.Common.{◌≡◌, ℕ, suc, ◌+◌, ◌-◌, ◌≤◌, ◌<◌, Bool, true, false, not, ◌||◌, ◌&&◌, cond, arith, refl, sym, ap, ap₂, ◌∙◌, subst, List, [], ◌∷◌, ◌++◌, map, Option, Some, None, is_some, eqb}
+use Rattle.std.proofs.Common.{◌≡◌, ℕ, suc, ◌+◌, ◌≤◌, ◌<◌, Bool, true, false, ◌||◌, ◌&&◌, cond, arith, refl, sym, ap, ap₂, ◌∙◌, subst, List, [], ◌∷◌, ◌++◌, map, Option, Some, None, is_some, eqb}
 use Rattle.std.specs.Prelude.{nat_le, nat_lt}
 use Rattle.std.proofs.lemmas.Bool.{eq-eqb, ne_eqb, leb-false}
-use Rattle.std.proofs.lemmas.Bool.Decides.{nat_tests}
 use Rattle.ballots.specs.Messages.{Packet, Window, Promise, Prepare, packet}
 use Rattle.ballots.specs.Values.{positions}
 use Rattle.ballots.specs.declared.value.Entry.{Entry}
 use Rattle.ballots.specs.declared.value.Pair.{Pair}
-use Rattle.ballots.specs.declared.value.Vote.{Vote}
 use Rattle.paxos.specs.Knowledge.{joins, windows, report_in, higher}
 use Rattle.paxos.specs.Proposing.{Turn, still_open, HasStopped}
 use Rattle.paxos.specs.Records.{vote_at}
-use Rattle.paxos.specs.Step.{Leader, Running, Effect, accepts, asks_on, goes_on, leading, quiet, on_promise, cover_heard, report_heard, is_learnt_heard}
+use Rattle.paxos.specs.Step.{Leader, Running, Effect, accepts, asks_on, goes_on, leading, quiet, on_promise, cover_heard}
 use Rattle.position_map.specs.Slots.{value_at}
 use Rattle.proposer.specs.declared.draft.Change.{Change}
 use Rattle.proposer.specs.declared.draft.Change.TheVariants.{Nothing, Take}
@@ -20,10 +18,10 @@ use Rattle.proposer.specs.declared.sends.Sends.{Sends}
 use Rattle.proposer.specs.Beginning.{is_in}
 use Rattle.proposer.specs.Hearing.{AreBetween, IsWindow, IsTaking, IsQuiet, IsUnchanged, SameLead, TakesIf, TakesPromise}
 use Rattle.proposer.specs.Knowing.{IsLed, IsStopped, Knows, TookPart, prepare_of, prepares_first}
-use Rattle.proposer.specs.Taking.{HasTaken, IsAsWas, asked_on, left_open, view_of}
+use Rattle.proposer.specs.Taking.{HasTaken, IsAsWas, asked_on}
 use Rattle.proposer.specs.Terms.{Leading, Proposer, cover_of, report_of, is_learnt_of, turn_of}
-use Rattle.proposer.specs.Views.{cover_in, report_in_view, is_learnt_in}
-use Rattle.proposer.proofs.Viewing.{is_below}
+use Rattle.std.proofs.lemmas.Bool.{lt-ltb}
+use Rattle.proposer.proofs.Positions.{some_one}
 use Rattle.proposer.proofs.Taken.{Agrees, cover_skips, cover_joins, report_skips, report_joins, later, step_goes, taken_led, taken_stopped, stopped_same}
 
 -- Room changes nothing that a proposer knows.
@@ -52,10 +50,6 @@ knows_unchanged heard None x y s k = no_lead y.lead (subst (λ o. SameLead o y.l
 knows_unchanged heard (Some l) x y s k =
     let r = some_lead k.0 y.lead (subst (λ o. SameLead o y.lead) k.1 s.lead) in
     (r.0, r.1, subst (λ n. IsLed n heard l r.0) (sym s.members) (led_as_was x.members heard l k.0 r.0 r.2 k.2))
-
--- two values that are one option
-pub some_one : {A : Type 0} {a c : A} → Some a ≡ Some c → a ≡ c
-some_one q = cc
 
 -- What commits.
 pub record Commits (x : Proposer) (change : Change) (y : Proposer) : Type 0 where
@@ -131,7 +125,7 @@ module _ (n k target applied : ℕ) (w : Window) (heard : List Packet) (l : Lead
       → map (prepare_of m s.ballot) s.prepares.items ≡ asks_on m (packet k (Promise w) target ∷ heard) l k
   asked_again m news s b e f g j =
       let covered : cover_heard (packet k (Promise w) target ∷ heard) l k ≡ w.covered = cover_joins l.ballot l.base k w (windows heard) k j ∙ ap (λ q. cond q w.covered (cover_heard heard l k)) (eq-eqb k k refl) in
-      rw (e, b, f, g, covered, is_below 0 k one) (by_test (nat_lt w.covered positions))
+      rw (e, b, f, g, covered, lt-ltb 0 k one) (by_test (nat_lt w.covered positions))
     where
       by_test : (t : Bool) → map (prepare_of m l.ballot) (cond t (record { member = k; from = suc w.covered } ∷ []) []) ≡ cond t (packet m (Prepare l.ballot (suc w.covered)) k ∷ []) []
       by_test true = refl

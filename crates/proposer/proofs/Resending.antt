@@ -9,6 +9,7 @@ use Rattle.paxos.specs.Step.{Leader, accepts, asks_on, cover_heard, on_resend}
 use Rattle.proposer.specs.declared.sends.Sends.{Sends}
 use Rattle.proposer.specs.Knowing.{IsLed, IsAgain, Knows, TookPart, asked_of, prepare_of, accepts_first}
 use Rattle.proposer.specs.Terms.{Leading, Proposer, cover_of}
+use Rattle.proposer.proofs.Positions.{some_one}
 
 -- what two functions give for the members 1 to n, if they agree on them
 same_members : {A : Type 0} (n : ℕ) (f g : ℕ → List A) → ((k : ℕ) → 1 ≤ k → k ≤ n → f k ≡ g k) → flat_map f (up_to n) ≡ flat_map g (up_to n)
@@ -32,10 +33,6 @@ asked_same m k b heard l x e h = rw (e, h) (by_test (nat_lt (cover_heard heard l
     by_test : (t : Bool) → map (prepare_of m l.ballot) (cond t (record { member = k; from = suc (cover_heard heard l k) } ∷ []) []) ≡ cond t (packet m (Prepare l.ballot (suc (cover_heard heard l k))) k ∷ []) []
     by_test true = refl
     by_test false = refl
-
--- two values that are one option
-some_one : {A : Type 0} {a c : A} → Some a ≡ Some c → a ≡ c
-some_one q = cc
 
 -- the proposer's part of a Resend
 pub again_took : (y : Proposer) (x : Leading) (s : Sends) → y.lead ≡ Some x → IsAgain y.members x s → (heard : List Packet) (leader : Option Leader) (applied : ℕ) → Knows heard leader y

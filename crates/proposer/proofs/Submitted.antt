@@ -20,10 +20,7 @@ use Rattle.proposer.specs.declared.sends.Sends.{Sends}
 use Rattle.proposer.specs.Knowing.{IsLed, IsAcceptOf, IsStopped, Knows, TookPart, prepares_first}
 use Rattle.proposer.specs.Submitting.{takes_request}
 use Rattle.proposer.specs.Terms.{Leading, Proposer, cover_of, report_of, is_learnt_of, turn_of, is_open, proposing}
-
--- two values that are one option
-some_one : {A : Type 0} {a c : A} → Some a ≡ Some c → a ≡ c
-some_one q = cc
+use Rattle.proposer.proofs.Positions.{some_one}
 
 -- a leader and a proposer that knows what it heard begin proposing alike
 turn_alike : (n : ℕ) (heard : List Packet) (l : Leader) (x : Leading) → IsLed n heard l x → turn_of x ≡ turn_heard l

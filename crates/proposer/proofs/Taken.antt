@@ -1,8 +1,7 @@
 -- What a leader that took in a message has, and what it sends.
-use Rattle.std.proofs.Common.{◌≡◌, ℕ, zero, suc, ◌+◌, ◌-◌, ◌*◌, ◌≤◌, ◌<◌, ◌⊎◌, ⊎_elim, Bool, true, false, not, ◌||◌, ◌&&◌, cond, arith, refl, sym, ap, ap₂, ◌∙◌, subst, List, [], ◌∷◌, ◌++◌, length, Option, Some, None, eqb}
-use Rattle.std.specs.Prelude.{nat_le, nat_lt}
+use Rattle.std.proofs.Common.{◌≡◌, ℕ, ◌-◌, ◌*◌, ◌≤◌, ◌<◌, ⊎_elim, Bool, true, false, ◌&&◌, cond, arith, refl, sym, ap, ap₂, ◌∙◌, subst, List, [], ◌∷◌, ◌++◌, length, Option, eqb}
+use Rattle.std.specs.Prelude.{nat_le}
 use Rattle.std.proofs.lemmas.Bool.{eq-eqb, ne_eqb, cases_eq}
-use Rattle.ballots.specs.Ballot.{count, IsMajority}
 use Rattle.ballots.specs.Messages.{Packet, Window}
 use Rattle.ballots.specs.Values.{positions}
 use Rattle.ballots.specs.declared.ballot.Ballot.{Ballot}
@@ -10,13 +9,12 @@ use Rattle.ballots.specs.declared.value.Pair.{Pair}
 use Rattle.ballots.specs.declared.value.Vote.{Vote}
 use Rattle.paxos.specs.Knowledge.{Promised, joins, cover, reported, report_in, higher}
 use Rattle.paxos.specs.Lists.{Has}
-use Rattle.paxos.specs.Proposing.{Turn, turns, still_open, HasStopped, Full, Spent, Uncovered, NothingAbove}
+use Rattle.paxos.specs.Proposing.{Turn, turns, HasStopped, Full, Spent, Uncovered, NothingAbove}
 use Rattle.paxos.specs.Step.{Leader, goes_on, cover_heard, report_heard, is_learnt_heard, turn_of as turn_heard}
 use Rattle.paxos.proofs.Lists.{has_cases}
 use Rattle.paxos.proofs.Same.{SameAbove, turns_same, count_agrees}
 use Rattle.paxos.proofs.Stopping.{turns_stop, went_on}
 use Rattle.proposer.specs.declared.draft.News.{News}
-use Rattle.proposer.specs.Beginning.{is_in}
 use Rattle.proposer.specs.Knowing.{IsLed}
 use Rattle.proposer.specs.Taking.{HasTaken, left_open, view_of}
 use Rattle.proposer.specs.Terms.{Leading, cover_of, report_of, is_learnt_of, turn_of}

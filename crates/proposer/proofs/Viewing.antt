@@ -1,7 +1,6 @@
 -- What a view knows.
-use Rattle.std.proofs.Common.{◌≡◌, ℕ, zero, suc, ◌+◌, ◌≤◌, ◌<◌, ◌⊎◌, inl, inr, ⊎_elim, Bool, true, false, ◌||◌, arith, refl, sym, ap, ap₂, ◌∙◌, subst, List, Option, Some, None, IsSome, is_some, cond, max, nat_lt}
+use Rattle.std.proofs.Common.{◌≡◌, ℕ, ◌≤◌, ◌<◌, ◌⊎◌, inl, inr, ⊎_elim, Bool, true, false, ◌||◌, arith, refl, sym, ap, ap₂, ◌∙◌, subst, Option, Some, None, IsSome, is_some, cond, max, nat_lt}
 use Rattle.std.proofs.lemmas.Bool.{cases_lt}
-use Rattle.std.proofs.lemmas.Bool.Decides.{nat_tests}
 use Rattle.ballots.specs.Ballot.{below}
 use Rattle.ballots.specs.Values.{positions}
 use Rattle.ballots.specs.declared.value.Value.TheVariants.{NoOp}
@@ -80,11 +79,3 @@ unknown_turn v n last t k place unlearnt unreported =
     ∙ ap (λ b. cond b (Some (passes t)) (proposal (report_in_view v) (is_learnt_in v) t (report_in_view v t.next))) unlearnt
     ∙ ap (proposal (report_in_view v) (is_learnt_in v) t) unreported
     ∙ ap (λ b. cond b (Some (proposes NoOp t)) None) (lies_below_last (report_in_view v) (is_learnt_in v) last k.above k.there k.most t.next)
-
--- a number is below a larger one
-pub is_below : (a b : ℕ) → a < b → nat_lt a b ≡ true
-is_below a b l = grind (arith, nat_tests)
-
--- a number isn't below one that isn't above it
-pub not_below : (a b : ℕ) → b ≤ a → nat_lt a b ≡ false
-not_below a b l = grind (arith, nat_tests)

@@ -1,15 +1,12 @@
 -- What a leader knows once it takes in one more message.
-use Rattle.std.specs.Prelude.{◌≡◌, ◌<◌, ◌≤◌, ◌+◌, ◌⊎◌, ℕ, Bool, true, false, ◌||◌, ◌==◌, if◌then◌else◌, List, [], ◌∷◌, Option, Some, None, IsSome, refl}
-use Rattle.std.specs.Coded.{Coded, code_by, coded×, coded_ℕ, coded_list}
+use Rattle.std.specs.Prelude.{◌≡◌, ◌<◌, ◌≤◌, ◌+◌, ◌⊎◌, ℕ, Bool, true, false, ◌||◌, ◌==◌, if◌then◌else◌, List, [], ◌∷◌, Option, None, IsSome}
 use Rattle.ballots.specs.Values.{positions}
 use Rattle.ballots.specs.declared.value.Entry.{Entry}
 use Rattle.ballots.specs.declared.value.Vote.{Vote}
-use Rattle.ballots.specs.contracts.value.Entry as entry
 use Rattle.paxos.specs.Knowledge.{higher}
-use Rattle.paxos.specs.Proposing.{Turn, passes, proposes}
 use Rattle.paxos.specs.Records.{vote_at}
 use Rattle.proposer.specs.Beginning.{is_in, IsRising}
-use Rattle.proposer.specs.Terms.{Leading, leading_code, cover_of, report_of, is_learnt_of}
+use Rattle.proposer.specs.Terms.{Leading, cover_of, report_of, is_learnt_of}
 
 -- what was known; the member that promises (0 where none does), how far it covers then, and what it reports; what is newly learnt
 pub record View : Type 0 where

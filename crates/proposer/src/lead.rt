@@ -325,28 +325,18 @@ impl Lead {
         self.has_place(members) && self.last_known() < self.next
     }
 
-    #[tactic(auto, unfolding(ballots::specs::Values::positions))]
     /// Whether fewer than 16 proposals are open, and a majority covers the next position.
     fn has_place(&self, members: Members) -> bool
         ensures { result ≡ has_place members (cover_of self.now) (turn_of self.now) }
     {
-        self.proposals.len() < MOST_OPEN
-            && self.next <= POSITIONS
-            && 2 * self.covering(members, self.next) > members.count()
-    }
-
-    /// How many members' windows cover a position.
-    fn covering(&self, members: Members, position: u32) -> u8
-        ensures count { result ≡ count members (λ m. nat_le position (cover_of self.now m)) }
-        ensures most { result ≤ members }
-    {
-        let mut found = 0;
-        for before in 0..members.count() {
-            if position <= self.cover(before + 1) {
-                found += 1;
-            }
-        }
-        found
+        let untold = View {
+            lead: self,
+            member: 0,
+            covered: 0,
+            entries: &[],
+            learnt: &[],
+        };
+        untold.has_place(members, self.proposals.len(), self.next)
     }
 
     /// The highest vote reported at a position.

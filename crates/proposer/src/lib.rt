@@ -7,8 +7,6 @@ pub mod laws;
 mod lead;
 mod proposer;
 mod sends;
-#[cfg(test)]
-mod tests;
 mod view;
 
 pub use draft::Draft;

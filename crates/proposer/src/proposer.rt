@@ -67,6 +67,13 @@ impl Proposer {
         }
     }
 
+    /// How many members there are.
+    pub fn members(&self) -> Members
+        ensures { result ≡ self.now.members }
+    {
+        self.members
+    }
+
     /// The ballot that it leads with, if it leads.
     pub fn leads(&self) -> Option<Ballot>
         ensures ballot { result ≡ option_map (λ (l : Leading). l.ballot) self.now.lead }

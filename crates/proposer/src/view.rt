@@ -151,7 +151,7 @@ impl<'a> View<'a> {
 
     #[tactic(auto, unfolding(ballots::specs::Values::positions))]
     /// Whether there is place, where so many proposals are open and this is the next position.
-    fn has_place(&self, members: Members, waiting: usize, next: u32) -> bool
+    pub(super) fn has_place(&self, members: Members, waiting: usize, next: u32) -> bool
         ensures { (t : TurnTerm) → t.next ≡ next → length t.proposals ≡ waiting → result ≡ has_place members (cover_in self.now) t }
     {
         waiting < MOST_OPEN

@@ -1,4 +1,4 @@
-use Rattle.std.proofs.Common.{◌≡◌, sym, ap, subst, ◌∙◌, arith, get_or}
+use Rattle.std.proofs.Common.{sym, ap, ◌∙◌, arith}
 use Rattle.ballots.specs.declared.value.Pair.{Pair}
 use Rattle.proposer.specs.Beginning.{is_in}
 use Rattle.proposer.proofs.Merging.{close_there, leave_there}

@@ -1,4 +1,4 @@
-use Rattle.std.proofs.Common.{◌≡◌, ◌+◌, drop, get_or}
+use Rattle.std.proofs.Common.{◌+◌, drop, get_or}
 use Rattle.proposer.proofs.Merging.{learn_more}
 use Rattle.proposer.proofs.Positions.{from_place}
 use Rattle.proposer.proofs.lead.learn_all.Goals as goal

@@ -1,4 +1,4 @@
-use Rattle.std.proofs.Common.{◌≡◌, subst}
+use Rattle.std.proofs.Common.{subst}
 use Rattle.proposer.specs.Merging.{HaveRoom}
 use Rattle.proposer.specs.Views.{AreRising}
 use Rattle.proposer.proofs.Merging.{merge_more, parted, last_room}

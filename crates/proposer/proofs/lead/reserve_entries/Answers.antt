@@ -1,4 +1,4 @@
-use Rattle.std.proofs.Common.{◌≡◌, ◌∙◌, ◌+◌, drop}
+use Rattle.std.proofs.Common.{◌∙◌, ◌+◌, drop}
 use Rattle.proposer.proofs.Merging.{entries_from, entries_rest, room_more}
 use Rattle.proposer.proofs.lead.reserve_entries.Goals as goal
 

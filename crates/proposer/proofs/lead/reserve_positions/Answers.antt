@@ -1,4 +1,4 @@
-use Rattle.std.proofs.Common.{◌≡◌, ◌∙◌, ◌+◌, drop, get_or}
+use Rattle.std.proofs.Common.{◌∙◌, ◌+◌, drop, get_or}
 use Rattle.proposer.proofs.Merging.{place_more}
 use Rattle.proposer.proofs.Positions.{from_place, rising_rest}
 use Rattle.proposer.proofs.lead.reserve_positions.Goals as goal

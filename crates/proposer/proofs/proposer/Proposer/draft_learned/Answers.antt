@@ -1,4 +1,4 @@
-use Rattle.std.proofs.Common.{◌≡◌, refl, sym, ap, arith, length}
+use Rattle.std.proofs.Common.{refl}
 use Rattle.proposer.proofs.Hears.{takes_positions, tells_same, not_empty}
 use Rattle.proposer.proofs.proposer.Proposer.draft_learned.Goals as goal
 

@@ -1,4 +1,4 @@
-use Rattle.std.proofs.Common.{◌≡◌, refl, sym, subst, ◌∙◌}
+use Rattle.std.proofs.Common.{refl, sym, subst, ◌∙◌}
 use Rattle.ballots.specs.Messages.{window_of}
 use Rattle.proposer.specs.Views.{AreRising}
 use Rattle.proposer.proofs.Hears.{rising_from, takes_joined, tells_same}

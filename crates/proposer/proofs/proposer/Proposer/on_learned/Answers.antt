@@ -1,5 +1,4 @@
-use Rattle.std.proofs.Common.{◌≡◌, ◌∷◌, sym, ap, subst, ◌∙◌, map}
-use Rattle.ballots.specs.declared.value.Pair.{Pair}
+use Rattle.std.proofs.Common.{◌∷◌, sym, ap, ◌∙◌}
 use Rattle.paxos.specs.Knowledge.{newly, news}
 use Rattle.paxos.specs.Step.{on_news}
 use Rattle.proposer.specs.Terms.{Proposer}

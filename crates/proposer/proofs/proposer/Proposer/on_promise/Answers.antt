@@ -1,8 +1,6 @@
-use Rattle.std.proofs.Common.{◌≡◌, ◌≤◌, ◌∷◌, List, Option, sym, ap, subst, ◌∙◌}
-use Rattle.ballots.specs.Messages.{Packet, Promise, packet, window_of}
+use Rattle.std.proofs.Common.{◌≤◌, ◌∷◌, sym, subst}
+use Rattle.ballots.specs.Messages.{Promise, packet, window_of}
 use Rattle.paxos.specs.Step.{on_promise}
-use Rattle.proposer.specs.declared.sends.Sends.{Sends}
-use Rattle.proposer.specs.Knowing.{TookPart, prepares_first}
 use Rattle.proposer.specs.Terms.{Proposer}
 use Rattle.proposer.proofs.Promised.{Commits, promise_took, promise_stopped, knows_unchanged, stopped_unchanged, took_as_was}
 use Rattle.proposer.proofs.proposer.Proposer.on_promise.Goals as goal

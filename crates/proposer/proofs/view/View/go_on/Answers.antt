@@ -1,11 +1,9 @@
-use Rattle.std.proofs.Common.{◌≡◌, ◌∷◌, ◌++◌, [], List, ◌+◌, refl, sym, ap, subst, ◌∙◌, arith, length, length-append, replicate, Some}
+use Rattle.std.proofs.Common.{◌∷◌, [], refl, ap, subst, ◌∙◌, arith, length, length-append, replicate}
 use Rattle.std.proofs.lemmas.List.{length-replicate}
 use Rattle.ballots.specs.Values.{positions}
-use Rattle.ballots.specs.declared.value.Pair.{Pair}
 use Rattle.paxos.specs.Knowledge.{pair_of}
-use Rattle.paxos.specs.Proposing.{Turn, proposes}
 use Rattle.proposer.specs.Turning.{IsTurn}
-use Rattle.proposer.proofs.Going.{Goes, goes_first, goes_pass, goes_propose, goes_last, past_last, turn_placed, so_many, turn_at, one}
+use Rattle.proposer.proofs.Going.{goes_first, goes_pass, goes_propose, goes_last, past_last, turn_placed, so_many, turn_at, one}
 use Rattle.proposer.proofs.view.View.go_on.Goals as goal
 
 pub loop-next-init : goal.loop-next-init

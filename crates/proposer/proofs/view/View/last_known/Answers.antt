@@ -1,4 +1,4 @@
-use Rattle.std.proofs.Common.{◌≡◌, ap, subst}
+use Rattle.std.proofs.Common.{subst}
 use Rattle.proposer.specs.Views.{View, IsLastIn}
 use Rattle.proposer.proofs.Viewing.{last_of_three}
 use Rattle.proposer.proofs.view.View.last_known.Goals as goal
