@@ -1,4 +1,0 @@
-use Rattle.parser.proofs.query.+single.Given as goal
-
-abbrev pub decreases-single : goal.decreases-single
-decreases-single l = l.depth

@@ -1,0 +1,33 @@
+-- Operators, by how tightly they bind (XQuery 1.0, appendix A.4).
+use Rattle.std.specs.Prelude.{ℕ, Bool, true, false, Option}
+use Rattle.query_tokens.specs.declared.kind.Kind.{Kind}
+use Rattle.query_grammar.specs.declared.ast.Binary.{Binary}
+use Rattle.query_grammar.specs.Words.{intersect_operator, union_operator, multiply_operator, add_operator, range_operator, comparison_operator, and_operator, or_operator}
+use Rattle.query_parts.specs.declared.precedence.Precedence.{Precedence}
+use Rattle.query_parts.specs.declared.precedence.Precedence.TheVariants as precedence
+
+abbrev pub operator_at : Precedence → Kind → Option Binary
+operator_at precedence.Intersection = intersect_operator
+operator_at precedence.Union = union_operator
+operator_at precedence.Multiplication = multiply_operator
+operator_at precedence.Addition = add_operator
+operator_at precedence.Range = range_operator
+operator_at precedence.Comparison = comparison_operator
+operator_at precedence.Conjunction = and_operator
+operator_at precedence.Disjunction = or_operator
+
+abbrev pub looseness_at : Precedence → ℕ
+looseness_at precedence.Intersection = 3
+looseness_at precedence.Union = 4
+looseness_at precedence.Multiplication = 5
+looseness_at precedence.Addition = 6
+looseness_at precedence.Range = 7
+looseness_at precedence.Comparison = 8
+looseness_at precedence.Conjunction = 9
+looseness_at precedence.Disjunction = 10
+
+-- whether at most one of them stands between operands
+abbrev pub is_once : Precedence → Bool
+is_once precedence.Range = true
+is_once precedence.Comparison = true
+is_once _ = false

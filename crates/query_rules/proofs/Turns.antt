@@ -1,0 +1,158 @@
+-- A recursion on a count of turns, beside a loop that counts up; and the readers by the parts that the code has.
+use Rattle.std.proofs.Common.{◌≡◌, ℕ, zero, suc, ◌+◌, ◌-◌, ◌<◌, Bool, true, false, cond, if◌then◌else◌, map, length, List, [], ◌∷◌, ◌++◌, refl, Option, None, Some, sym, ap, ◌∙◌, arith}
+use Rattle.query_tokens.specs.declared.kind.Kind.TheVariants as k
+use Rattle.query_tokens.specs.declared.token.Token.{Token}
+use Rattle.query_grammar.specs.declared.ast.Expr.{Expr}
+use Rattle.query_grammar.specs.declared.ast.Expr.TheVariants as e
+use Rattle.query_grammar.specs.declared.ast.Clause.{Clause}
+use Rattle.query_grammar.specs.declared.ast.Clause.TheVariants as clause
+use Rattle.query_grammar.specs.Grammar as grammar
+use Rattle.query_grammar.specs.Reader as r
+use Rattle.query_grammar.specs.Reading.{Reader, pure, ◌>>=◌, ◌>>◌, and_then, rounds, many, at_level, sees, eat}
+use Rattle.query_rules.specs.Parts as part
+
+pub deeper : {X : Type 0} (f : ℕ → X) (n : ℕ) → 0 < n → f n ≡ f (suc (n - 1))
+deeper f n some = let e : n ≡ suc (n - 1) = omega arith in ap f e
+
+-- a turn of the loop is a step of the recursion
+pub one_round : {A : Type 0} (goes_on : List Token → Bool) (item : Reader A) (n at : ℕ) (acc : List A) (ts : List Token) (x : A) (mid : List Token) (after : List A)
+    → at < n → goes_on ts ≡ true → item ts ≡ Some (x, mid) → after ≡ acc ++ x ∷ [] → rounds goes_on item (n - at) acc ts ≡ rounds goes_on item (n - (at + 1)) after mid
+unfolding rounds
+one_round goes_on item n at acc ts x mid after below g e grown =
+    let turn : n - at ≡ suc (n - (at + 1)) = omega arith in
+    ap (λ k. rounds goes_on item k acc ts) turn
+    ∙ ap (λ b. cond b (and_then (item ts) (λ y. rounds goes_on item (n - (at + 1)) (acc ++ y ∷ []))) (Some (acc, ts))) g
+    ∙ ap (λ o. and_then o (λ y. rounds goes_on item (n - (at + 1)) (acc ++ y ∷ []))) e
+    ∙ ap (λ y. rounds goes_on item (n - (at + 1)) y mid) (sym grown)
+
+-- Lists read one after another, behind one another.
+unfoldable pub flat_rounds : {A : Type 0} → (List Token → Bool) → Reader (List A) → ℕ → List A → Reader (List A)
+flat_rounds goes_on item zero xs ts = Some (xs, ts)
+flat_rounds goes_on item (suc n) xs ts = if goes_on ts then and_then (item ts) (λ x. flat_rounds goes_on item n (xs ++ x)) else Some (xs, ts)
+
+pub one_flat_round : {A : Type 0} (goes_on : List Token → Bool) (item : Reader (List A)) (n at : ℕ) (acc : List A) (ts : List Token) (x : List A) (mid : List Token) (after : List A)
+    → at < n → goes_on ts ≡ true → item ts ≡ Some (x, mid) → after ≡ acc ++ x → flat_rounds goes_on item (n - at) acc ts ≡ flat_rounds goes_on item (n - (at + 1)) after mid
+unfolding flat_rounds
+one_flat_round goes_on item n at acc ts x mid after below g e grown =
+    let turn : n - at ≡ suc (n - (at + 1)) = omega arith in
+    ap (λ k. flat_rounds goes_on item k acc ts) turn
+    ∙ ap (λ b. cond b (and_then (item ts) (λ y. flat_rounds goes_on item (n - (at + 1)) (acc ++ y))) (Some (acc, ts))) g
+    ∙ ap (λ o. and_then o (λ y. flat_rounds goes_on item (n - (at + 1)) (acc ++ y))) e
+    ∙ ap (λ y. flat_rounds goes_on item (n - (at + 1)) y mid) (sym grown)
+
+nothing_after : {A : Type 0} (xs : List A) → xs ++ [] ≡ xs
+nothing_after [] = refl
+nothing_after (x ∷ xs) = ap (λ ys. x ∷ ys) (nothing_after xs)
+
+append_assoc : {A : Type 0} (xs ys zs : List A) → xs ++ (ys ++ zs) ≡ (xs ++ ys) ++ zs
+append_assoc [] ys zs = refl
+append_assoc (x ∷ xs) ys zs = ap (λ us. x ∷ us) (append_assoc xs ys zs)
+
+flat_last : {A : Type 0} (xs : List (List A)) (x : List A) → part.flat (xs ++ x ∷ []) ≡ part.flat xs ++ x
+flat_last [] x = nothing_after x
+flat_last (y ∷ ys) x = ap (λ us. y ++ us) (flat_last ys x) ∙ append_assoc y (part.flat ys) x
+
+flat_step : {A : Type 0} (item : Reader (List A)) (f : List A → Reader (List (List A))) (g : List A → Reader (List A)) (xs : List (List A)) (ts : List Token)
+    → ((x : List A) (mid : List Token) → and_then (f x mid) (λ ys. pure (part.flat ys)) ≡ g x mid)
+    → (b : Bool) (o : Option (List A × List Token))
+    → and_then (cond b (and_then o f) (Some (xs, ts))) (λ ys. pure (part.flat ys)) ≡ cond b (and_then o g) (Some (part.flat xs, ts))
+flat_step item f g xs ts h false o = refl
+flat_step item f g xs ts h true None = refl
+flat_step item f g xs ts h true (Some p) = h p.0 p.1
+
+pub flat_is : {A : Type 0} (goes_on : List Token → Bool) (item : Reader (List A)) (n : ℕ) (xs : List (List A)) (ts : List Token)
+    → and_then (rounds goes_on item n xs ts) (λ ys. pure (part.flat ys)) ≡ flat_rounds goes_on item n (part.flat xs) ts
+unfolding rounds flat_rounds
+flat_is goes_on item zero xs ts = refl
+flat_is goes_on item (suc n) xs ts =
+    flat_step item (λ x. rounds goes_on item n (xs ++ x ∷ [])) (λ x. flat_rounds goes_on item n (part.flat xs ++ x)) xs ts
+    (λ x mid. flat_is goes_on item n (xs ++ x ∷ []) mid ∙ ap (λ ys. flat_rounds goes_on item n ys mid) (flat_last xs x))
+    (goes_on ts) (item ts)
+
+pub flat_begun : {A : Type 0} (goes_on : List Token → Bool) (item : Reader (List A)) (ts : List Token) (n : ℕ) (found : List A)
+    → n ≡ length ts → found ≡ [] → (many goes_on item >>= (λ ys. pure (part.flat ys))) ts ≡ flat_rounds goes_on item (n - 0) found ts
+flat_begun goes_on item ts n found all none =
+    let turns : length ts ≡ n - 0 = omega arith in
+    flat_is goes_on item (length ts) [] ts
+    ∙ ap (λ m. flat_rounds goes_on item m [] ts) turns
+    ∙ ap (λ ys. flat_rounds goes_on item (n - 0) ys ts) (sym none)
+
+-- Steps of reading, one after another.
+made : {A B C : Type 0} (o : Option (A × List Token)) (f : A → B) (h : B → Reader C) → and_then o (λ a. h (f a)) ≡ and_then (and_then o (λ a. pure (f a))) h
+made None f h = refl
+made (Some p) f h = refl
+
+in_turn : {A B C : Type 0} (o : Option (A × List Token)) (f : A → Reader B) (h : B → Reader C) → and_then (and_then o f) h ≡ and_then o (λ a ts. and_then (f a ts) h)
+in_turn None f h = refl
+in_turn (Some p) f h = refl
+
+same_after : {A B : Type 0} (o : Option (A × List Token)) (f g : A → Reader B) → ((a : A) (ts : List Token) → f a ts ≡ g a ts) → and_then o f ≡ and_then o g
+same_after None f g h = refl
+same_after (Some p) f g h = h p.0 p.1
+
+-- A list of what is made of the items is the list of the items, with each made so.
+map_last : {A B : Type 0} (f : A → B) (xs : List A) (x : A) → map f (xs ++ x ∷ []) ≡ map f xs ++ f x ∷ []
+map_last f [] x = refl
+map_last f (y ∷ ys) x = ap (λ us. f y ∷ us) (map_last f ys x)
+
+map_step : {A B : Type 0} (f : A → B) (p : A → Reader (List A)) (q : B → Reader (List B)) (xs : List A) (ts : List Token)
+    → ((x : A) (mid : List Token) → and_then (p x mid) (λ ys. pure (map f ys)) ≡ q (f x) mid)
+    → (b : Bool) (o : Option (A × List Token))
+    → and_then (cond b (and_then o p) (Some (xs, ts))) (λ ys. pure (map f ys)) ≡ cond b (and_then (and_then o (λ x. pure (f x))) q) (Some (map f xs, ts))
+map_step f p q xs ts h false o = refl
+map_step f p q xs ts h true None = refl
+map_step f p q xs ts h true (Some s) = h s.0 s.1
+
+map_is : {A B : Type 0} (goes_on : List Token → Bool) (f : A → B) (item : Reader A) (made_item : Reader B)
+    → ((ts : List Token) → and_then (item ts) (λ x. pure (f x)) ≡ made_item ts)
+    → (n : ℕ) (xs : List A) (ts : List Token)
+    → and_then (rounds goes_on item n xs ts) (λ ys. pure (map f ys)) ≡ rounds goes_on made_item n (map f xs) ts
+unfolding rounds
+map_is goes_on f item made_item h zero xs ts = refl
+map_is goes_on f item made_item h (suc n) xs ts =
+    map_step f (λ x. rounds goes_on item n (xs ++ x ∷ [])) (λ y. rounds goes_on made_item n (map f xs ++ y ∷ [])) xs ts
+    (λ x mid. map_is goes_on f item made_item h n (xs ++ x ∷ []) mid ∙ ap (λ ys. rounds goes_on made_item n ys mid) (map_last f xs x))
+    (goes_on ts) (item ts)
+    ∙ ap (λ o. cond (goes_on ts) (and_then o (λ y. rounds goes_on made_item n (map f xs ++ y ∷ []))) (Some (map f xs, ts))) (h ts)
+
+first_made : {A B : Type 0} (f : A → B) (a : A) (o : Option (List A × List Token))
+    → and_then (and_then o (λ others. pure (a ∷ others))) (λ xs. pure (map f xs)) ≡ and_then (and_then o (λ ys. pure (map f ys))) (λ others. pure (f a ∷ others))
+first_made f a None = refl
+first_made f a (Some p) = refl
+
+list_made : {A B : Type 0} (f : A → B) (p : Reader A) (ts : List Token)
+    → and_then (r.list1 p ts) (λ xs. pure (map f xs)) ≡ r.list1 (p >>= (λ x. pure (f x))) ts
+unfolding r.list1
+list_made f p ts =
+    in_turn (p ts) _ _
+    ∙ same_after (p ts) _ _ (λ a mid.
+    first_made f a (part.more p mid)
+    ∙ ap (λ o. and_then o (λ others. pure (f a ∷ others)))
+    (map_is (at_level 12) f (part.after_comma p) (part.after_comma (p >>= (λ x. pure (f x)))) (λ us. in_turn (eat k.Comma us) _ _) (length mid) [] mid))
+    ∙ made (p ts) f (λ b mid. and_then (part.more (p >>= (λ x. pure (f x))) mid) (λ others. pure (b ∷ others)))
+
+pub path_is : (single : Reader Expr) (ts : List Token) → r.path single ts ≡ part.path single ts
+unfolding r.path
+path_is single ts = same_after (r.step single ts) _ _ (λ s mid. made (many (at_level 2) (r.segment single) mid) part.flat (λ others. pure (grammar.path_of (grammar.step_of s) others)))
+
+pub clauses_is : (single : Reader Expr) (ts : List Token) → r.clauses single ts ≡ part.clauses single ts
+unfolding r.clauses
+clauses_is single ts = ap (λ o. cond (sees 0 k.For ts) ((eat k.For >> r.list1 (r.for_binding single)) ts) o)
+    (in_turn (eat k.Let ts) _ _ ∙ same_after (eat k.Let ts) _ _ (λ _ mid. list_made clause.Let (r.set_binding single) mid))
+
+-- a FLWOR expression after its clauses
+unfoldable after_clauses : (single : Reader Expr) → List (Clause Expr) → Reader Expr
+after_clauses single found = do
+  test ← r.condition single
+  sorted ← r.keys single
+  eat k.Return
+  x ← single
+  pure (e.Flwor found test sorted x)
+
+pub flwor_is : (single : Reader Expr) (ts : List Token) → r.flwor single ts ≡ part.flwor single ts
+unfolding r.flwor after_clauses
+flwor_is single ts =
+    same_after (r.clauses single ts) _ _ (λ first mid.
+    made (many (at_level 13) (r.clauses single) mid) part.flat (λ others. after_clauses single (first ++ others))
+    ∙ made (part.more_clauses single mid) (λ others. first ++ others) (after_clauses single))
+    ∙ sym (in_turn (r.clauses single ts) _ (after_clauses single))

@@ -1,0 +1,10 @@
+use Rattle.std.proofs.Common.{sym, ◌∙◌}
+use Rattle.query_grammar.specs.Reader as r
+use Rattle.query_grammar.specs.Reading.{at_level}
+use Rattle.query_rules.specs.Parts as part
+use Rattle.query_rules.proofs.Turns.{one_round}
+use Rattle.query_rules.proofs.rules.Rules.more_of_clause.Goals as goal
+
+pub loop-turn-preserved : goal.loop-turn-preserved
+loop-turn-preserved g c =
+    c.loop-turn.invariant ∙ one_round (at_level 12) (part.after_comma (part.clause_of (r.single c.args.self.now.level c.args.self.now.depth) c.args.iterates)) _ _ _ _ _ _ _ c.loop-turn-test.true (sym c.at_level.ensures ∙ c.if-not-at_level.false) c.in_ok-next_clause.ensures c.in_ok-push.ensures.ok

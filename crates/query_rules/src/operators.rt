@@ -1,0 +1,192 @@
+//! Signs and operators between expressions.
+
+ghost use Rattle.std.specs.Prelude.{◌≡◌, IfOk};
+ghost use Rattle.query_parts.specs.Gives.{Gives};
+ghost use Rattle.query_parts.specs.Operators.{operator_at};
+ghost use Rattle.query_rules.specs.Reads.{Nests};
+ghost use Rattle.query_rules.specs.Parts as part;
+ghost use Rattle.query_grammar.specs.Grammar as grammar;
+ghost use Rattle.query_grammar.specs.Reader as read;
+ghost use Rattle.query_grammar.specs.Reading as reading;
+ghost use Rattle.query_grammar.specs.Words as table;
+
+use crate::rules::Rules;
+use query_grammar::{Binary, Expr, Operation, Sign};
+use query_parts::Precedence;
+use query_parts::cursor::{REFUSED, at_level, sign};
+use query_parts::words::sign_of;
+use query_tokens::{ParseFault, Tokens};
+use sqlite_items::{Boxed, Items};
+use std::alloc::{AllocError, Global};
+
+/// An expression that no operator follows is itself.
+fn chain_of(alloc: Global, first: Expr, others: Items<Operation<Expr>>) -> Result<Expr, AllocError>
+    ensures { IfOk result (λ x. x ≡ grammar.chain_of first others) }
+{
+    if others.is_empty() {
+        Ok(first)
+    } else {
+        Ok(Expr::Chain(Boxed::new(alloc, first)?, others))
+    }
+}
+
+/// An expression without signs is itself.
+fn signed_of(alloc: Global, signs: Items<Sign>, operand: Expr) -> Result<Expr, AllocError>
+    ensures { IfOk result (λ x. x ≡ grammar.signed_of signs operand) }
+{
+    if signs.is_empty() {
+        Ok(operand)
+    } else {
+        Ok(Expr::Signed(signs, Boxed::new(alloc, operand)?))
+    }
+}
+
+#[tactic(auto, unfolding(query_grammar::specs::Reader::sees_sign))]
+fn sees_sign(tokens: &Tokens) -> bool
+    ensures { result ≡ read.sees_sign tokens.now }
+{
+    sign_of(tokens.peek_at(0)).is_some()
+}
+
+/// Takes signs, as many as there are.
+#[tactic(auto, unfolding(query_grammar::specs::Reading::rounds))]
+fn signs(alloc: Global, tokens: &mut Tokens) -> Result<Items<Sign>, ParseFault>
+    ensures { Gives (reading.many read.sees_sign (reading.take_as table.sign_of) tokens.old) result tokens.new }
+{
+    let mut found = Items::new(alloc);
+    for _turn in 0..tokens.left() {
+        if !sees_sign(tokens) {
+            return Ok(found);
+        }
+        found.push(sign(tokens)?)?;
+    }
+    Ok(found)
+}
+
+/// Takes an operator of this precedence.
+#[tactic(auto, unfolding(query_grammar::specs::Reading::take_as))]
+fn operator(tokens: &mut Tokens, precedence: Precedence) -> Result<Binary, ParseFault>
+    ensures { Gives (reading.take_as (operator_at precedence) tokens.old) result tokens.new }
+{
+    match tokens.take() {
+        None => Err(REFUSED),
+        Some(token) => precedence.operator(token.kind).ok_or(REFUSED),
+    }
+}
+
+// An expression in brackets goes through `operand` and `binary` once for each precedence. What they call beside each other stays out
+// of them by `inline(never)`, or else each would have the stack of all of it.
+impl<F: Fn(Global, u8, &mut Tokens, usize) -> Result<Expr, ParseFault>> Rules<F> {
+    /// Takes a path with its signs.
+    #[inline(never)]
+    #[tactic(auto, unfolding(query_grammar::specs::Reader::unary))]
+    fn unary(&self, tokens: &mut Tokens) -> Result<Expr, ParseFault>
+        requires { Nests self.now.level self.now.depth (F.pre self.now.single) (F.post self.now.single) }
+        ensures { Gives (read.unary (read.single self.now.level self.now.depth) tokens.old) result tokens.new }
+    {
+        let found = signs(self.alloc, tokens)?;
+        let x = self.path(tokens)?;
+        Ok(signed_of(self.alloc, found, x)?)
+    }
+
+    #[cycle(binary)]
+    #[tactic(auto, unfolding(query_grammar::specs::Reader::inter, query_grammar::specs::Reader::union, query_grammar::specs::Reader::multiplication, query_grammar::specs::Reader::addition, query_grammar::specs::Reader::range, query_grammar::specs::Reader::comparison, query_grammar::specs::Reader::conjunction))]
+    fn operand(&self, tokens: &mut Tokens, precedence: Precedence) -> Result<Expr, ParseFault>
+        requires { Nests self.now.level self.now.depth (F.pre self.now.single) (F.post self.now.single) }
+        ensures { Gives (part.operand (read.single self.now.level self.now.depth) precedence tokens.old) result tokens.new }
+    {
+        match precedence {
+            Precedence::Intersection => self.unary(tokens),
+            Precedence::Union => self.binary(tokens, Precedence::Intersection),
+            Precedence::Multiplication => self.binary(tokens, Precedence::Union),
+            Precedence::Addition => self.binary(tokens, Precedence::Multiplication),
+            Precedence::Range => self.binary(tokens, Precedence::Addition),
+            Precedence::Comparison => self.binary(tokens, Precedence::Range),
+            Precedence::Conjunction => self.binary(tokens, Precedence::Comparison),
+            Precedence::Disjunction => self.binary(tokens, Precedence::Conjunction),
+        }
+    }
+
+    #[cycle(binary)]
+    #[tactic(auto, unfolding(query_grammar::specs::Reader::operation))]
+    fn operation(
+        &self,
+        tokens: &mut Tokens,
+        precedence: Precedence,
+    ) -> Result<Operation<Expr>, ParseFault>
+        requires { Nests self.now.level self.now.depth (F.pre self.now.single) (F.post self.now.single) }
+        ensures { Gives (part.operation (read.single self.now.level self.now.depth) precedence tokens.old) result tokens.new }
+    {
+        let operator = operator(tokens, precedence)?;
+        let operand = self.operand(tokens, precedence)?;
+        Ok(Operation { operator, operand })
+    }
+
+    #[inline(never)]
+    #[cycle(binary)]
+    #[tactic(auto, unfolding(query_grammar::specs::Reading::rounds))]
+    fn operations(
+        &self,
+        tokens: &mut Tokens,
+        precedence: Precedence,
+    ) -> Result<Items<Operation<Expr>>, ParseFault>
+        requires { Nests self.now.level self.now.depth (F.pre self.now.single) (F.post self.now.single) }
+        ensures { Gives (part.operations (read.single self.now.level self.now.depth) precedence tokens.old) result tokens.new }
+    {
+        let mut found = Items::new(self.alloc);
+        for _turn in 0..tokens.left() {
+            if !at_level(tokens, precedence.looseness()) {
+                return Ok(found);
+            }
+            found.push(self.operation(tokens, precedence)?)?;
+        }
+        Ok(found)
+    }
+
+    #[inline(never)]
+    #[cycle(binary)]
+    fn once_after(
+        &self,
+        tokens: &mut Tokens,
+        precedence: Precedence,
+        first: Expr,
+    ) -> Result<Expr, ParseFault>
+        requires { Nests self.now.level self.now.depth (F.pre self.now.single) (F.post self.now.single) }
+        ensures { Gives (part.once_after (read.single self.now.level self.now.depth) precedence first tokens.old) result tokens.new }
+    {
+        if !at_level(tokens, precedence.looseness()) {
+            return Ok(first);
+        }
+        let mut others = Items::new(self.alloc);
+        others.push(self.operation(tokens, precedence)?)?;
+        Ok(chain_of(self.alloc, first, others)?)
+    }
+
+    /// Takes an expression of operators of this precedence and of tighter ones.
+    #[cycle(binary)]
+    #[tactic(auto, unfolding(query_grammar::specs::Reader::at_most_once, query_grammar::specs::Reader::chain))]
+    pub(crate) fn binary(
+        &self,
+        tokens: &mut Tokens,
+        precedence: Precedence,
+    ) -> Result<Expr, ParseFault>
+        requires { Nests self.now.level self.now.depth (F.pre self.now.single) (F.post self.now.single) }
+        ensures { Gives (part.binary (read.single self.now.level self.now.depth) precedence tokens.old) result tokens.new }
+    {
+        let first = self.operand(tokens, precedence)?;
+        if precedence.is_once() {
+            return self.once_after(tokens, precedence, first);
+        }
+        let others = self.operations(tokens, precedence)?;
+        Ok(chain_of(self.alloc, first, others)?)
+    }
+
+    /// Takes an expression of operators.
+    #[tactic(auto, unfolding(query_grammar::specs::Reader::disjunction))]
+    pub(crate) fn disjunction(&self, tokens: &mut Tokens) -> Result<Expr, ParseFault>
+        requires { Nests self.now.level self.now.depth (F.pre self.now.single) (F.post self.now.single) }
+        ensures { Gives (read.disjunction (read.single self.now.level self.now.depth) tokens.old) result tokens.new }
+    {
+        self.binary(tokens, Precedence::Disjunction)
+    }
+}

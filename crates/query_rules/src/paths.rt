@@ -1,0 +1,111 @@
+//! Paths (XQuery 1.0, section 3.2).
+
+ghost use Rattle.std.specs.Prelude.{◌≡◌, IfOk};
+ghost use Rattle.query_parts.specs.Gives.{Gives, GivesAs};
+ghost use Rattle.query_parts.specs.Steps.{as_step};
+ghost use Rattle.query_rules.specs.Reads.{Nests};
+ghost use Rattle.query_rules.specs.Parts as part;
+ghost use Rattle.query_grammar.specs.Grammar as grammar;
+ghost use Rattle.query_grammar.specs.Reader as read;
+
+use crate::primaries::sees_primary;
+use crate::rules::Rules;
+use query_grammar::Expr;
+use query_parts::cursor::{at_level, eat};
+use query_parts::steps::{Step, axis_step, slash, step_of, steps_of};
+use query_tokens::{Kind, ParseFault, Tokens};
+use sqlite_items::{Boxed, Items};
+use std::alloc::{AllocError, Global};
+
+/// An expression that no step follows is itself.
+fn path_of(alloc: Global, first: Expr, others: Items<Expr>) -> Result<Expr, AllocError>
+    ensures { IfOk result (λ x. x ≡ grammar.path_of first others) }
+{
+    if others.is_empty() {
+        Ok(first)
+    } else {
+        Ok(Expr::Path(Boxed::new(alloc, first)?, others))
+    }
+}
+
+impl<F: Fn(Global, u8, &mut Tokens, usize) -> Result<Expr, ParseFault>> Rules<F> {
+    #[tactic(auto, unfolding(query_grammar::specs::Reader::predicate))]
+    fn predicate(&self, tokens: &mut Tokens) -> Result<Expr, ParseFault>
+        requires { Nests self.now.level self.now.depth (F.pre self.now.single) (F.post self.now.single) }
+        ensures { Gives (read.predicate (read.single self.now.level self.now.depth) tokens.old) result tokens.new }
+    {
+        eat(tokens, Kind::OpenBracket)?;
+        let x = self.exprs(tokens)?;
+        eat(tokens, Kind::CloseBracket)?;
+        Ok(x)
+    }
+
+    #[tactic(auto, unfolding(query_grammar::specs::Reading::rounds, query_grammar::specs::Reader::predicates))]
+    fn predicates(&self, tokens: &mut Tokens) -> Result<Items<Expr>, ParseFault>
+        requires { Nests self.now.level self.now.depth (F.pre self.now.single) (F.post self.now.single) }
+        ensures { Gives (read.predicates (read.single self.now.level self.now.depth) tokens.old) result tokens.new }
+    {
+        let mut found = Items::new(self.alloc);
+        for _turn in 0..tokens.left() {
+            if !at_level(tokens, 1) {
+                return Ok(found);
+            }
+            found.push(self.predicate(tokens)?)?;
+        }
+        Ok(found)
+    }
+
+    #[tactic(auto, unfolding(query_grammar::specs::Reader::step))]
+    fn step(&self, tokens: &mut Tokens) -> Result<Step, ParseFault>
+        requires { Nests self.now.level self.now.depth (F.pre self.now.single) (F.post self.now.single) }
+        ensures { GivesAs as_step (read.step (read.single self.now.level self.now.depth) tokens.old) result tokens.new }
+    {
+        if sees_primary(tokens) {
+            let x = self.primary(tokens)?;
+            let predicates = self.predicates(tokens)?;
+            Ok(Step::Primary(x, predicates))
+        } else {
+            let found = axis_step(tokens)?;
+            let predicates = self.predicates(tokens)?;
+            Ok(Step::Axis(found, predicates))
+        }
+    }
+
+    #[tactic(auto, unfolding(query_grammar::specs::Reader::segment))]
+    fn segment(&self, tokens: &mut Tokens) -> Result<Items<Expr>, ParseFault>
+        requires { Nests self.now.level self.now.depth (F.pre self.now.single) (F.post self.now.single) }
+        ensures { Gives (read.segment (read.single self.now.level self.now.depth) tokens.old) result tokens.new }
+    {
+        let is_deep = slash(tokens)?;
+        let step = self.step(tokens)?;
+        Ok(steps_of(self.alloc, is_deep, step)?)
+    }
+
+    // The steps after the first.
+    #[tactic(auto, unfolding(crate::proofs::Turns::flat_rounds))]
+    fn segments(&self, tokens: &mut Tokens) -> Result<Items<Expr>, ParseFault>
+        requires { Nests self.now.level self.now.depth (F.pre self.now.single) (F.post self.now.single) }
+        ensures { Gives (part.segments (read.single self.now.level self.now.depth) tokens.old) result tokens.new }
+    {
+        let mut found = Items::new(self.alloc);
+        for _turn in 0..tokens.left() {
+            if !at_level(tokens, 2) {
+                return Ok(found);
+            }
+            found.append(self.segment(tokens)?)?;
+        }
+        Ok(found)
+    }
+
+    /// Takes a path.
+    #[tactic(auto, unfolding(query_grammar::specs::Reader::path), using(crate::proofs::Turns::path_is))]
+    pub(crate) fn path(&self, tokens: &mut Tokens) -> Result<Expr, ParseFault>
+        requires { Nests self.now.level self.now.depth (F.pre self.now.single) (F.post self.now.single) }
+        ensures { Gives (read.path (read.single self.now.level self.now.depth) tokens.old) result tokens.new }
+    {
+        let first = self.step(tokens)?;
+        let first = step_of(self.alloc, first)?;
+        let others = self.segments(tokens)?;
+        Ok(path_of(self.alloc, first, others)?)
+    }
+}

@@ -1,0 +1,103 @@
+//! The rules, over a reader of the expressions that no comma parts, so that each is proved by itself.
+
+ghost use Rattle.std.specs.Prelude.{◌≡◌, ◌∷◌, IfOk};
+ghost use Rattle.query_parts.specs.Gives.{Gives};
+ghost use Rattle.query_rules.specs.Reads.{Nests};
+ghost use Rattle.query_rules.specs.Parts as part;
+ghost use Rattle.query_grammar.specs.Grammar as grammar;
+ghost use Rattle.query_grammar.specs.Reader as read;
+
+use query_grammar::Expr;
+use query_parts::cursor::{at_level, eat};
+use query_tokens::{Kind, ParseFault, Tokens};
+use sqlite_items::Items;
+use std::alloc::{AllocError, Global};
+
+/// The rules at a level, over a function that reads the expressions that no comma parts.
+#[derive(Clone, Copy)]
+pub(crate) struct Rules<F> {
+    pub(crate) alloc: Global,
+    /// The level of the language.
+    pub(crate) level: u8,
+    /// How deep expressions may still nest.
+    pub(crate) depth: usize,
+    pub(crate) single: F,
+}
+
+/// The first item before the others.
+pub(crate) fn with_first<T: Drop>(
+    alloc: Global,
+    first: T,
+    others: Items<T>,
+) -> Result<Items<T>, AllocError>
+    ensures { IfOk result (λ all. all ≡ first ∷ others) }
+{
+    let mut all = Items::new(alloc);
+    all.push(first)?;
+    all.append(others)?;
+    Ok(all)
+}
+
+/// One expression is itself; none or more are a sequence.
+fn of_list(mut xs: Items<Expr>) -> Expr
+    ensures { result ≡ grammar.of_list xs }
+{
+    if xs.len() == 1 {
+        xs.remove(0)
+    } else {
+        Expr::Sequence(xs)
+    }
+}
+
+impl<F: Fn(Global, u8, &mut Tokens, usize) -> Result<Expr, ParseFault>> Rules<F> {
+    /// Takes an expression that no comma parts.
+    pub(crate) fn single(&self, tokens: &mut Tokens) -> Result<Expr, ParseFault>
+        requires { Nests self.now.level self.now.depth (F.pre self.now.single) (F.post self.now.single) }
+        ensures { Gives (read.single self.now.level self.now.depth tokens.old) result tokens.new }
+    {
+        (self.single)(self.alloc, self.level, tokens, self.depth)
+    }
+
+    fn next_single(&self, tokens: &mut Tokens) -> Result<Expr, ParseFault>
+        requires { Nests self.now.level self.now.depth (F.pre self.now.single) (F.post self.now.single) }
+        ensures { Gives (part.after_comma (read.single self.now.level self.now.depth) tokens.old) result tokens.new }
+    {
+        eat(tokens, Kind::Comma)?;
+        self.single(tokens)
+    }
+
+    #[tactic(auto, unfolding(query_grammar::specs::Reading::rounds))]
+    fn more_singles(&self, tokens: &mut Tokens) -> Result<Items<Expr>, ParseFault>
+        requires { Nests self.now.level self.now.depth (F.pre self.now.single) (F.post self.now.single) }
+        ensures { Gives (part.more (read.single self.now.level self.now.depth) tokens.old) result tokens.new }
+    {
+        let mut found = Items::new(self.alloc);
+        for _turn in 0..tokens.left() {
+            if !at_level(tokens, 12) {
+                return Ok(found);
+            }
+            found.push(self.next_single(tokens)?)?;
+        }
+        Ok(found)
+    }
+
+    /// Takes expressions with commas between them, one at least.
+    #[tactic(auto, unfolding(query_grammar::specs::Reader::list1))]
+    pub(crate) fn singles(&self, tokens: &mut Tokens) -> Result<Items<Expr>, ParseFault>
+        requires { Nests self.now.level self.now.depth (F.pre self.now.single) (F.post self.now.single) }
+        ensures { Gives (read.list1 (read.single self.now.level self.now.depth) tokens.old) result tokens.new }
+    {
+        let first = self.single(tokens)?;
+        let others = self.more_singles(tokens)?;
+        Ok(with_first(self.alloc, first, others)?)
+    }
+
+    /// Takes an expression that commas may part.
+    #[tactic(auto, unfolding(query_grammar::specs::Reader::exprs))]
+    pub(crate) fn exprs(&self, tokens: &mut Tokens) -> Result<Expr, ParseFault>
+        requires { Nests self.now.level self.now.depth (F.pre self.now.single) (F.post self.now.single) }
+        ensures { Gives (read.exprs (read.single self.now.level self.now.depth) tokens.old) result tokens.new }
+    {
+        Ok(of_list(self.singles(tokens)?))
+    }
+}
