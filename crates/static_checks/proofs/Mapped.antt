@@ -18,7 +18,7 @@ under_mapped f bound [] = refl
 under_mapped f bound (x ∷ xs) = ap (λ ys. record { bound = bound; part = f x } ∷ ys) (under_mapped f bound xs)
 
 -- what stands inside each of a list
-each_mapped : {A B S T : Type 0} (f : A → B) (g : S → T) (a : S → A) (b : T → B) → ((s : S) → b (g s) ≡ f (a s)) → (ss : List S) → map b (map g ss) ≡ map f (map a ss)
+pub each_mapped : {A B S T : Type 0} (f : A → B) (g : S → T) (a : S → A) (b : T → B) → ((s : S) → b (g s) ≡ f (a s)) → (ss : List S) → map b (map g ss) ≡ map f (map a ss)
 each_mapped f g a b same [] = refl
 each_mapped f g a b same (s ∷ ss) = ap₂ (λ y ys. y ∷ ys) (same s) (each_mapped f g a b same ss)
 
@@ -26,7 +26,7 @@ under_each : {A B S T : Type 0} (f : A → B) (g : S → T) (a : S → A) (b : T
     → under bound (map b (map g ss)) ≡ map (mapped f) (under bound (map a ss))
 under_each f g a b same bound ss = ap (under bound) (each_mapped f g a b same ss) ∙ under_mapped f bound (map a ss)
 
-map_both : {A B : Type 0} (f : A → B) (xs ys : List A) → map f (xs ++ ys) ≡ map f xs ++ map f ys
+pub map_both : {A B : Type 0} (f : A → B) (xs ys : List A) → map f (xs ++ ys) ≡ map f xs ++ map f ys
 map_both f [] ys = refl
 map_both f (x ∷ xs) ys = ap (λ zs. f x ∷ zs) (map_both f xs ys)
 
@@ -48,7 +48,7 @@ module _ {A B : Type 0} (f : A → B) (g : Clause A → Clause B) (h : Binding A
   clause_binds (clause.ForAt b at) = ap bound_by (on_at b at) ∙ ap (λ v. at ∷ v ∷ []) (variable b)
   clause_binds (clause.Let b) = ap bound_by (on_let b) ∙ ap (λ v. v ∷ []) (variable b)
 
-  clause_is : (c : Clause A) → source_of (g c) ≡ f (source_of c)
+  pub clause_is : (c : Clause A) → source_of (g c) ≡ f (source_of c)
   clause_is (clause.For b) = ap source_of (on_for b) ∙ source b
   clause_is (clause.ForAt b at) = ap source_of (on_at b at) ∙ source b
   clause_is (clause.Let b) = ap source_of (on_let b) ∙ source b

@@ -10,7 +10,7 @@ use Rattle.static_checks.specs.Inside.{children}
 use Rattle.static_checks.proofs.Mapped.{mapped, parts_mapped}
 
 -- the parts' results
-results : {A B : Type 0} (f : A → B) (ps : List (Part A)) → map (λ (p : Part B). p.part) (map (mapped f) ps) ≡ map f (map (λ (p : Part A). p.part) ps)
+pub results : {A B : Type 0} (f : A → B) (ps : List (Part A)) → map (λ (p : Part B). p.part) (map (mapped f) ps) ≡ map f (map (λ (p : Part A). p.part) ps)
 results f [] = refl
 results f (p ∷ ps) = ap (λ ys. f p.part ∷ ys) (results f ps)
 

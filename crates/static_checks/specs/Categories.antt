@@ -3,9 +3,11 @@ use Rattle.std.specs.Prelude.{Bool, true, false, ◌||◌, ◌&&◌, if◌then�
 use Rattle.std.specs.List.{list_any}
 use Rattle.query_grammar.specs.declared.ast.Expr.{Expr, fold-Expr}
 use Rattle.query_grammar.specs.declared.ast.Expr.TheOpen.{Expr-F}
-use Rattle.static_checks.specs.Parts.{Part, parts, source_of, sources, keys}
-use Rattle.static_checks.specs.declared.category.Category.{Category}
-use Rattle.static_checks.specs.declared.category.Category.TheVariants.{Updating, Vacuous, Simple}
+use Rattle.static_checks.specs.Parts.{source_of, sources, keys, parts_alone}
+use Rattle.static_checks.specs.declared.categories.Category.{Category}
+use Rattle.static_checks.specs.declared.categories.Category.TheVariants.{Updating, Vacuous, Simple}
+use Rattle.static_checks.specs.declared.categories.Own.{Own}
+use Rattle.static_checks.specs.declared.categories.Own.TheVariants.{Updates, OfResults, GivesItems}
 
 abbrev pub is_updating : Category → Bool
 is_updating Updating = true
@@ -23,46 +25,56 @@ joined cs = if list_any is_updating cs then Updating else (if list_any is_simple
 abbrev pub is_mixed : List Category → Bool
 is_mixed cs = list_any is_updating cs && list_any is_simple cs
 
--- The parts of an expression, by whether an updating one may stand there: it may be an operand of a comma, a branch, and what follows
--- `return`, whose values and updates are put together; nowhere else. What a copy is changed by may update, but gives the whole no updates.
-pub data Form (A : Type 0) : Type 0 where
-  Update : (operands : List A) → Form A
-  Whole : (operands : List A) → (results : List A) → Form A
-  Value : (operands : List A) → (changes : List A) → Form A
+-- The parts of an expression, by whether an updating one may stand there: not before and not after the inner ones. The inner ones are the
+-- operands of a comma, branches, and what follows `return`, of which the whole is made; and what a copy is changed by.
+pub record Form (A : Type 0) : Type 0 where
+  pub own : Own
+  pub before : List A
+  pub inner : List A
+  pub after : List A
+
+abbrev pub outside : {A : Type 0} → Own → List A → Form A
+outside own xs = record { own = own; before = xs; inner = []; after = [] }
 
 abbrev pub form_of : {A : Type 0} → Expr-F A → Form A
-form_of (Expr-F.Sequence xs) = Whole [] xs
-form_of (Expr-F.If x y z) = Whole (x ∷ []) (y ∷ z ∷ [])
-form_of (Expr-F.Flwor cs where? ks x) = Whole (map source_of cs ++ option_to_list where? ++ keys ks) (x ∷ [])
-form_of (Expr-F.Insert x place y) = Update (x ∷ y ∷ [])
-form_of (Expr-F.Delete x) = Update (x ∷ [])
-form_of (Expr-F.ReplaceNode x y) = Update (x ∷ y ∷ [])
-form_of (Expr-F.ReplaceValue x y) = Update (x ∷ y ∷ [])
-form_of (Expr-F.Rename x y) = Update (x ∷ y ∷ [])
-form_of (Expr-F.Copy bs x y) = Value (sources bs ++ y ∷ []) (x ∷ [])
-form_of x = Value (map (λ (p : Part _). p.part) (parts x)) []
+form_of (Expr-F.Sequence xs) = record { own = OfResults; before = []; inner = xs; after = [] }
+form_of (Expr-F.If x y z) = record { own = OfResults; before = x ∷ []; inner = y ∷ z ∷ []; after = [] }
+form_of (Expr-F.Flwor cs where? ks x) = record { own = OfResults; before = map source_of cs ++ (option_to_list where? ++ keys ks); inner = x ∷ []; after = [] }
+form_of (Expr-F.Insert x place y) = outside Updates (x ∷ y ∷ [])
+form_of (Expr-F.Delete x) = outside Updates (x ∷ [])
+form_of (Expr-F.ReplaceNode x y) = outside Updates (x ∷ y ∷ [])
+form_of (Expr-F.ReplaceValue x y) = outside Updates (x ∷ y ∷ [])
+form_of (Expr-F.Rename x y) = outside Updates (x ∷ y ∷ [])
+form_of (Expr-F.Copy bs x y) = record { own = GivesItems; before = sources bs; inner = x ∷ []; after = y ∷ [] }
+form_of x = outside GivesItems (parts_alone x)
 
 -- an expression's category, and whether an updating expression stands in it where none may
 pub record Judged : Type 0 where
   pub category : Category
   pub is_misplaced : Bool
 
--- it may not be an operand
+-- it may not stand where no updating expression may
 abbrev pub may_not_stand : Judged → Bool
 may_not_stand j = is_updating j.category || j.is_misplaced
 
 abbrev pub categories : List Judged → List Category
 categories js = map (λ (j : Judged). j.category) js
 
+-- the category of an expression whose inner parts have these
+abbrev pub category_of : Own → List Category → Category
+category_of Updates cs = Updating
+category_of OfResults cs = joined cs
+category_of GivesItems cs = Simple
+
+-- the whole is made of an updating part and a simple one
+abbrev pub mixes : Own → List Category → Bool
+mixes OfResults cs = is_mixed cs
+mixes _ cs = false
+
 abbrev pub judged_form : Form Judged → Judged
-judged_form (Update operands) = record { category = Updating; is_misplaced = list_any may_not_stand operands }
-judged_form (Whole operands results) = record {
-  category = joined (categories results);
-  is_misplaced = list_any may_not_stand operands || (list_any (λ (j : Judged). j.is_misplaced) results || is_mixed (categories results));
-}
-judged_form (Value operands changes) = record {
-  category = Simple;
-  is_misplaced = list_any may_not_stand operands || list_any (λ (j : Judged). j.is_misplaced) changes;
+judged_form f = record {
+  category = category_of f.own (categories f.inner);
+  is_misplaced = list_any may_not_stand f.before || (list_any (λ (j : Judged). j.is_misplaced) f.inner || (list_any may_not_stand f.after || mixes f.own (categories f.inner)));
 }
 
 unfoldable pub judged : Expr → Judged

@@ -90,3 +90,7 @@ parts (Expr-F.ReplaceNode x y) = under [] (x ∷ y ∷ [])
 parts (Expr-F.ReplaceValue x y) = under [] (x ∷ y ∷ [])
 parts (Expr-F.Rename x y) = under [] (x ∷ y ∷ [])
 parts (Expr-F.Copy bs x y) = under [] (sources bs) ++ under (variables_of bs) (x ∷ y ∷ [])
+
+-- the parts alone
+abbrev pub parts_alone : {A : Type 0} → Expr-F A → List A
+parts_alone x = map (λ (p : Part _). p.part) (parts x)

@@ -2,12 +2,14 @@
 #![tactic(auto)]
 
 mod brackets;
-mod category;
+mod categories;
 mod functions;
+mod judging;
 mod parts;
 mod variables;
 
 pub use brackets::nests_too_deep;
-pub use category::Category;
+pub use categories::Category;
 pub use functions::has_unknown_call;
+pub use judging::{category, has_misplaced_update};
 pub use variables::binds_a_name_twice;

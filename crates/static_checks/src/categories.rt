@@ -10,3 +10,14 @@ pub enum Category {
     /// It gives items.
     Simple,
 }
+
+/// What the category of an expression comes from.
+#[derive(Clone, Copy, PartialEq, Eq, Debug)]
+pub(crate) enum Own {
+    /// It is an updating one itself.
+    Updates,
+    /// From its results: the operands of a comma, branches, and what follows `return`.
+    OfResults,
+    /// It is a simple one itself.
+    GivesItems,
+}
