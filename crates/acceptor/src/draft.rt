@@ -43,4 +43,13 @@ impl<A> Draft<A> {
     {
         &self.answer
     }
+
+    /// The answer that `commit` will give, and what is about to be written.
+    pub fn split(self) -> (A, Draft<()>)
+        ensures answer { result.0 ≡ self.answer }
+        ensures write { result.1.write ≡ self.write }
+    {
+        let Draft { answer, write } = self;
+        (answer, Draft { answer: (), write })
+    }
 }

@@ -58,6 +58,11 @@ pub lowest_is : (o : Option ℕ) (p : ℕ) (es : List (ℕ × Value)) → MatchO
 lowest_is None p es h = λ q l. value_pairs q es ∙ h q l
 lowest_is (Some x) p es h = record { least = h.least; there = ap is_some (value_pairs x es) ∙ h.there; none_before = λ q l m. value_pairs q es ∙ h.first q l m }
 
+-- it is a position that there may be
+pub lowest_within : (o : Option ℕ) (p : ℕ) (slots : List (Slot Value)) → AreWithin slots → MatchOption o ((q : ℕ) → p ≤ q → value_in q (filled slots) ≡ None) (λ next. IsNext (filled slots) p next) → (q : ℕ) → o ≡ Some q → IsPosition q
+lowest_within None p slots w h q e = let f : ⊥ = cc in absurd f
+lowest_within (Some x) p slots w h q e = let same : x ≡ q = cc in subst IsPosition same (w x h.there)
+
 -- where a run of positions that pass a test ends
 pub run_is : (test : ℕ → Bool) (k p e : ℕ) → p ≤ e → e ≤ p + k → ((q : ℕ) → p < q → q ≤ e → test q ≡ true) → test (suc e) ≡ false → e ≡ last_of_run test k p
 run_is test zero p e a b h l = omega arith

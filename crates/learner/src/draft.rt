@@ -1,5 +1,7 @@
 //! What a learner is about to change.
 
+ghost use Rattle.std.specs.Prelude.{◌≡◌};
+
 use ballots::{Pair, Vote};
 use std::marker::Model;
 
@@ -30,4 +32,13 @@ impl Model for Draft {
     ghost use Rattle.learner.specs.Drafts.{change_in};
 
     ghost view = { λ d. record { change = change_in d.change; news = d.news.items } };
+}
+
+impl Draft {
+    /// The positions that are learnt by the change, in order.
+    pub fn news(&self) -> &[u32]
+        ensures { result.now ≡ self.now.news }
+    {
+        &self.news
+    }
 }

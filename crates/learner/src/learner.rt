@@ -1,6 +1,6 @@
 //! A learner.
 
-ghost use Rattle.std.specs.Prelude.{◌≡◌, ◌≤◌, ℕ, List, [], ◌∷◌, ◌++◌, None, is_some, length, IfOk, IsSome, OnErr, OnOk, MatchOption};
+ghost use Rattle.std.specs.Prelude.{◌≡◌, ◌≤◌, ℕ, List, [], ◌∷◌, ◌++◌, None, Some, is_some, length, IfOk, IsSome, OnErr, OnOk, MatchOption};
 ghost use Rattle.std.specs.List.{All};
 ghost use Rattle.std.specs.Option.{option_copied};
 ghost use Rattle.ballots.specs.Values.{positions};
@@ -83,7 +83,8 @@ impl Learner {
 
     /// The lowest position at or above this one that is learnt.
     pub fn next_learned(&self, from: u32) -> Option<u32>
-        ensures { MatchOption result ((q : ℕ) → from ≤ q → value_at q (learnt_of self.now) ≡ None) (λ p. IsLowest from p (learnt_of self.now)) }
+        ensures lowest { MatchOption result ((q : ℕ) → from ≤ q → value_at q (learnt_of self.now) ≡ None) (λ p. IsLowest from p (learnt_of self.now)) }
+        ensures within { (p : ℕ) → result ≡ Some p → IsPosition p }
     {
         self.chosen.next_from(from)
     }

@@ -23,11 +23,11 @@ use Rattle.proposer.specs.Terms.{Leading, Proposer, cover_of, report_of, is_lear
 use Rattle.proposer.proofs.Positions.{some_one}
 
 -- a leader and a proposer that knows what it heard begin proposing alike
-turn_alike : (n : ℕ) (heard : List Packet) (l : Leader) (x : Leading) → IsLed n heard l x → turn_of x ≡ turn_heard l
+pub turn_alike : (n : ℕ) (heard : List Packet) (l : Leader) (x : Leading) → IsLed n heard l x → turn_of x ≡ turn_heard l
 turn_alike n heard l x h = ap₂ (λ (p : ℕ) (es : List _). record { next = p; proposals = es; made = [] }) h.next h.proposals
 
 -- what they know from the next position on is the same
-known_alike : (n : ℕ) (heard : List Packet) (l : Leader) (x : Leading) → 1 ≤ x.next → IsLed n heard l x
+pub known_alike : (n : ℕ) (heard : List Packet) (l : Leader) (x : Leading) → 1 ≤ x.next → IsLed n heard l x
     → SameAbove n (x.next - 1) (cover_of x) (cover_heard heard l) (report_of x) (report_heard heard l) (is_learnt_of x) (is_learnt_heard n heard)
 known_alike n heard l x one h = record {
   covers = λ m a b. h.covers m (omega (arith, a)) b;

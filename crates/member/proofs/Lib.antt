@@ -1,0 +1,10 @@
+pub mod Keeping
+pub mod Joining
+pub mod Sending
+pub mod Drafting
+pub mod Leading
+pub mod Learning
+pub mod Gathering
+pub mod Beginning
+pub mod Submitting
+pub mod Answering
