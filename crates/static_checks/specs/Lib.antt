@@ -4,3 +4,4 @@ pub mod Variables
 pub mod Categories
 pub mod Brackets
 pub mod Inside
+pub mod Static
