@@ -1,5 +1,4 @@
 // An acceptor over stores in memory, and the record by itself.
-//
 // `rt try --test --fail-alloc N`, with N from 1 to 40, refuses each allocation in turn: the calls below then test that nothing has
 // changed, and call again.
 ghost use Rattle.std.specs.Prelude.{◌≡◌, ◌≤◌, IfOk};
@@ -17,7 +16,6 @@ fn answers_as_the_rules_say(rt: HostRuntime) -> Result<(), Fail> {
     let alloc = rt.alloc();
     answer(&rt, alloc, MemRecords::new(alloc))?;
     let records = answer(&rt, alloc, script(alloc, &[])?)?;
-    // Two promises, and three votes.
     assert_eq!(rt; records.writes(), 5);
     assert_eq!(rt; records.failures(), 0);
     Ok(())
@@ -127,7 +125,6 @@ fn fail(rt: &impl Abort, alloc: Global, failing: u64, is_made: bool) -> Result<(
     Ok(())
 }
 
-// The promise after so many of the writes.
 fn promise_after(count: u64) -> Ballot {
     match count {
         1 => ballot(1, 3),
@@ -266,7 +263,6 @@ fn ballot(round: u8, member: u8) -> Ballot
     }
 }
 
-// A vote for nothing.
 fn vote(round: u8, member: u8) -> Vote
     requires round { 1 ≤ round }
     requires least { 1 ≤ member }
