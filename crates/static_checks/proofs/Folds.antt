@@ -1,5 +1,7 @@
 -- Parts of expressions, and folds over them.
-use Rattle.std.proofs.Common.{◌≡◌, ℕ, zero, suc, ◌<◌, ◌≤◌, ◌-◌, List, [], ◌∷◌, ◌++◌, map, length, slice_get, option_map, Option, option_to_list, ap₂, refl, ap, sym, ◌∙◌, arith, rules}
+use Rattle.std.proofs.Common.{◌≡◌, ℕ, zero, suc, ◌<◌, ◌≤◌, ◌-◌, List, [], ◌∷◌, ◌++◌, map, length, slice_get, option_map, Option, option_to_list, ap₂, refl, ap, sym, ◌∙◌, arith, rules, Bool, true, false, ◌||◌, drop, Some, None}
+use Rattle.std.proofs.lemmas.List.{length-map}
+use Rattle.std.proofs.lemmas.Option.{none-some, same_Some, slice_get-map}
 use Rattle.query_grammar.specs.declared.ast.Binding.{Binding}
 use Rattle.query_grammar.specs.declared.ast.Clause.{Clause}
 use Rattle.query_grammar.specs.declared.ast.Expr.{Expr}
@@ -26,9 +28,7 @@ get_right (x ∷ xs) ys (suc k) h = get_right xs ys k (omega (arith, h)) ∙ ap 
 
 -- the element of a mapped list
 pub get_mapped : {A B : Type 0} (f : A → B) (xs : List A) (k : ℕ) → slice_get (map f xs) k ≡ option_map f (slice_get xs k)
-get_mapped f [] k = refl
-get_mapped f (x ∷ xs) zero = refl
-get_mapped f (x ∷ xs) (suc k) = get_mapped f xs k
+get_mapped f xs k = slice_get-map f xs k
 
 -- the parts without the variables
 pub parts_under : {A : Type 0} (bound : List (List ℕ)) (xs : List A) → map (λ (p : Part A). p.part) (under bound xs) ≡ xs
@@ -36,8 +36,7 @@ parts_under bound [] = refl
 parts_under bound (x ∷ xs) = ap (λ ys. x ∷ ys) (parts_under bound xs)
 
 pub length_mapped : {A B : Type 0} (f : A → B) (xs : List A) → length (map f xs) ≡ length xs
-length_mapped f [] = refl
-length_mapped f (x ∷ xs) = omega (arith, length_mapped f xs)
+length_mapped f xs = length-map xs f
 
 -- the same, where the length is known by another name
 pub get_after : {A : Type 0} (xs ys : List A) (n k : ℕ) → n ≡ length xs → n ≤ k → slice_get ys (k - n) ≡ slice_get (xs ++ ys) k
@@ -93,3 +92,19 @@ copied bs x y = parts_of_both (under [] (sources bs)) (under (variables_of bs) (
 
 pub of_copy : (bs : List (Binding Expr)) (x y : Expr) → children (e.Copy bs x y) ≡ sources bs ++ x ∷ y ∷ []
 of_copy bs x y = search (rules, the_lemmas, copied bs x y)
+
+-- the list from an index on
+pub dropped : {A : Type 0} (xs : List A) (k : ℕ) (y : A) → slice_get xs k ≡ Some y → drop k xs ≡ y ∷ drop (suc k) xs
+dropped [] k y h = absurd (none-some y h)
+dropped (x ∷ xs) zero y h = ap (λ z. z ∷ xs) (same_Some x y h)
+dropped (x ∷ xs) (suc k) y h = dropped xs k y h
+
+pub ended : {A : Type 0} (xs : List A) (k : ℕ) → None ≡ slice_get xs k → drop k xs ≡ []
+ended [] zero h = refl
+ended [] (suc k) h = refl
+ended (x ∷ xs) zero h = absurd (none-some x h)
+ended (x ∷ xs) (suc k) h = ended xs k h
+
+pub or_more : (a b c : Bool) → (a || b) || c ≡ a || (b || c)
+or_more true b c = refl
+or_more false b c = refl

@@ -1,6 +1,6 @@
 -- Passes over expressions: a fold by its parts.
 use Rattle.std.proofs.Common.{◌≡◌, ℕ, zero, suc, ◌<◌, ◌≤◌, ◌+◌, max, Bool, true, false, ◌||◌, List, [], ◌∷◌, map, drop, length, slice_get, Some, None, refl, ap, ap₂, sym, ◌∙◌, arith}
-use Rattle.std.proofs.lemmas.Option.{none-some, same_Some}
+use Rattle.std.proofs.lemmas.Option.{none-some, same_Some, slice_get_within}
 use Rattle.std.specs.List.{list_any}
 use Rattle.query_grammar.specs.declared.ast.Expr.{Expr, map-Expr, fold-Expr, out-Expr}
 use Rattle.query_grammar.specs.declared.ast.Expr.TheOpen.{Expr-F}
@@ -59,9 +59,7 @@ part_lower x y k h = omega (arith, height_out x, largest_least (children x) k y 
 
 -- an index at which there is a part
 pub within : {A : Type 0} (xs : List A) (k : ℕ) (y : A) → slice_get xs k ≡ Some y → k < length xs
-within [] k y h = absurd (none-some y h)
-within (x ∷ xs) zero y h = omega arith
-within (x ∷ xs) (suc k) y h = omega (arith, within xs k y h)
+within = slice_get_within
 
 -- the parts from an index on: the one there, and those after it
 pub any_from : {A : Type 0} (p : A → Bool) (xs : List A) (k : ℕ) (y : A) → slice_get xs k ≡ Some y → list_any p (drop k xs) ≡ p y || list_any p (drop (suc k) xs)

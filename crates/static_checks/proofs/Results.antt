@@ -1,6 +1,5 @@
 -- What the results of an expression come to.
-use Rattle.std.proofs.Common.{◌≡◌, ℕ, zero, suc, ◌+◌, Bool, true, false, ◌||◌, if◌then◌else◌, List, [], ◌∷◌, ◌++◌, map, length, drop, slice_get, Some, None, refl, ap, ap₂, sym, ◌∙◌, arith}
-use Rattle.std.proofs.lemmas.Option.{none-some, same_Some}
+use Rattle.std.proofs.Common.{◌≡◌, ℕ, suc, ◌+◌, Bool, true, false, ◌||◌, if◌then◌else◌, List, [], ◌∷◌, ◌++◌, map, length, drop, slice_get, Some, None, refl, ap, ap₂, sym, ◌∙◌, arith}
 use Rattle.std.specs.List.{list_any}
 use Rattle.query_grammar.specs.declared.ast.Expr.{Expr}
 use Rattle.static_checks.specs.Categories.{Judged, judged, is_updating, is_simple, categories, category_of, joined}
@@ -9,6 +8,7 @@ use Rattle.static_checks.specs.declared.categories.Category.{Category}
 use Rattle.static_checks.specs.declared.categories.Category.TheVariants.{Updating, Vacuous, Simple}
 use Rattle.static_checks.specs.declared.categories.Own.{Own}
 use Rattle.static_checks.specs.declared.categories.Own.TheVariants.{OfResults}
+use Rattle.static_checks.proofs.Folds.{dropped, ended, or_more}
 use Rattle.static_checks.proofs.Forms.{form, judged_out, children_in_order}
 
 -- the category of an expression
@@ -43,21 +43,6 @@ pub begins : (x : Expr) (own : Own) (from : ℕ) → own ≡ (form x).own → ow
 begins x own from same results at none =
     ap (joined_with false) (results_from x from at none)
     ∙ sym (by_own x OfResults (sym results ∙ same) ∙ ap joined (through (form x).inner))
-
-dropped : (xs : List Expr) (k : ℕ) (y : Expr) → slice_get xs k ≡ Some y → drop k xs ≡ y ∷ drop (suc k) xs
-dropped [] k y h = absurd (none-some y h)
-dropped (x ∷ xs) zero y h = ap (λ z. z ∷ xs) (same_Some x y h)
-dropped (x ∷ xs) (suc k) y h = dropped xs k y h
-
-ended : (xs : List Expr) (k : ℕ) → None ≡ slice_get xs k → drop k xs ≡ []
-ended [] zero h = refl
-ended [] (suc k) h = refl
-ended (x ∷ xs) zero h = absurd (none-some x h)
-ended (x ∷ xs) (suc k) h = ended xs k h
-
-or_more : (a b c : Bool) → (a || b) || c ≡ a || (b || c)
-or_more true b c = refl
-or_more false b c = refl
 
 module _ (x : Expr) (k : ℕ) (simple : Bool) (left : joined_with simple (drop k (children x)) ≡ (judged x).category) where
   pub ends : None ≡ slice_get (children x) k → (if simple then Simple else Vacuous) ≡ (judged x).category

@@ -1,7 +1,6 @@
 -- What a walk over the parts of an expression comes to.
-use Rattle.std.proofs.Common.{◌≡◌, ◌≤◌, ◌<◌, ⊎_elim, inl, inr, subst, ℕ, zero, suc, ◌+◌, Bool, true, false, ◌&&◌, ◌||◌, nat_le, nat_lt, if◌then◌else◌, List, [], ◌∷◌, ◌++◌, map, length, drop, slice_get, Option, Some, None, refl, ap, ap₂, sym, ◌∙◌, arith}
+use Rattle.std.proofs.Common.{◌≡◌, ◌≤◌, ◌<◌, ⊎_elim, inl, inr, subst, ℕ, suc, ◌+◌, Bool, true, false, ◌&&◌, ◌||◌, nat_le, nat_lt, if◌then◌else◌, List, [], ◌∷◌, ◌++◌, map, length, drop, slice_get, Option, Some, None, refl, ap, ap₂, sym, ◌∙◌, arith}
 use Rattle.std.proofs.lemmas.Bool.{le-leb, lt-leb, lt-ltb, le-ltb}
-use Rattle.std.proofs.lemmas.Option.{none-some, same_Some}
 use Rattle.std.specs.List.{list_any}
 use Rattle.query_grammar.specs.declared.ast.Expr.{Expr}
 use Rattle.static_checks.specs.Categories.{Form, Judged, judged_form, judged, is_updating, is_simple, may_not_stand, categories, category_of, mixes}
@@ -11,7 +10,7 @@ use Rattle.static_checks.specs.declared.categories.Own.{Own}
 use Rattle.static_checks.specs.declared.categories.Own.TheVariants.{Updates, OfResults, GivesItems}
 use Rattle.static_checks.specs.declared.judging.Found.{Found}
 use Rattle.static_checks.proofs.Forms.{map_form, form, judged_out, children_in_order}
-use Rattle.static_checks.proofs.Folds.{length_mapped}
+use Rattle.static_checks.proofs.Folds.{dropped, ended, length_mapped, or_more}
 use Rattle.static_checks.proofs.Mapped.{map_both}
 
 -- something in a part is misplaced
@@ -70,10 +69,6 @@ module _ (f t : ℕ) where
   -- the inner ones
   abbrev all_seen : Found → List Category → Found
   all_seen found cs = record { updates = found.updates || list_any is_updating cs; simple = found.simple || list_any is_simple cs }
-
-  or_more : (a b c : Bool) → (a || b) || c ≡ a || (b || c)
-  or_more true b c = refl
-  or_more false b c = refl
 
   or_none : (a : Bool) → a ≡ a || false
   or_none true = refl
@@ -176,11 +171,6 @@ one_step j inner found rest = by j.is_misplaced inner (is_updating j.category) r
     by false false true a b c = ap (λ x. and_then (if x then None else Some found) rest) (sym c)
     by false false false a b c = ap (λ x. and_then (if x then None else Some found) rest) (sym c)
 
-dropped : (xs : List Expr) (k : ℕ) (y : Expr) → slice_get xs k ≡ Some y → drop k xs ≡ y ∷ drop (suc k) xs
-dropped [] k y h = absurd (none-some y h)
-dropped (x ∷ xs) zero y h = ap (λ z. z ∷ xs) (same_Some x y h)
-dropped (x ∷ xs) (suc k) y h = dropped xs k y h
-
 -- the walk from an index on: the part there, and then from the next one on
 pub walk_on : (f t : ℕ) (xs : List Expr) (k : ℕ) (y : Expr) (found : Found) → Some y ≡ slice_get xs k
     → walk f t k (map judged (drop k xs)) found
@@ -193,16 +183,7 @@ walk_on f t xs k y found h =
 
 -- past the last part nothing more is found
 pub walk_end : (f t : ℕ) (xs : List Expr) (k : ℕ) (found : Found) → None ≡ slice_get xs k → walk f t k (map judged (drop k xs)) found ≡ Some found
-walk_end f t [] zero found h = refl
-walk_end f t [] (suc k) found h = refl
-walk_end f t (x ∷ xs) zero found h = absurd (none-some x h)
-walk_end f t (x ∷ xs) (suc k) found h = ap (λ ys. walk f t (suc k) (map judged ys) found) (past xs k h)
-  where
-    past : (ys : List Expr) (n : ℕ) → None ≡ slice_get ys n → drop n ys ≡ []
-    past [] zero e = refl
-    past [] (suc n) e = refl
-    past (y ∷ ys) zero e = absurd (none-some y e)
-    past (y ∷ ys) (suc n) e = past ys n e
+walk_end f t xs k found h = ap (λ ys. walk f t k (map judged ys) found) (ended xs k h)
 
 -- The steps of the walk in code: the part at an index, where what was found before is known.
 module _ (f t : ℕ) (x : Expr) (inner : IsInner (form x) f t) (k : ℕ) (found : Found)
