@@ -6,3 +6,4 @@ pub mod Tables
 pub mod Saturating
 pub mod Begins
 pub mod Shrinks
+pub mod Queues

@@ -4,3 +4,4 @@ pub mod Lexing
 pub mod Outcome
 pub mod Cursor
 pub mod Examples
+pub mod Queues

@@ -15,7 +15,6 @@ use crate::strings::string;
 use crate::token::Token;
 use crate::tokens::Tokens;
 use std::alloc::{AllocError, Global};
-use std::collections::VecDeque;
 
 // The token that the text begins with.
 fn token(alloc: Global, text: &[char]) -> Result<(Token, &[char]), ParseFault>
@@ -32,14 +31,14 @@ fn token(alloc: Global, text: &[char]) -> Result<(Token, &[char]), ParseFault>
 // A token, and what separates it from the next.
 fn next_token<'a>(
     alloc: Global,
-    found: &mut VecDeque<Token>,
+    found: &mut Tokens,
     text: &'a [char],
 ) -> Result<&'a [char], ParseFault>
-    ensures { IsNext (lexing.next_token found.old.items text.now) (λ _. found.new.items) (λ rest. rest.now) result }
+    ensures { IsNext (lexing.next_token found.old text.now) (λ _. found.new) (λ rest. rest.now) result }
 {
     let (token, after) = token(alloc, text)?;
     let rest = separators(after)?;
-    found.push_back(token)?;
+    found.push(token)?;
     Ok(rest)
 }
 
@@ -53,10 +52,10 @@ fn is_left(text: &[char]) -> bool
 }
 
 // Each token takes a character at least, so as many turns as there are characters are enough.
-fn all_tokens(alloc: Global, text: &[char]) -> Result<VecDeque<Token>, ParseFault>
-    ensures { IsRead (repeat (λ _ text. lexing.is_left text) lexing.next_token [] text.now) (λ found. found.items) result }
+fn all_tokens(alloc: Global, text: &[char]) -> Result<Tokens, ParseFault>
+    ensures { IsRead (repeat (λ _ text. lexing.is_left text) lexing.next_token [] text.now) (λ found. found) result }
 {
-    let mut found = VecDeque::new(alloc);
+    let mut found = Tokens::new(alloc);
     let mut rest = text;
     for _turn in 0..text.len() {
         if !is_left(rest) {
@@ -68,8 +67,8 @@ fn all_tokens(alloc: Global, text: &[char]) -> Result<VecDeque<Token>, ParseFaul
 }
 
 #[tactic(auto, unfolding(crate::specs::Lexing::tokens))]
-fn tokens_of(alloc: Global, text: &[char]) -> Result<VecDeque<Token>, ParseFault>
-    ensures { IsRead (lexing.tokens text.now) (λ found. found.items) result }
+fn tokens_of(alloc: Global, text: &[char]) -> Result<Tokens, ParseFault>
+    ensures { IsRead (lexing.tokens text.now) (λ found. found) result }
 {
     let first = separators(text)?;
     all_tokens(alloc, first)
@@ -87,5 +86,5 @@ pub fn read_tokens(alloc: Global, text: &str) -> Result<Tokens, ParseFault>
     ensures { IsRead (lexing.tokens (chars text.now)) (λ t. t) result }
 {
     let characters = characters(alloc, text)?;
-    Ok(Tokens::new(tokens_of(alloc, &characters)?))
+    tokens_of(alloc, &characters)
 }

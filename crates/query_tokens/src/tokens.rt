@@ -1,49 +1,101 @@
 //! The tokens that are left.
 
-ghost use Rattle.std.specs.Prelude.{◌≡◌, ◌∷◌, [], length, MatchOption};
+ghost use Rattle.std.specs.Prelude.{◌≡◌, ◌∷◌, ◌++◌, [], length, MatchOption, OnOk, OnErr};
 ghost use Rattle.query_tokens.specs.Cursor.{kind_at};
 
 use crate::kind::Kind;
 use crate::token::Token;
+use std::alloc::{AllocError, Global};
 use std::collections::VecDeque;
 use std::marker::Model;
+use values::Text;
+
+/// A token's kind, and whether the token says more than that.
+#[derive(Clone, Copy)]
+struct Mark {
+    kind: Kind,
+    says_more: bool,
+}
+
+/// What a token says beside its kind.
+#[derive(Drop)]
+struct Content {
+    text: Text,
+    number: u64,
+}
 
 /// The tokens of a text that are left, in order. Contracts see their list.
+///
+/// Half of a text's tokens say no more than their kind, and the kinds are gone through more than once. So what tokens say beside
+/// their kinds stands in a queue of its own.
 #[derive(Drop)]
 pub struct Tokens {
-    queue: VecDeque<Token>,
+    alloc: Global,
+    marks: VecDeque<Mark>,
+    contents: VecDeque<Content>,
 }
 
 impl Model for Tokens {
-    ghost use Rattle.std.specs.Prelude.{List};
+    ghost use Rattle.std.specs.Prelude.{List, ◌≡◌, length};
     ghost use Rattle.query_tokens.specs.declared.token.Token.{Token as Item};
+    ghost use Rattle.query_tokens.specs.Queues.{counted, tokens_of};
 
     ghost Value = { List Item };
 
-    ghost view = { λ t. t.queue.items };
+    ghost view = { λ t. tokens_of t.marks.items t.contents.items };
+
+    ghost invariant = { λ t. counted t.marks.items ≡ length t.contents.items };
 }
 
 impl Tokens {
-    pub(crate) fn new(queue: VecDeque<Token>) -> Tokens
-        ensures { result ≡ queue.items }
+    pub(crate) fn new(alloc: Global) -> Tokens
+        ensures { result ≡ [] }
     {
-        Tokens { queue }
+        Tokens {
+            alloc,
+            marks: VecDeque::new(alloc),
+            contents: VecDeque::new(alloc),
+        }
+    }
+
+    /// Puts a token at the end. Fails where memory is refused, and then nothing changes.
+    pub(crate) fn push(&mut self, token: Token) -> Result<(), AllocError>
+        ensures ok { OnOk result (self.new ≡ self.old ++ token ∷ []) }
+        ensures err { OnErr result (self.new ≡ self.old) }
+    {
+        let Token { kind, text, number } = token;
+        if text.as_str().is_empty() && number == 0 {
+            let mark = Mark {
+                kind,
+                says_more: false,
+            };
+            self.marks.push_back(mark)?;
+        } else {
+            let mark = Mark {
+                kind,
+                says_more: true,
+            };
+            self.contents.reserve(1)?;
+            self.marks.push_back(mark)?;
+            self.contents.push_back_reserved(Content { text, number });
+        }
+        Ok(())
     }
 
     /// How many tokens are left.
     pub fn left(&self) -> usize
         ensures { result ≡ length self.now }
     {
-        self.queue.len()
+        self.marks.len()
     }
 
     /// The kind of the token after the next `n`, or `End` where there is none.
     pub fn peek_at(&self, n: usize) -> Kind
         ensures { result ≡ kind_at n self.now }
     {
-        match self.queue.get(n) {
+        match self.marks.get(n) {
             None => Kind::End,
-            Some(token) => token.kind,
+            Some(mark) => mark.kind,
         }
     }
 
@@ -51,6 +103,19 @@ impl Tokens {
     pub fn take(&mut self) -> Option<Token>
         ensures { MatchOption result ((self.old ≡ []) × (self.new ≡ [])) (λ t. self.old ≡ t ∷ self.new) }
     {
-        self.queue.pop_front()
+        let Mark { kind, says_more } = self.marks.pop_front()?;
+        let content = if says_more {
+            self.contents.pop_front()
+        } else {
+            None
+        };
+        Some(match content {
+            None => Token {
+                kind,
+                text: Text::new(String::new(self.alloc)),
+                number: 0,
+            },
+            Some(Content { text, number }) => Token { kind, text, number },
+        })
     }
 }

@@ -8,7 +8,7 @@ use Rattle.query_tokens.proofs.lexer.all_tokens.Goals as goal
 pub returns-then-not-is_left : goal.returns-then-not-is_left
 returns-then-not-is_left c =
     let ended = sym c.is_left.ensures ∙ c.if-not-is_left.true in
-    c.loop-turn.invariant.0 ∙ turn.ends (λ _ text. is_left text) next_token _ _ _ ended ∙ ap (λ r. Gives c.loop-turn.found.items r) (nothing_left c.loop-turn.rest.now ended)
+    c.loop-turn.invariant.0 ∙ turn.ends (λ _ text. is_left text) next_token _ _ _ ended ∙ ap (λ r. Gives c.loop-turn.found r) (nothing_left c.loop-turn.rest.now ended)
 
 pub returns-in_err-rest : goal.returns-in_err-rest
 returns-in_err-rest c =
@@ -25,4 +25,4 @@ loop-turn-preserved c =
 pub returns : goal.returns
 returns c =
     let short : length c.loop-turn.rest.now ≤ 0 = omega (arith, c.loop-turn.invariant.1, c.loop-turn-test.false) in
-    c.loop-turn.invariant.0 ∙ turn.runs_out (λ _ text. is_left text) next_token _ _ _ _ c.loop-turn-test.false ∙ ap (λ r. Gives c.loop-turn.found.items r) (no_text c.loop-turn.rest.now short)
+    c.loop-turn.invariant.0 ∙ turn.runs_out (λ _ text. is_left text) next_token _ _ _ _ c.loop-turn-test.false ∙ ap (λ r. Gives c.loop-turn.found r) (no_text c.loop-turn.rest.now short)
