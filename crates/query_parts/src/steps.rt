@@ -7,6 +7,7 @@ ghost use Rattle.query_grammar.specs.Grammar as grammar;
 ghost use Rattle.query_grammar.specs.Reader as read;
 
 use crate::cursor::{axis, eat, kind_test_word, name, sees};
+use crate::lists::one;
 use crate::words::kind_test_of;
 use query_grammar::{Expr, KindTest, NodeTest};
 use query_tokens::{Kind, ParseFault, Tokens};
@@ -176,9 +177,7 @@ fn deep_axis_step(
     ensures { IfOk result (λ found. found ≡ grammar.deep_axis_step (part.as_axis_step step) step.is_bare predicates) }
 {
     if step.is_bare && predicates.is_empty() {
-        let mut found = Items::new(alloc);
-        found.push(Expr::Step(Axis::Descendant, step.test, predicates))?;
-        Ok(found)
+        one(alloc, Expr::Step(Axis::Descendant, step.test, predicates))
     } else {
         deep(alloc, Expr::Step(step.axis, step.test, predicates))
     }
@@ -202,7 +201,5 @@ pub fn steps_of(alloc: Global, is_deep: bool, step: Step) -> Result<Items<Expr>,
     if is_deep {
         return deep_step(alloc, step);
     }
-    let mut found = Items::new(alloc);
-    found.push(step_of(alloc, step)?)?;
-    Ok(found)
+    one(alloc, step_of(alloc, step)?)
 }

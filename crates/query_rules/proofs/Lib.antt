@@ -1,2 +1,7 @@
 pub mod Turns
 pub mod Top
+pub mod Lengths
+pub mod Unrolled
+pub mod Completed
+pub mod Unwound
+pub mod Settled

@@ -7,9 +7,9 @@ use Rattle.query_grammar.specs.Grammar.{IsQuery}
 use Rattle.query_grammar.specs.Reader.{query, whole, exprs, single}
 use Rattle.query_rules.specs.Reads.{GivesWhole}
 
-pub query_gives : (level : ℕ) (ts : List Token) (d : ℕ) (r : Result Expr ParseFault) → d ≡ length ts → GivesWhole (whole (exprs (single level (d + 1)) ts)) r → GivesWhole (query level ts) r
+pub query_gives : (level : ℕ) (ts : List Token) (n d : ℕ) (r : Result Expr ParseFault) → n ≡ length ts → d ≡ n + 1 → GivesWhole (whole (exprs (single level d) ts)) r → GivesWhole (query level ts) r
 unfolding query
-query_gives level ts d r e h = let n : d + 1 ≡ suc (length ts) = omega arith in subst (λ k. GivesWhole (whole (exprs (single level k) ts)) r) n h
+query_gives level ts n d r e f h = let deep : d ≡ suc (length ts) = omega arith in subst (λ k. GivesWhole (whole (exprs (single level k) ts)) r) deep h
 
 pub spelt_of : (level : ℕ) (ts : List Token) (r : Result Expr ParseFault)
     → ((l : ℕ) (us : List Token) (x : Expr) → query l us ≡ Some x → IsQuery l us x)

@@ -3,16 +3,11 @@ use Rattle.std.proofs.Common.{◌≡◌, ℕ, zero, suc, ◌+◌, ◌-◌, ◌<�
 use Rattle.query_tokens.specs.declared.kind.Kind.TheVariants as k
 use Rattle.query_tokens.specs.declared.token.Token.{Token}
 use Rattle.query_grammar.specs.declared.ast.Expr.{Expr}
-use Rattle.query_grammar.specs.declared.ast.Expr.TheVariants as e
-use Rattle.query_grammar.specs.declared.ast.Clause.{Clause}
 use Rattle.query_grammar.specs.declared.ast.Clause.TheVariants as clause
 use Rattle.query_grammar.specs.Grammar as grammar
 use Rattle.query_grammar.specs.Reader as r
 use Rattle.query_grammar.specs.Reading.{Reader, pure, ◌>>=◌, ◌>>◌, and_then, rounds, many, at_level, sees, eat}
 use Rattle.query_rules.specs.Parts as part
-
-pub deeper : {X : Type 0} (f : ℕ → X) (n : ℕ) → 0 < n → f n ≡ f (suc (n - 1))
-deeper f n some = let e : n ≡ suc (n - 1) = omega arith in ap f e
 
 -- a turn of the loop is a step of the recursion
 pub one_round : {A : Type 0} (goes_on : List Token → Bool) (item : Reader A) (n at : ℕ) (acc : List A) (ts : List Token) (x : A) (mid : List Token) (after : List A)
@@ -78,15 +73,15 @@ flat_begun goes_on item ts n found all none =
     ∙ ap (λ ys. flat_rounds goes_on item (n - 0) ys ts) (sym none)
 
 -- Steps of reading, one after another.
-made : {A B C : Type 0} (o : Option (A × List Token)) (f : A → B) (h : B → Reader C) → and_then o (λ a. h (f a)) ≡ and_then (and_then o (λ a. pure (f a))) h
+pub made : {A B C : Type 0} (o : Option (A × List Token)) (f : A → B) (h : B → Reader C) → and_then o (λ a. h (f a)) ≡ and_then (and_then o (λ a. pure (f a))) h
 made None f h = refl
 made (Some p) f h = refl
 
-in_turn : {A B C : Type 0} (o : Option (A × List Token)) (f : A → Reader B) (h : B → Reader C) → and_then (and_then o f) h ≡ and_then o (λ a ts. and_then (f a ts) h)
+pub in_turn : {A B C : Type 0} (o : Option (A × List Token)) (f : A → Reader B) (h : B → Reader C) → and_then (and_then o f) h ≡ and_then o (λ a ts. and_then (f a ts) h)
 in_turn None f h = refl
 in_turn (Some p) f h = refl
 
-same_after : {A B : Type 0} (o : Option (A × List Token)) (f g : A → Reader B) → ((a : A) (ts : List Token) → f a ts ≡ g a ts) → and_then o f ≡ and_then o g
+pub same_after : {A B : Type 0} (o : Option (A × List Token)) (f g : A → Reader B) → ((a : A) (ts : List Token) → f a ts ≡ g a ts) → and_then o f ≡ and_then o g
 same_after None f g h = refl
 same_after (Some p) f g h = h p.0 p.1
 
@@ -139,20 +134,3 @@ pub clauses_is : (single : Reader Expr) (ts : List Token) → r.clauses single t
 unfolding r.clauses
 clauses_is single ts = ap (λ o. cond (sees 0 k.For ts) ((eat k.For >> r.list1 (r.for_binding single)) ts) o)
     (in_turn (eat k.Let ts) _ _ ∙ same_after (eat k.Let ts) _ _ (λ _ mid. list_made clause.Let (r.set_binding single) mid))
-
--- a FLWOR expression after its clauses
-unfoldable after_clauses : (single : Reader Expr) → List (Clause Expr) → Reader Expr
-after_clauses single found = do
-  test ← r.condition single
-  sorted ← r.keys single
-  eat k.Return
-  x ← single
-  pure (e.Flwor found test sorted x)
-
-pub flwor_is : (single : Reader Expr) (ts : List Token) → r.flwor single ts ≡ part.flwor single ts
-unfolding r.flwor after_clauses
-flwor_is single ts =
-    same_after (r.clauses single ts) _ _ (λ first mid.
-    made (many (at_level 13) (r.clauses single) mid) part.flat (λ others. after_clauses single (first ++ others))
-    ∙ made (part.more_clauses single mid) (λ others. first ++ others) (after_clauses single))
-    ∙ sym (in_turn (r.clauses single ts) _ (after_clauses single))

@@ -1,5 +1,5 @@
 -- The parts of the readers that have functions of their own.
-use Rattle.std.specs.Prelude.{Bool, true, false, if◌then◌else◌, List, [], ◌∷◌, ◌++◌}
+use Rattle.std.specs.Prelude.{Bool, true, false, if◌then◌else◌, List, [], ◌∷◌}
 use Rattle.std.specs.List.{flat_map}
 use Rattle.query_tokens.specs.declared.kind.Kind.{Kind}
 use Rattle.query_tokens.specs.declared.kind.Kind.TheVariants as k
@@ -88,28 +88,14 @@ more_clauses single = many (at_level 13) (r.clauses single) >>= (λ found. pure 
 abbrev pub plain : Reader Expr → Kind → Reader Expr
 plain single kind = eat kind >> r.braces single
 
--- The readers of a path and of a FLWOR expression, by these parts.
+-- The readers of a path and of clauses, by these parts.
 abbrev pub path : Reader Expr → Reader Expr
 path single = do
   first ← r.step single
   others ← segments single
   pure (grammar.path_of (grammar.step_of first) others)
 
-abbrev pub all_clauses : Reader Expr → Reader (List (Clause Expr))
-all_clauses single = do
-  first ← r.clauses single
-  others ← more_clauses single
-  pure (first ++ others)
-
-abbrev pub flwor : Reader Expr → Reader Expr
-flwor single = do
-  found ← all_clauses single
-  test ← r.condition single
-  sorted ← r.keys single
-  eat k.Return
-  x ← single
-  pure (e.Flwor found test sorted x)
-
+-- the clauses of one `for` or `let`
 abbrev pub clauses : Reader Expr → Reader (List (Clause Expr))
 clauses single = choose (sees 0 k.For) (eat k.For >> r.list1 (clause_of single true)) (eat k.Let >> r.list1 (clause_of single false))
 

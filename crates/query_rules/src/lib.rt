@@ -6,11 +6,11 @@ mod constructors;
 mod forms;
 mod operators;
 mod paths;
+mod pending;
 mod primaries;
 mod query;
+mod resuming;
 mod rules;
-#[cfg(test)]
-mod tests;
 mod updates;
 
 pub use query::read_query;

@@ -14,6 +14,7 @@ use crate::rules::Rules;
 use query_grammar::{Binary, Expr, Operation, Sign};
 use query_parts::Precedence;
 use query_parts::cursor::{REFUSED, at_level, sign};
+use query_parts::lists::{one, push};
 use query_parts::words::sign_of;
 use query_tokens::{ParseFault, Tokens};
 use sqlite_items::{Boxed, Items};
@@ -138,7 +139,8 @@ impl<F: Fn(Global, u8, &mut Tokens, usize) -> Result<Expr, ParseFault>> Rules<F>
             if !at_level(tokens, precedence.looseness()) {
                 return Ok(found);
             }
-            found.push(self.operation(tokens, precedence)?)?;
+            let operation = self.operation(tokens, precedence)?;
+            push(self.alloc, &mut found, operation)?;
         }
         Ok(found)
     }
@@ -157,8 +159,8 @@ impl<F: Fn(Global, u8, &mut Tokens, usize) -> Result<Expr, ParseFault>> Rules<F>
         if !at_level(tokens, precedence.looseness()) {
             return Ok(first);
         }
-        let mut others = Items::new(self.alloc);
-        others.push(self.operation(tokens, precedence)?)?;
+        let other = self.operation(tokens, precedence)?;
+        let others = one(self.alloc, other)?;
         Ok(chain_of(self.alloc, first, others)?)
     }
 

@@ -12,6 +12,7 @@ use crate::primaries::sees_primary;
 use crate::rules::Rules;
 use query_grammar::Expr;
 use query_parts::cursor::{at_level, eat};
+use query_parts::lists::{append, push};
 use query_parts::steps::{Step, axis_step, slash, step_of, steps_of};
 use query_tokens::{Kind, ParseFault, Tokens};
 use sqlite_items::{Boxed, Items};
@@ -50,7 +51,8 @@ impl<F: Fn(Global, u8, &mut Tokens, usize) -> Result<Expr, ParseFault>> Rules<F>
             if !at_level(tokens, 1) {
                 return Ok(found);
             }
-            found.push(self.predicate(tokens)?)?;
+            let x = self.predicate(tokens)?;
+            push(self.alloc, &mut found, x)?;
         }
         Ok(found)
     }
@@ -92,7 +94,8 @@ impl<F: Fn(Global, u8, &mut Tokens, usize) -> Result<Expr, ParseFault>> Rules<F>
             if !at_level(tokens, 2) {
                 return Ok(found);
             }
-            found.append(self.segment(tokens)?)?;
+            let steps = self.segment(tokens)?;
+            append(&mut found, steps)?;
         }
         Ok(found)
     }

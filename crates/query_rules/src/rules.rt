@@ -9,6 +9,7 @@ ghost use Rattle.query_grammar.specs.Reader as read;
 
 use query_grammar::Expr;
 use query_parts::cursor::{at_level, eat};
+use query_parts::lists::{one, push};
 use query_tokens::{Kind, ParseFault, Tokens};
 use sqlite_items::Items;
 use std::alloc::{AllocError, Global};
@@ -32,8 +33,7 @@ pub(crate) fn with_first<T: Drop>(
 ) -> Result<Items<T>, AllocError>
     ensures { IfOk result (λ all. all ≡ first ∷ others) }
 {
-    let mut all = Items::new(alloc);
-    all.push(first)?;
+    let mut all = one(alloc, first)?;
     all.append(others)?;
     Ok(all)
 }
@@ -76,7 +76,8 @@ impl<F: Fn(Global, u8, &mut Tokens, usize) -> Result<Expr, ParseFault>> Rules<F>
             if !at_level(tokens, 12) {
                 return Ok(found);
             }
-            found.push(self.next_single(tokens)?)?;
+            let x = self.next_single(tokens)?;
+            push(self.alloc, &mut found, x)?;
         }
         Ok(found)
     }

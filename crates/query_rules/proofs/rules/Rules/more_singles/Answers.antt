@@ -7,4 +7,4 @@ use Rattle.query_rules.proofs.rules.Rules.more_singles.Goals as goal
 
 pub loop-turn-preserved : goal.loop-turn-preserved
 loop-turn-preserved g c =
-    c.loop-turn.invariant ∙ one_round (at_level 12) (part.after_comma (r.single c.args.self.now.level c.args.self.now.depth)) _ _ _ _ _ _ _ c.loop-turn-test.true (sym c.at_level.ensures ∙ c.if-not-at_level.false) c.in_ok-next_single.ensures c.in_ok-push.ensures.ok
+    c.loop-turn.invariant ∙ one_round (at_level 12) (part.after_comma (r.single c.args.self.now.level c.args.self.now.depth)) _ _ _ _ _ _ _ c.loop-turn-test.true (sym c.at_level.ensures ∙ c.if-not-at_level.false) c.in_ok-x.ensures c.in_ok-push.ensures.ok

@@ -9,4 +9,4 @@ loop-turn-init g c = flat_begun (at_level 2) (r.segment (r.single c.args.self.no
 
 pub loop-turn-preserved : goal.loop-turn-preserved
 loop-turn-preserved g c =
-    c.loop-turn.invariant ∙ one_flat_round (at_level 2) (r.segment (r.single c.args.self.now.level c.args.self.now.depth)) _ _ _ _ _ _ _ c.loop-turn-test.true (sym c.at_level.ensures ∙ c.if-not-at_level.false) c.in_ok-segment.ensures c.in_ok-append.ensures
+    c.loop-turn.invariant ∙ one_flat_round (at_level 2) (r.segment (r.single c.args.self.now.level c.args.self.now.depth)) _ _ _ _ _ _ _ c.loop-turn-test.true (sym c.at_level.ensures ∙ c.if-not-at_level.false) c.in_ok-steps.ensures c.in_ok-append.ensures

@@ -1,6 +1,6 @@
 //! Which texts are queries, by the code.
 
-use crate::read_query;
+use query_rules::read_query;
 use query_tokens::{ParseFault, read_tokens};
 use std::alloc::Global;
 use values::Code;
