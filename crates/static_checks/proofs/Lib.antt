@@ -6,3 +6,7 @@ pub mod Nesting
 pub mod Forms
 pub mod Walks
 pub mod Results
+pub mod Scopes
+pub mod Bindings
+pub mod Unbound
+pub mod Whole

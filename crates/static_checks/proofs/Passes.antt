@@ -17,7 +17,7 @@ results f (p ∷ ps) = ap (λ ys. f p.part ∷ ys) (results f ps)
 pub parts_results : {A : Type 0} (f : Expr → A) (x : Expr) → map (λ (p : Part A). p.part) (parts (map-Expr Expr A f (out-Expr x))) ≡ map f (children x)
 parts_results f x = ap (map (λ p. p.part)) (parts_mapped f (out-Expr x)) ∙ results f (parts (out-Expr x))
 
-any_map : {A B : Type 0} (p : B → Bool) (f : A → B) (xs : List A) → list_any p (map f xs) ≡ list_any (λ x. p (f x)) xs
+pub any_map : {A B : Type 0} (p : B → Bool) (f : A → B) (xs : List A) → list_any p (map f xs) ≡ list_any (λ x. p (f x)) xs
 any_map p f [] = refl
 any_map p f (x ∷ xs) = ap (λ b. p (f x) || b) (any_map p f xs)
 

@@ -4,4 +4,6 @@ pub mod Variables
 pub mod Categories
 pub mod Brackets
 pub mod Inside
+pub mod Scopes
 pub mod Static
+pub mod Walk

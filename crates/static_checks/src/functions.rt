@@ -82,7 +82,7 @@ fn is_function(name: &str, arguments: usize) -> bool
 }
 
 /// Whether an expression calls a function that there is not.
-fn is_unknown_call(x: &Expr) -> bool
+pub(crate) fn is_unknown_call(x: &Expr) -> bool
     ensures { result ≡ is_unknown_call (out-Expr x.now) }
 {
     match x {

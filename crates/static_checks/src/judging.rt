@@ -12,8 +12,8 @@ use query_grammar::Expr;
 
 /// What the category of an expression comes from, and which of its parts are the inner ones, where an updating expression may stand.
 #[derive(Clone, Copy)]
-struct Inner {
-    own: Own,
+pub(crate) struct Inner {
+    pub(crate) own: Own,
     from: u128,
     to: u128,
 }
@@ -21,12 +21,12 @@ struct Inner {
 /// What the categories of inner parts have come to: whether one updates, and whether one is simple.
 #[derive(Clone, Copy)]
 pub(crate) struct Found {
-    updates: bool,
-    simple: bool,
+    pub(crate) updates: bool,
+    pub(crate) simple: bool,
 }
 
 /// The inner parts of an expression.
-fn inner_of(x: &Expr) -> Inner
+pub(crate) fn inner_of(x: &Expr) -> Inner
     ensures own { result.own ≡ (form_of (out-Expr x.now)).own }
     ensures place { IsInner (form_of (out-Expr x.now)) result.from result.to }
     ensures results { result.own ≡ OfResults → (result.from ≡ length (form_of (out-Expr x.now)).before) × ((form_of (out-Expr x.now)).after ≡ []) }
@@ -57,14 +57,14 @@ fn inner_of(x: &Expr) -> Inner
 }
 
 /// Whether the part of an index is an inner one.
-fn is_inner(inner: Inner, index: u128) -> bool
+pub(crate) fn is_inner(inner: Inner, index: u128) -> bool
     ensures { result ≡ is_inner inner.from inner.to index }
 {
     inner.from <= index && index < inner.to
 }
 
 /// One part more; nothing where it updates and may not.
-fn taken(found: Found, category: Category, is_inner: bool) -> Option<Found>
+pub(crate) fn taken(found: Found, category: Category, is_inner: bool) -> Option<Found>
     ensures { result ≡ taken found category is_inner }
 {
     let updates = category == Category::Updating;
@@ -81,7 +81,7 @@ fn taken(found: Found, category: Category, is_inner: bool) -> Option<Found>
 }
 
 /// The category of the whole; nothing where an updating inner part stands beside a simple one.
-fn concluded(own: Own, found: Found) -> Option<Category>
+pub(crate) fn concluded(own: Own, found: Found) -> Option<Category>
     ensures { result ≡ concluded own (Some found) }
 {
     match own {

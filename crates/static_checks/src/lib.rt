@@ -5,11 +5,14 @@ mod brackets;
 mod categories;
 mod functions;
 mod judging;
+mod names;
 mod parts;
 mod variables;
+mod walk;
 
 pub use brackets::nests_too_deep;
 pub use categories::Category;
 pub use functions::has_unknown_call;
 pub use judging::{category, has_misplaced_update};
-pub use variables::binds_a_name_twice;
+pub use variables::{binds_a_name_twice, has_unbound};
+pub use walk::has_fault;

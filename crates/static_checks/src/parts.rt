@@ -12,7 +12,7 @@ use query_grammar::{Binding, Clause, Expr, Name, Operation, SortKey};
 use sqlite_items::{Boxed, Items};
 
 /// The item at an index.
-fn at<T>(xs: &Items<T>, index: u128) -> Option<&T>
+pub(crate) fn at<T>(xs: &Items<T>, index: u128) -> Option<&T>
     ensures there { option_copied result ≡ slice_get xs.now index }
     ensures small { OnSome result (index < 2 ^ 64) }
 {

@@ -1,0 +1,11 @@
+pub mod Turns
+pub mod Spelling
+pub mod Spelt
+pub mod Nested
+pub mod Faultless
+pub mod Literals
+pub mod Numerals
+pub mod Pieces
+pub mod Lexed
+pub mod Texts
+pub mod Whole
