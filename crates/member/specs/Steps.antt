@@ -57,13 +57,14 @@ effect_of app n m r u Begins = on_begin n m r u
 effect_of app n m r u Resends = on_resend n m u
 effect_of app n m r u CatchesUp = on_catch_up_tick n m u
 
+-- no question
+abbrev pub IsNoQuestion : Body → Type 0
+IsNoQuestion (Ask q) = ⊥
+IsNoQuestion body = Unit {0}
+
 -- a well-formed message, and no question: questions are answered where requests are run
 abbrev pub IsHeard : (members : ℕ) → Input → Type 0
 IsHeard n (Hears k) = IsMessage n k × IsNoQuestion k.body
-  where
-    IsNoQuestion : Body → Type 0
-    IsNoQuestion (Ask q) = ⊥
-    IsNoQuestion body = Unit {0}
 IsHeard n i = Unit {0}
 
 -- no promise of a ballot above its own promise

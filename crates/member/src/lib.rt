@@ -3,6 +3,7 @@
 
 mod draft;
 mod fault;
+mod hearing;
 mod input;
 mod learnt;
 mod member;

@@ -1,10 +1,10 @@
 //! A member.
 
-ghost use Rattle.std.specs.Prelude.{◌≡◌, ◌<◌, ◌≤◌, ◌⊎◌, ◌↔◌, false, IfOk, IfErr, OnOk, OnErr, IsErrOf};
+ghost use Rattle.std.specs.Prelude.{◌≡◌, ◌<◌, ◌≤◌, ◌⊎◌, ◌↔◌, false, true, IfOk, IfErr, OnOk, OnErr, IsErrOf};
 ghost use Rattle.paxos.specs.Records.{Record as RecordTerm};
 ghost use Rattle.paxos.specs.Knowledge.{learnt as learnt_at, news, prefix};
 ghost use Rattle.paxos.specs.Step.{Running, may_begin};
-ghost use Rattle.paxos.specs.Records.{written};
+ghost use Rattle.paxos.specs.Records.{written, writes};
 ghost use Rattle.paxos.specs.WellFormed.{ArePairs, IsRecord};
 ghost use Rattle.paxos.specs.World.{started};
 ghost use Rattle.std.specs.Option.{option_copied};
@@ -23,6 +23,7 @@ ghost use Rattle.member.specs.Steps.{Input as InputTerm, Hears, Begins, Resends,
 
 use super::draft::{Change, Draft};
 use super::fault::MemberFault;
+use super::hearing::may_come;
 use super::input::Input;
 use super::learnt::{lowest_pairs, positions_from};
 use super::outcome::{Outcome, Target};
@@ -131,6 +132,15 @@ impl<R: Records + Drop> Member<R> {
         self.learner.learned(position)
     }
 
+    /// Whether a message may come from a member, or from the clients (0): its numbers are in range, and its sender may say it. Members
+    /// send nothing else. A question is not heard, since it is answered where requests are run.
+    pub fn hears(&self, sender: u8, message: &Message) -> bool
+        ensures sound { result ≡ true → IsHeard self.now.members (Hears (packet sender (body_of message.now) self.now.number)) }
+        ensures complete { IsHeard self.now.members (Hears (packet sender (body_of message.now) self.now.number)) → result ≡ true }
+    {
+        may_come(self.members, sender, self.number, message)
+    }
+
     /// What comes of an input: what it writes, sends and tells once it is committed. Nothing that shows has changed, but the room that
     /// it takes.
     ///
@@ -144,6 +154,7 @@ impl<R: Records + Drop> Member<R> {
         ensures record_same { self.new.acceptor ≡ self.old.acceptor }
         ensures place { (self.new.members ≡ self.old.members) × (self.new.number ≡ self.old.number) }
         ensures spent { (u : Running) → IsThis u self.old → (IsErrOf result MemberFault.Spent ↔ IsSpent self.old u (input_of self.old.number input.now)) }
+        ensures still_spent { (u : Running) → IsThis u self.new → (IsErrOf result MemberFault.Spent ↔ IsSpent self.new u (input_of self.old.number input.now)) }
     {
         match input {
             Input::Message(sender, message) => self.draft_message(alloc, *sender, *message),
@@ -498,9 +509,12 @@ impl<R: Records + Drop> Member<R> {
         ensures took { IfOk result (λ outcome. (app : Application) (i : InputTerm) (u : Running) → KnowsNothing app → IsDrafted i self.old draft → IsExpected self.old.acceptor.kept i
             → IsThis u self.old → Took (effect_of app self.old.members self.old.number self.old.acceptor.kept u i) self.old self.new outcome) }
         ensures runs { OnOk result (self.old.acceptor.is_stopped ≡ false → self.new.acceptor.is_stopped ≡ false) }
+        ensures says { IfOk result (λ outcome. (outcome.sends.items ≡ draft.sends.items) × (outcome.tells.items ≡ draft.tells.items)) }
         ensures memory { IsErrOf result RecordsFault.Memory → IsAsWas R.failed self.old.acceptor self.new.acceptor × ((u : Running) → IsThis u self.old → IsThis u self.new) }
         ensures store { IsErrOf result RecordsFault.Store → (app : Application) (i : InputTerm) (u : Running) → KnowsNothing app → IsDrafted i self.old draft → IsExpected self.old.acceptor.kept i
             → IsThis u self.old → Stopped R.stands R.is_kept R.failed self.old.acceptor self.new.acceptor (effect_of app self.old.members self.old.number self.old.acceptor.kept u i).write }
+        ensures stops { IsErrOf result RecordsFault.Store → Stopped R.stands R.is_kept R.failed self.old.acceptor self.new.acceptor (write_in draft.change) }
+        ensures writes { IsErrOf result RecordsFault.Store → self.old.acceptor.is_stopped ≡ false → writes (write_in draft.change) ≡ true }
         ensures kept { R.is_kept self.new.acceptor.records → R.is_kept self.old.acceptor.records }
         ensures place { (self.new.members ≡ self.old.members) × (self.new.number ≡ self.old.number) }
     {
@@ -520,6 +534,7 @@ impl<R: Records + Drop> Member<R> {
         ensures made { OnOk result (self.old.acceptor.is_stopped ≡ false → IsMade self.old change self.new) }
         ensures memory { IsErrOf result RecordsFault.Memory → IsAsWas R.failed self.old.acceptor self.new.acceptor }
         ensures store { IsErrOf result RecordsFault.Store → Stopped R.stands R.is_kept R.failed self.old.acceptor self.new.acceptor (write_in change) }
+        ensures writes { IsErrOf result RecordsFault.Store → self.old.acceptor.is_stopped ≡ false → writes (write_in change) ≡ true }
         ensures refused { OnErr result ((self.new.proposer ≡ self.old.proposer) × (self.new.learner ≡ self.old.learner)) }
         ensures kept { R.is_kept self.new.acceptor.records → R.is_kept self.old.acceptor.records }
         ensures place { (self.new.members ≡ self.old.members) × (self.new.number ≡ self.old.number) }
@@ -556,9 +571,11 @@ impl<R: Records + Drop> Member<R> {
         requires ready { IsReady self.old draft }
         ensures wrote { OnOk result ((app : Application) (i : InputTerm) (u : Running) → KnowsNothing app → IsDrafted i self.old draft → IsExpected self.old.acceptor.kept i
             → IsThis u self.old → (self.new.acceptor.kept ≡ written (effect_of app self.old.members self.old.number self.old.acceptor.kept u i).write self.old.acceptor.kept) × (self.new.acceptor.is_stopped ≡ false)) }
+        ensures runs { OnOk result (self.old.acceptor.is_stopped ≡ false → self.new.acceptor.is_stopped ≡ false) }
         ensures memory { IsErrOf result RecordsFault.Memory → IsAsWas R.failed self.old.acceptor self.new.acceptor × ((u : Running) → IsThis u self.old → IsThis u self.new) }
         ensures store { IsErrOf result RecordsFault.Store → (app : Application) (i : InputTerm) (u : Running) → KnowsNothing app → IsDrafted i self.old draft → IsExpected self.old.acceptor.kept i
             → IsThis u self.old → Stopped R.stands R.is_kept R.failed self.old.acceptor self.new.acceptor (effect_of app self.old.members self.old.number self.old.acceptor.kept u i).write }
+        ensures stops { IsErrOf result RecordsFault.Store → Stopped R.stands R.is_kept R.failed self.old.acceptor self.new.acceptor (write_in draft.change) }
         ensures same { (self.new.proposer ≡ self.old.proposer) × (self.new.learner ≡ self.old.learner) }
         ensures kept { R.is_kept self.new.acceptor.records → R.is_kept self.old.acceptor.records }
         ensures place { (self.new.members ≡ self.old.members) × (self.new.number ≡ self.old.number) }

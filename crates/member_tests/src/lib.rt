@@ -1,0 +1,18 @@
+//! Tests of a member, over what it makes public.
+//!
+//! `rt try --test --fail-alloc N`, with N from 1 to 76, refuses each allocation in turn: what the member shows is then as it was, and
+//! the call is made again.
+#![tactic(auto)]
+
+#[cfg(test)]
+mod hearing;
+#[cfg(test)]
+mod leading;
+#[cfg(test)]
+mod learning;
+#[cfg(test)]
+mod messages;
+#[cfg(test)]
+mod steps;
+#[cfg(test)]
+mod stopping;

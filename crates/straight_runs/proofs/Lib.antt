@@ -1,0 +1,12 @@
+pub mod Lists
+pub mod Prefixes
+pub mod Smooth
+pub mod Phases
+pub mod Heard
+pub mod Proposes
+pub mod Opening
+pub mod Proposal
+pub mod Learning
+pub mod Sums
+pub mod Whole
+pub mod Ends

@@ -1,0 +1,15 @@
+pub mod Posted
+pub mod Given
+pub mod Settling
+pub mod Lifting
+pub mod Reaching
+pub mod Leading
+pub mod Agreeing
+pub mod Happening
+pub mod Idling
+pub mod Placing
+pub mod Delivering
+pub mod Resting
+pub mod Stopping
+pub mod Begun
+pub mod Straightly

@@ -1,0 +1,377 @@
+-- How a seat moves: each of the facts that a member's calls give makes a move.
+use Rattle.std.proofs.Common.{◌≡◌, ℕ, Bool, true, false, refl, ◌⊎◌, inl, inr, sym, subst, ap, ap₂, ◌∙◌, Some, None, ⊎_elim, []}
+use Rattle.std.specs.Prelude.{option_map, if◌then◌else◌}
+use Rattle.std.proofs.lemmas.Option.{none-some, same_Some}
+use Rattle.member.specs.Drafts.{IsDrafted, IsReady, IsSpent}
+use Rattle.member.specs.Steps.{Input, Member, IsExpected, IsHeard, IsThis, Took, all_packets, all_applied, effect_of}
+use Rattle.member.specs.declared.draft.Draft.{Draft}
+use Rattle.member.specs.declared.outcome.Outcome.{Outcome}
+use Rattle.paxos.specs.Application.{Application}
+use Rattle.paxos.specs.Knowledge.{news, prefix}
+use Rattle.paxos.specs.Records.{Record, Write, Nothing, writes, written}
+use Rattle.paxos.specs.Step.{Running, Effect, quiet}
+use Rattle.paxos.specs.WellFormed.{IsRecord}
+use Rattle.paxos.specs.World.{Member as Part, Choice, applies, applies_to, settles, started, stops_in}
+use Rattle.world.specs.Seats.{IsKeptAt, IsPart, IsPlanned, MayStart, MayStay, MayStep, MayStop, MayStopIn, Moves, Skips, Stands, part_after}
+use Rattle.world.specs.declared.seat.Seat.{Seat}
+
+module _ {R : Type 0} (stands : R → Record → Record → Type 0) (is_kept : R → Type 0) (Given : Part → Type 0) (old new : Seat R) where
+  -- a member that runs on
+  module _ (x y : Member R) (there : old.member ≡ Some x) (here : new.member ≡ Some y) (kept : is_kept y.acceptor.records → is_kept x.acceptor.records) where
+    -- its records were kept if they are
+    kept_still : IsKeptAt is_kept new → IsKeptAt is_kept old
+    kept_still k = record {
+      running = λ z q. subst (λ (v : Member R). is_kept v.acceptor.records) (same_Some x z (sym there ∙ q)) (kept (k.running y here));
+      stopped = λ r q s. absurd (none-some x (sym q ∙ there));
+    }
+
+    -- it has kept just what it has kept
+    stands_new : Stands stands new y.acceptor.kept y.acceptor.kept
+    stands_new = record {
+      running = λ z q. let e = same_Some y z (sym here ∙ q) in (ap (λ (v : Member R). v.acceptor.kept) e, ap (λ (v : Member R). v.acceptor.kept) e);
+      stopped = λ q. absurd (none-some y (sym q ∙ here));
+    }
+
+    -- it sits there as it runs
+    part_new : (k : Record) (z : Part) → k ≡ y.acceptor.kept → z.kept ≡ k → (u : Running) → z.running ≡ Some u → IsThis u y → IsPart new k z
+    part_new k z own q u r this = record {
+      kept_is = q;
+      running = λ v h. let e = same_Some y v (sym here ∙ h) in (u, r, subst (IsThis {R = R} u) e this, own ∙ ap (λ (w : Member R). w.acceptor.kept) e);
+      stopped = λ h. absurd (none-some y (sym h ∙ here));
+    }
+
+    -- nothing happens to it
+    pub stays : y.acceptor.kept ≡ x.acceptor.kept → ((u : Running) → IsThis u x → IsThis u y) → Moves stands is_kept Given MayStay old new [] []
+    stays same this = record {
+      kept = kept_still;
+      changes = λ k a b s. (
+        y.acceptor.kept,
+        y.acceptor.kept,
+        stands_new,
+        λ c q. (
+          x.acceptor.kept,
+          inl (sym (s.running x there).0),
+          λ z given p.
+              let u = p.running x there in
+              let c_is : c ≡ y.acceptor.kept = ⊎_elim (λ (e : c ≡ y.acceptor.kept). e) (λ (e : c ≡ y.acceptor.kept). e) q in (
+                record { write = Nothing; running = z.running; sends = []; tells = [] },
+                refl,
+                refl,
+                refl,
+                part_new c (part_after z (record { write = Nothing; running = z.running; sends = []; tells = [] })) c_is (p.kept_is ∙ sym same ∙ sym c_is) u.0 u.1 (this u.0 u.2),
+              ),
+        ),
+      );
+    }
+
+    -- it takes a step
+    pub steps : (app : Application) (n m : ℕ) (i : Input) (outcome : Outcome) → (x.members ≡ n) × (x.number ≡ m)
+        → ((z : Part) → Given z → IsExpected z.kept i)
+        → ((u : Running) → IsExpected x.acceptor.kept i → IsThis u x → Took (effect_of app x.members x.number x.acceptor.kept u i) x y outcome)
+        → Moves stands is_kept Given (MayStep app n m i) old new (all_packets n m outcome.sends.items) outcome.tells.items
+    steps app n m i outcome place expected took = record {
+      kept = kept_still;
+      changes = λ k a b s. (
+        y.acceptor.kept,
+        y.acceptor.kept,
+        stands_new,
+        λ c q. (
+          x.acceptor.kept,
+          inl (sym (s.running x there).0),
+          λ z given p.
+              let u = p.running x there in
+              let c_is : c ≡ y.acceptor.kept = ⊎_elim (λ (e : c ≡ y.acceptor.kept). e) (λ (e : c ≡ y.acceptor.kept). e) q in
+              moved c c_is z p.kept_is u.0 u.1 (took u.0 (subst (λ r. IsExpected r i) p.kept_is (expected z given)) u.2),
+        ),
+      );
+    }
+      where
+        moved : (c : Record) → c ≡ y.acceptor.kept → (z : Part) → z.kept ≡ x.acceptor.kept → (u : Running) → z.running ≡ Some u
+            → Took (effect_of app x.members x.number x.acceptor.kept u i) x y outcome
+            → (e : Effect) × MayStep app n m i z e × (e.sends ≡ all_packets n m outcome.sends.items) × (e.tells ≡ outcome.tells.items) × IsPart new c (part_after z e)
+        moved c c_is z z_is u r t = (
+          settles n choice (effect_of app n m z.kept u i),
+          (u, r, choice, refl),
+          ap (λ (e : Effect). e.sends) same ∙ t.sends ∙ (rw place.0 (rw place.1 refl)),
+          ap (λ (e : Effect). e.tells) same ∙ t.tells,
+          part_new c (part_after z (settles n choice (effect_of app n m z.kept u i))) c_is
+              (ap₂ written (ap (λ (e : Effect). e.write) same) z_is ∙ sym t.record_is ∙ sym c_is)
+              (all_applied x.members t.running)
+              (ap (λ (e : Effect). option_map (applies_to n choice.applied) e.running) same ∙ ap (option_map (applies_to n choice.applied)) t.runs ∙ rw place.0 refl)
+              t.is_this,
+        )
+          where
+            choice : Choice
+            choice = record { fails = None; applied = prefix n (news t.running.heard) }
+
+            same : effect_of app n m z.kept u i ≡ effect_of app x.members x.number x.acceptor.kept u i
+            same = rw (sym place.0) (rw (sym place.1) (rw z_is refl))
+
+  -- a member that stops, and leaves its records
+  module _ (x : Member R) (r : R) (there : old.member ≡ Some x) (empty : new.member ≡ None) (left : new.records ≡ Some r) (kept : is_kept r → is_kept x.acceptor.records) where
+    -- the records were kept if they are
+    kept_before : IsKeptAt is_kept new → IsKeptAt is_kept old
+    kept_before k = record {
+      running = λ z q. subst (λ (v : Member R). is_kept v.acceptor.records) (same_Some x z (sym there ∙ q)) (kept (k.stopped r empty left));
+      stopped = λ q h. absurd (none-some x (sym h ∙ there));
+    }
+
+    -- these records stand
+    stands_left : (a b : Record) → stands r a b → Stands stands new a b
+    stands_left a b s = record { running = λ z q. absurd (none-some z (sym empty ∙ q)); stopped = λ q. (r, left, s) }
+
+    -- a stopped member sits there
+    part_left : (k : Record) (z : Part) → z.kept ≡ k → z.running ≡ None → IsPart new k z
+    part_left k z q h = record { kept_is = q; running = λ v e. absurd (none-some v (sym empty ∙ e)); stopped = λ e. h }
+
+    -- it stops
+    pub stops : (is_kept r → stands r x.acceptor.kept x.acceptor.kept) → Moves stands is_kept Given MayStop old new [] []
+    stops law = record {
+      kept = kept_before;
+      changes = λ k a b s. (
+        x.acceptor.kept,
+        x.acceptor.kept,
+        stands_left x.acceptor.kept x.acceptor.kept (law (k.stopped r empty left)),
+        λ c q. (
+          x.acceptor.kept,
+          inl (sym (s.running x there).0),
+          λ z given p.
+              let u = p.running x there in
+              let c_is : c ≡ x.acceptor.kept = ⊎_elim (λ (e : c ≡ x.acceptor.kept). e) (λ (e : c ≡ x.acceptor.kept). e) q in
+              (stops_in false (quiet u.0), (u.0, u.1, refl), refl, refl, part_left c (part_after z (stops_in false (quiet u.0))) (p.kept_is ∙ sym c_is) refl),
+        ),
+      );
+    }
+
+    -- it stops in a write that is kept
+    pub stops_in_write : (app : Application) (n m : ℕ) (i : Input) (now : Record) → (x.members ≡ n) × (x.number ≡ m)
+        → ((z : Part) → Given z → IsExpected z.kept i)
+        → ((u : Running) → IsExpected x.acceptor.kept i → IsThis u x → now ≡ written (effect_of app x.members x.number x.acceptor.kept u i).write x.acceptor.kept)
+        → (is_kept r → stands r now now)
+        → Moves stands is_kept Given (MayStopIn app n m i true) old new [] []
+    stops_in_write app n m i now place expected wrote law = record {
+      kept = kept_before;
+      changes = λ k a b s. (
+        now,
+        now,
+        stands_left now now (law (k.stopped r empty left)),
+        λ c q. (
+          x.acceptor.kept,
+          inl (sym (s.running x there).0),
+          λ z given p.
+              let u = p.running x there in
+              let c_is : c ≡ now = ⊎_elim (λ (e : c ≡ now). e) (λ (e : c ≡ now). e) q in
+              let effect = effect_of app n m z.kept u.0 i in (
+                stops_in true effect,
+                (u.0, u.1, None, refl),
+                refl,
+                refl,
+                part_left c (part_after z (stops_in true effect))
+                    (same z p.kept_is u.0 ∙ sym (wrote u.0 (subst (λ w. IsExpected w i) p.kept_is (expected z given)) u.2) ∙ sym c_is) refl,
+              ),
+        ),
+      );
+    }
+      where
+        same : (z : Part) → z.kept ≡ x.acceptor.kept → (u : Running)
+            → written (effect_of app n m z.kept u i).write z.kept ≡ written (effect_of app x.members x.number x.acceptor.kept u i).write x.acceptor.kept
+        same z z_is u = rw (sym place.0) (rw (sym place.1) (rw z_is refl))
+
+    -- its store fails, in a step or in a stop that keeps its write
+    module _ (app : Application) (n m : ℕ) (i : Input) (write : Write) (place : (x.members ≡ n) × (x.number ≡ m))
+        (expected : (z : Part) → Given z → IsExpected z.kept i)
+        (same_write : (u : Running) → IsExpected x.acceptor.kept i → IsThis u x → write ≡ (effect_of app x.members x.number x.acceptor.kept u i).write)
+        (law : is_kept r → stands r x.acceptor.kept (written write x.acceptor.kept)) where
+      -- one of the two records
+      abbrev left_by : Bool → Record
+      left_by left = written (if left then write else Nothing) x.acceptor.kept
+
+      same_effect : (z : Part) → z.kept ≡ x.acceptor.kept → (u : Running) → effect_of app n m z.kept u i ≡ effect_of app x.members x.number x.acceptor.kept u i
+      same_effect z z_is u = rw (sym place.0) (rw (sym place.1) (rw z_is refl))
+
+      -- what may be left is left by a stop
+      left_in : (left : Bool) (c : Record) → c ≡ left_by left → (z : Part) → z.kept ≡ x.acceptor.kept → (u : Running) → IsExpected x.acceptor.kept i → IsThis u x
+          → IsPart new c (part_after z (stops_in left (effect_of app n m z.kept u i)))
+      left_in true c q z z_is u due this = part_left c (part_after z (stops_in true (effect_of app n m z.kept u i)))
+          (ap₂ written (ap (λ (e : Effect). e.write) (same_effect z z_is u) ∙ sym (same_write u due this)) z_is ∙ sym q) refl
+      left_in false c q z z_is u due this = part_left c (part_after z (stops_in false (effect_of app n m z.kept u i))) (z_is ∙ sym q) refl
+
+      -- which of the two it is
+      which : (c : Record) → (c ≡ x.acceptor.kept) ⊎ (c ≡ written write x.acceptor.kept) → (left : Bool) × (c ≡ left_by left)
+      which c (inl e) = (false, e)
+      which c (inr e) = (true, e)
+
+      -- in a step that writes
+      pub fails_in_step : writes write ≡ true → Moves stands is_kept Given (MayStep app n m i) old new [] []
+      fails_in_step w = record {
+        kept = kept_before;
+        changes = λ k a b s. (
+          x.acceptor.kept,
+          written write x.acceptor.kept,
+          stands_left x.acceptor.kept (written write x.acceptor.kept) (law (k.stopped r empty left)),
+          λ c q. (
+            x.acceptor.kept,
+            inl (sym (s.running x there).0),
+            λ z given p.
+                let u = p.running x there in
+                let l = which c q in
+                failed c z p.kept_is u.0 u.1 (subst (λ w. IsExpected w i) p.kept_is (expected z given)) u.2 l.0 l.1,
+          ),
+        );
+      }
+        where
+          failed : (c : Record) (z : Part) → z.kept ≡ x.acceptor.kept → (u : Running) → z.running ≡ Some u → IsExpected x.acceptor.kept i → IsThis u x → (left : Bool) → c ≡ left_by left
+              → (e : Effect) × MayStep app n m i z e × (e.sends ≡ []) × (e.tells ≡ []) × IsPart new c (part_after z e)
+          failed c z z_is u runs due this left q =
+              let choice : Choice = record { fails = Some left; applied = 0 } in
+              let effect = effect_of app n m z.kept u i in
+              let does : writes effect.write ≡ true = ap (λ (e : Effect). writes e.write) (same_effect z z_is u) ∙ ap writes (sym (same_write u due this)) ∙ w in
+              let stopped : settles n choice effect ≡ stops_in left effect = ap (λ t. applies n 0 (if t then stops_in left effect else effect)) does in (
+                settles n choice effect,
+                (u, runs, choice, refl),
+                ap (λ (e : Effect). e.sends) stopped,
+                ap (λ (e : Effect). e.tells) stopped,
+                subst (λ (e : Effect). IsPart new c (part_after z e)) (sym stopped) (left_in left c q z z_is u due this),
+              )
+
+      -- in a stop that was to keep its write
+      pub fails_in_stop : Moves stands is_kept Given (MayStopIn app n m i true) old new [] []
+      fails_in_stop = record {
+        kept = kept_before;
+        changes = λ k a b s. (
+          x.acceptor.kept,
+          written write x.acceptor.kept,
+          stands_left x.acceptor.kept (written write x.acceptor.kept) (law (k.stopped r empty left)),
+          λ c q. (
+            x.acceptor.kept,
+            inl (sym (s.running x there).0),
+            λ z given p.
+                let u = p.running x there in
+                let l = which c q in
+                (stops_in l.0 (effect_of app n m z.kept u.0 i), (u.0, u.1, Some l.0, refl), refl, refl, left_in l.0 c l.1 z p.kept_is u.0 (subst (λ w. IsExpected w i) p.kept_is (expected z given)) u.2),
+          ),
+        );
+      }
+
+  -- a member that starts from the records that were left
+  module _ (x : Member R) (r : R) (empty : old.member ≡ None) (left : old.records ≡ Some r) (here : new.member ≡ Some x) (kept : is_kept x.acceptor.records → is_kept r) where
+    -- the records were kept if they are
+    kept_then : IsKeptAt is_kept new → IsKeptAt is_kept old
+    kept_then k = record {
+      running = λ z q. absurd (none-some z (sym empty ∙ q));
+      stopped = λ s h q. subst is_kept (same_Some r s (sym left ∙ q)) (kept (k.running x here));
+    }
+
+    -- it starts
+    pub starts : (n : ℕ) → x.members ≡ n → ((z : Part) → Given z → IsRecord n z.kept) → (IsRecord x.members x.acceptor.kept → IsThis started x)
+        → (is_kept x.acceptor.records → (a b : Record) → stands r a b → (x.acceptor.kept ≡ a) ⊎ (x.acceptor.kept ≡ b))
+        → Moves stands is_kept Given MayStart old new [] []
+    starts n place fits is_started loaded = record {
+      kept = kept_then;
+      changes = λ k a b s.
+          let t = s.stopped empty in
+          let own : (x.acceptor.kept ≡ a) ⊎ (x.acceptor.kept ≡ b) = loaded (k.running x here) a b (subst (λ v. stands v a b) (same_Some t.0 r (sym t.1 ∙ left)) t.2) in (
+            x.acceptor.kept,
+            x.acceptor.kept,
+            now,
+            λ c q. (
+              x.acceptor.kept,
+              own,
+              λ z given p.
+                  let c_is : c ≡ x.acceptor.kept = ⊎_elim (λ (e : c ≡ x.acceptor.kept). e) (λ (e : c ≡ x.acceptor.kept). e) q in (
+                    quiet started,
+                    (p.stopped empty, inl refl),
+                    refl,
+                    refl,
+                    record {
+                      kept_is = p.kept_is ∙ sym c_is;
+                      running = λ v h. let e = same_Some x v (sym here ∙ h) in (
+                        started,
+                        refl,
+                        subst (IsThis {R = R} started) e
+                            (is_started (subst (λ w. IsRecord w x.acceptor.kept) (sym place) (subst (IsRecord n) p.kept_is (fits z given)))),
+                        c_is ∙ ap (λ (w : Member R). w.acceptor.kept) e,
+                      );
+                      stopped = λ h. absurd (none-some x (sym h ∙ here));
+                    },
+                  ),
+            ),
+          );
+    }
+      where
+        now : Stands stands new x.acceptor.kept x.acceptor.kept
+        now = record {
+          running = λ z q. let e = same_Some x z (sym here ∙ q) in (ap (λ (v : Member R). v.acceptor.kept) e, ap (λ (v : Member R). v.acceptor.kept) e);
+          stopped = λ q. absurd (none-some x (sym q ∙ here));
+        }
+
+  -- a stopped member whose records are lent to a store that fails, or that finds no memory
+  module _ (r s : R) (empty : old.member ≡ None) (left : old.records ≡ Some r) (still : new.member ≡ None) (back : new.records ≡ Some s) (kept : is_kept s → is_kept r)
+      (crash : is_kept s → (a b : Record) → stands r a b → stands s a b) where
+    -- a move in which nothing changes
+    idle : (May : Part → Effect → Type 0) → ((z : Part) → z.running ≡ None → May z (record { write = Nothing; running = z.running; sends = []; tells = [] }))
+        → Moves stands is_kept Given May old new [] []
+    idle May may = record {
+      kept = λ k. record {
+        running = λ z q. absurd (none-some z (sym empty ∙ q));
+        stopped = λ v h q. subst is_kept (same_Some r v (sym left ∙ q)) (kept (k.stopped s still back));
+      };
+      changes = λ k a b p.
+          let t = p.stopped empty in (
+            a,
+            b,
+            record {
+              running = λ z q. absurd (none-some z (sym still ∙ q));
+              stopped = λ h. (s, back, crash (k.stopped s still back) a b (subst (λ v. stands v a b) (same_Some t.0 r (sym t.1 ∙ left)) t.2));
+            },
+            λ c q. (
+              c,
+              q,
+              λ z given d. (
+                record { write = Nothing; running = z.running; sends = []; tells = [] },
+                may z (d.stopped empty),
+                refl,
+                refl,
+                record {
+                  kept_is = d.kept_is;
+                  running = λ v h. absurd (none-some v (sym still ∙ h));
+                  stopped = λ h. d.stopped empty;
+                },
+              ),
+            ),
+          );
+    }
+
+    -- no memory was found
+    pub idle_stays : Moves stands is_kept Given MayStay old new [] []
+    idle_stays = idle MayStay (λ z h. refl)
+
+    -- the store failed to give the record
+    pub idle_starts : Moves stands is_kept Given MayStart old new [] []
+    idle_starts = idle MayStart (λ z h. (h, inr refl))
+
+-- Where nobody sits nothing is shown.
+pub nobody : {R : Type 0} (stands : R → Record → Record → Type 0) (is_kept : R → Type 0) (Given : Part → Type 0) (May : Part → Effect → Type 0) (old new : Seat R)
+    → old.member ≡ None → old.records ≡ None → Moves stands is_kept Given May old new [] []
+nobody stands is_kept Given May old new empty none = record {
+  kept = λ k. record { running = λ z q. absurd (none-some z (sym empty ∙ q)); stopped = λ r h q. absurd (none-some r (sym none ∙ q)) };
+  changes = λ k a b s. let t = s.stopped empty in absurd (none-some t.0 (sym none ∙ t.1));
+}
+
+-- A seat at which nothing happens.
+pub same_seat : {R : Type 0} (stands : R → Record → Record → Type 0) (is_kept : R → Type 0) (Given : Part → Type 0) (old : Seat R) → Moves stands is_kept Given MayStay old old [] []
+same_seat stands is_kept Given old = record {
+  kept = λ k. k;
+  changes = λ k a b s. (a, b, s, λ c q. (c, q, λ z given p. (record { write = Nothing; running = z.running; sends = []; tells = [] }, refl, refl, refl, p)));
+}
+
+-- what a member drafted is planned at its seat
+pub planned : {R : Type 0} (y : Member R) (d : Draft) (i j : Input) (s : Seat R) → s.member ≡ Some y → i ≡ j
+    → IsDrafted i y d × IsReady y d × ((u : Running) → IsThis u y → IsSpent y u i → ⊥) → IsPlanned s j d
+planned {R} y d i j s there q h = subst (λ k. IsPlanned {R = R} s k d) q (record { member = y; there = there; drafted = h.0; ready = h.1; due = h.2 })
+
+-- what it skips is skipped there
+pub skipped : {R : Type 0} (y : Member R) (i j : Input) (s : Seat R) → s.member ≡ Some y → i ≡ j
+    → (IsHeard y.members i → ⊥) ⊎ ((u : Running) → IsThis u y → IsSpent y u i) → Skips s j
+skipped {R} y i j s there q h = λ x here. subst (λ (z : Member R). (IsHeard z.members j → ⊥) ⊎ ((u : Running) → IsThis u z → IsSpent z u j)) (same_Some y x (sym there ∙ here))
+    (subst (λ k. (IsHeard y.members k → ⊥) ⊎ ((u : Running) → IsThis u y → IsSpent y u k)) q h)

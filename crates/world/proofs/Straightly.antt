@@ -1,0 +1,132 @@
+-- The events of a straight run, one by one, and what it has come to.
+use Rattle.std.proofs.Common.{◌≡◌, ℕ, zero, suc, ◌+◌, ◌-◌, ◌*◌, ◌<◌, ◌≤◌, arith, refl, sym, subst, ap, ◌∙◌, inl, ⊎_elim, Some, List, [], ◌∷◌, ◌++◌, length, length-append, slice_get, take, append-nil, Bool, true, false, ◌&&◌, is_some, IsSome}
+use Rattle.std.specs.List.{list_all}
+use Rattle.std.proofs.lemmas.Bool.{false≢true, cases_lt, cases_eq, le-leb, lt-leb, eq-eqb, ne_eqb}
+use Rattle.std.proofs.lemmas.Option.{none-some, same_Some}
+use Rattle.ballots.specs.Terms.{Request}
+use Rattle.member.specs.Steps.{KnowsNothing}
+use Rattle.paxos.specs.Application.{Application}
+use Rattle.paxos.specs.Examples.{deliveries}
+use Rattle.paxos.specs.Lists.{at}
+use Rattle.paxos.specs.Records.{Record}
+use Rattle.paxos.specs.Step.{Running}
+use Rattle.paxos.specs.World.{Member as Part, Event as Happens, Deliver, Submits}
+use Rattle.straight_runs.specs.Straight.{opening}
+use Rattle.straight_runs.proofs.Ends.{all_sent, applied, told}
+use Rattle.straight_runs.proofs.Lists.{at-left, at-right}
+use Rattle.world.specs.Reached.{ReachedSmoothly}
+use Rattle.world.specs.Runs.{AllRun, HasDone, IsStraight, LeadsTo, StopsAt, straight_event, straight_run}
+use Rattle.world.specs.Shown.{World}
+use Rattle.world.specs.declared.fault.WorldFault.{WorldFault}
+use Rattle.world.specs.declared.fault.WorldFault.TheVariants as fault
+use Rattle.world.specs.declared.seat.Seat.{Seat}
+use Rattle.world.proofs.Leading.{leads_join}
+use Rattle.world.proofs.Lifting.{some_at}
+
+-- a list with an element more
+take_more : {A : Type 0} (xs : List A) (i : ℕ) (x : A) → slice_get xs i ≡ Some x → take (suc i) xs ≡ take i xs ++ x ∷ []
+take_more [] i x h = absurd (none-some x h)
+take_more (y ∷ xs) zero x h = ap (λ z. z ∷ []) (same_Some y x h)
+take_more (y ∷ xs) (suc i) x h = ap (λ zs. y ∷ zs) (take_more xs i x h)
+
+pub take_step : {A : Type 0} (xs : List A) (i : ℕ) (x : A) → slice_get xs i ≡ Some x → take (i + 1) xs ≡ take i xs ++ x ∷ []
+take_step xs i x h = let e : suc i ≡ i + 1 = omega arith in subst (λ k. take k xs ≡ take i xs ++ x ∷ []) e (take_more xs i x h)
+
+-- the i-th of so many deliveries
+deliveries_at : (from many i : ℕ) → i < many → slice_get (deliveries from many) i ≡ Some (Deliver (from + i))
+deliveries_at from zero i h = absurd (omega arith)
+deliveries_at from (suc k) zero h = ap (λ j. Some (Deliver j)) (omega arith)
+deliveries_at from (suc k) (suc i) h = deliveries_at (suc from) k i (omega arith) ∙ ap (λ j. Some (Deliver j)) (omega arith)
+
+length_deliveries : (from many : ℕ) → length (deliveries from many) ≡ many
+length_deliveries from zero = refl
+length_deliveries from (suc k) = ap suc (length_deliveries (suc from) k)
+
+module _ (n m : ℕ) (q : Request) where
+  length_opening : length (opening m (2 * n)) ≡ 2 * n + 1
+  length_opening = ap suc (length_deliveries 1 (2 * n)) ∙ omega arith
+
+  pub length_straight : length (straight_run n m q) ≡ n * n + 3 * n + 3
+  length_straight = length-append (opening m (2 * n)) (Submits m q ∷ deliveries (2 * n + 1) (n * n + n + 1))
+      ∙ omega (arith, length_opening, length_deliveries (2 * n + 1) (n * n + n + 1))
+
+  -- the event before which there are so many
+  pub straight_at : (i : ℕ) → i < n * n + 3 * n + 3 → slice_get (straight_run n m q) i ≡ Some (straight_event n m q i)
+  straight_at zero h = refl
+  straight_at (suc j) h = ⊎_elim in_closing in_opening (cases_lt (2 * n) (suc j))
+    where
+      rest : List Happens
+      rest = Submits m q ∷ deliveries (2 * n + 1) (n * n + n + 1)
+
+      in_opening : suc j ≤ 2 * n → slice_get (straight_run n m q) (suc j) ≡ Some (straight_event n m q (suc j))
+      in_opening l = rw (ne_eqb (suc j) 0 (λ e. omega (arith, e)), le-leb (suc j) (2 * n) l) (at-left (opening m (2 * n)) rest (suc (suc j)) (Deliver (suc j)) (deliveries_at 1 (2 * n) j (omega arith) ∙ ap (λ k. Some (Deliver k)) (omega arith)))
+
+      submitted : suc j ≡ 2 * n + 1 → 2 * n < suc j → slice_get (straight_run n m q) (suc j) ≡ Some (straight_event n m q (suc j))
+      submitted e g = rw (ne_eqb (suc j) 0 (λ z. omega (arith, z)), lt-leb (suc j) (2 * n) g, eq-eqb (suc j) (2 * n + 1) e) (at-right (opening m (2 * n)) rest (2 * n + 1) (suc (suc j)) 1 (Submits m q) length_opening (omega (arith, e)) refl)
+
+      delivered : (suc j ≡ 2 * n + 1 → ⊥) → 2 * n < suc j → slice_get (straight_run n m q) (suc j) ≡ Some (straight_event n m q (suc j))
+      delivered d g = rw (ne_eqb (suc j) 0 (λ z. omega (arith, z)), lt-leb (suc j) (2 * n) g, ne_eqb (suc j) (2 * n + 1) d)
+          (at-right (opening m (2 * n)) rest (2 * n + 1) (suc (suc j)) (suc (suc (j - (2 * n + 1)))) (Deliver (suc j - 1)) length_opening (omega (arith, d))
+          (deliveries_at (2 * n + 1) (n * n + n + 1) (j - (2 * n + 1)) (omega (arith, d)) ∙ ap (λ k. Some (Deliver k)) (omega (arith, d))))
+
+      in_closing : 2 * n < suc j → slice_get (straight_run n m q) (suc j) ≡ Some (straight_event n m q (suc j))
+      in_closing g = ⊎_elim (λ (e : suc j ≡ 2 * n + 1). submitted e g) (λ (d : suc j ≡ 2 * n + 1 → ⊥). delivered d g) (cases_eq (suc j) (2 * n + 1))
+
+both_true : (a b : Bool) → (a && b) ≡ true → (a ≡ true) × (b ≡ true)
+both_true true b e = (refl, e)
+both_true false b e = absurd (false≢true e)
+
+-- members run at all seats where each was found to
+pub all_found : {R : Type 0} (w : World R) → list_all (λ (s : Seat R). is_some s.member) w.seats ≡ true → AllRun w
+all_found {R} w = found w.seats
+  where
+    found : (seats : List (Seat R)) → list_all (λ (s : Seat R). is_some s.member) seats ≡ true → (m : ℕ) (s : Seat R) → at seats m ≡ Some s → IsSome s.member
+    found seats h zero s e = absurd (none-some s e)
+    found [] h (suc i) s e = absurd (none-some s e)
+    found (t ∷ seats) h (suc zero) s e = subst (λ (r : Seat R). IsSome r.member) (same_Some t s e) (both_true (is_some t.member) (list_all (λ (r : Seat R). is_some r.member) seats) h).0
+    found (t ∷ seats) h (suc (suc i)) s e = found seats (both_true (is_some t.member) (list_all (λ (r : Seat R). is_some r.member) seats) h).1 (suc i) s e
+
+module _ {R : Type 0} (stands : R → Record → Record → Type 0) (is_kept : R → Type 0) where
+  -- What happened before, and an event that a fault stops, are some of the events.
+  pub stopped_at : (old mid new : World R) (events : List Happens) (i : ℕ) (e : Happens) (fault : WorldFault) → i < length events → slice_get events i ≡ Some e
+      → LeadsTo stands is_kept old mid (take i events) → StopsAt stands is_kept mid new e i fault → HasDone stands is_kept old new events fault
+  stopped_at old mid new events i e (fault.Memory done) l h was s = (
+    omega (arith, s.0),
+    subst (λ k. LeadsTo stands is_kept old new (take k events)) (sym s.0) (subst (LeadsTo stands is_kept old new) (append-nil (take i events)) (leads_join stands is_kept old mid new (take i events) [] was s.1)),
+  )
+  stopped_at old mid new events i e fault.Member l h was s = absurd s
+  stopped_at old mid new events i e fault.Store l h was s =
+      (suc i, omega arith, subst (LeadsTo stands is_kept old new) (sym (take_more events i e h)) (leads_join stands is_kept old mid new (take i events) (e ∷ []) was s))
+
+  -- All events have happened, and then it stopped.
+  pub stopped_after : (old new : World R) (events : List Happens) (before done : ℕ) → before ≤ done → done ≤ before → done ≡ length events → LeadsTo stands is_kept old new (take before events)
+      → HasDone stands is_kept old new events (fault.Memory done)
+  stopped_after old new events before done least most all l = (omega (arith, all), subst (λ k. LeadsTo stands is_kept old new (take k events)) (omega (arith, least, most)) l)
+
+  -- What the straight run of a fresh world has come to.
+  pub ends_straight : (app : Application) → KnowsNothing app → (w : World R) (m : ℕ) (q : Request) → 1 ≤ m → m ≤ w.members → length w.seats ≡ w.members
+      → ReachedSmoothly stands app w (straight_run w.members m q) → IsStraight w q (w.members * w.members + 3 * w.members + 1)
+  ends_straight app nothing w m q least most size r =
+      let led = r.runs r.first (λ k. inl refl) in
+      record {
+        sent = ap length (sym led.2.sent) ∙ all_sent app w.members m q led.0 least most (nothing [] q.client q.number) led.1;
+        told = sym led.2.told ∙ told app w.members m q led.0 least most (nothing [] q.client q.number) led.1;
+        applied = λ k s x h e.
+            let y = some_at w.seats led.0.members k s led.2.size h in
+            let p = led.2.parts k s y.0 h y.1 in
+            let u = p.running x e in
+            let a = applied app w.members m q k led.0 least most (at_least w.seats k s h) (subst (λ j. k ≤ j) size (at_most w.seats k s h)) (nothing [] q.client q.number) led.1 in
+            let same_part : a.1.is ≡ y.0 = same_Some a.1.is y.0 (sym a.1.there ∙ y.1) in
+            let same_running : a.0 ≡ u.0 = same_Some a.0 u.0 (sym a.1.running ∙ ap (λ (z : Part). z.running) same_part ∙ u.1) in
+            (u.0, u.2, sym (ap (λ (v : Running). v.applied) same_running) ∙ a.2);
+      }
+    where
+      at_least : {A : Type 0} (xs : List A) (k : ℕ) (x : A) → at xs k ≡ Some x → 1 ≤ k
+      at_least xs zero x h = absurd (none-some x h)
+      at_least xs (suc i) x h = omega arith
+
+      at_most : {A : Type 0} (xs : List A) (k : ℕ) (x : A) → at xs k ≡ Some x → k ≤ length xs
+      at_most xs zero x h = omega arith
+      at_most [] (suc i) x h = absurd (none-some x h)
+      at_most (y ∷ xs) (suc zero) x h = omega arith
+      at_most (y ∷ xs) (suc (suc i)) x h = omega (arith, at_most xs (suc i) x h)

@@ -1,0 +1,39 @@
+use Rattle.std.proofs.Common.{[], ◌∷◌, arith, inr, sym, subst, ap, ◌∙◌, length, length-append}
+use Rattle.paxos.specs.Lists.{Has}
+use Rattle.world.specs.Placed.{ArePlaced, IsPlaced}
+use Rattle.world.specs.declared.seat.Seat.{Seat}
+use Rattle.world.proofs.Begun.{placed_none, placed_more}
+use Rattle.world.proofs.running.place_all.Goals as goal
+
+pub overflow_add-number : goal.overflow_add-number
+overflow_add-number g c =
+    let i = c.loop-records.invariant in
+    omega (arith, i.3, i.4, ap (length {A = g.row.R.Denot}) c.in-Some.ensures.steps.0, c.requires.few, c.requires.most)
+
+pub loop-records-init : goal.loop-records-init
+loop-records-init g c =
+    let none = c.reserve.ensures.items ∙ c.new-seats.ensures.items in
+    let all = c.into_iter-records-iterator.ensures.into_iter_gives.0 in (
+      tt,
+      tt,
+      subst (ArePlaced {R = g.row.R.Denot} g.R.Records.is_kept c.args.members) (sym none) (placed_none {R = g.row.R.Denot} g.R.Records.is_kept c.args.members),
+      sym (ap (length {A = Seat g.row.R.Denot}) none),
+      omega (arith, ap (length {A = Seat g.row.R.Denot}) none, ap (length {A = g.row.R.Denot}) all),
+      omega (arith, c.in-Ok.ensures.ok, c.reserve.ensures.len, ap (length {A = g.row.R.Denot}) all, c.len.ensures),
+      λ r h. c.requires.unwritten r (subst (λ rs. Has rs r) all h),
+    )
+
+pub loop-records-preserved : goal.loop-records-preserved
+loop-records-preserved g c =
+    let i = c.loop-records.invariant in
+    let left = c.in-Some.ensures.steps.0 in
+    let grown = ap (length {A = Seat g.row.R.Denot}) c.push_reserved.ensures.items ∙ length-append c.loop-records.seats.items (c.in_ok-place.field-0 ∷ []) in
+    let one = subst (λ k. IsPlaced {R = g.row.R.Denot} g.R.Records.is_kept c.args.members k c.in_ok-place.field-0) (omega (arith, i.3)) c.in_ok-place.ensures in (
+      tt,
+      tt,
+      subst (ArePlaced {R = g.row.R.Denot} g.R.Records.is_kept c.args.members) (sym c.push_reserved.ensures.items) (placed_more {R = g.row.R.Denot} g.R.Records.is_kept c.args.members c.loop-records.seats.items c.in_ok-place.field-0 i.2 one),
+      omega (arith, i.3, grown),
+      omega (arith, i.4, grown, ap (length {A = g.row.R.Denot}) left),
+      omega (arith, i.5, c.push_reserved.ensures.len, c.push_reserved.ensures.capacity, ap (length {A = g.row.R.Denot}) left),
+      λ r h. i.6 r (subst (λ rs. Has rs r) (sym left) (inr h)),
+    )

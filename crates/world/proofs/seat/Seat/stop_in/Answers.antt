@@ -1,0 +1,41 @@
+use Rattle.std.proofs.Common.{Err, Some, refl, sym, ap, ◌∙◌}
+use Rattle.std.specs.Option.{option_copied_mut}
+use Rattle.acceptor.specs.Steps.{Acceptor}
+use Rattle.member.specs.Drafts.{write_in}
+use Rattle.world.specs.Seats.{IsAny, MayHear}
+use Rattle.world.proofs.Settling.{stays, stops_in_write, fails_in_stop}
+use Rattle.world.proofs.seat.Seat.stop_in.Goals as goal
+
+pub returns-in-Ok-clause-moved : goal.returns-in-Ok-clause-moved
+returns-in-Ok-clause-moved g c = λ app n m i nothing seat drafted.
+    let x = c.in-Some.member.now in
+    let y = c.cut.new.self in
+    let there = sym c.as_mut.ensures.value ∙ ap option_copied_mut c.in-Some.is in
+    let place = seat x there in
+    let left = c.empty.ensures.left y refl in
+    stops_in_write {R = g.row.R.Denot} g.R.Records.stands g.R.Records.is_kept (MayHear i) c.args.self.now c.empty.new.self x y.acceptor.records
+    there left.0 left.1 c.cut.ensures.kept app n m i y.acceptor.kept (place.0, place.1) (λ z k. k)
+    (λ u due this. (c.in-Ok.ensures.wrote app i u nothing (drafted x there) due this).0)
+    (c.empty.ensures.stands y refl (c.in-Ok.ensures.runs place.2))
+
+pub returns-in-Err-Memory-clause-refused : goal.returns-in-Err-Memory-clause-refused
+returns-in-Err-Memory-clause-refused g c =
+    let x = c.in-Some.member.now in
+    let y = c.cut.new.self in
+    let there = sym c.as_mut.ensures.value ∙ ap option_copied_mut c.in-Some.is in
+    let memory = c.in-Err-Memory.ensures.memory (ap Err c.in-Err-Memory.field-0-is) in
+    stays {R = g.row.R.Denot} g.R.Records.stands g.R.Records.is_kept IsAny c.args.self.now (record { member = Some y; records = c.args.self.now.records }) x y
+    there refl c.cut.ensures.kept (ap (λ (a : Acceptor g.row.R.Denot). a.kept) memory.0.kept) memory.1
+
+pub returns-in-Err-Store-clause-moved : goal.returns-in-Err-Store-clause-moved
+returns-in-Err-Store-clause-moved g c = λ app n m i nothing seat drafted.
+    let x = c.in-Some.member.now in
+    let y = c.cut.new.self in
+    let there = sym c.as_mut.ensures.value ∙ ap option_copied_mut c.in-Some.is in
+    let place = seat x there in
+    let left = c.empty-in-Err-Store.ensures.left y refl in
+    let stopped = c.in-Err-Store.ensures.stops (ap Err c.in-Err-Store.field-0-is) in
+    fails_in_stop {R = g.row.R.Denot} g.R.Records.stands g.R.Records.is_kept (MayHear i) c.args.self.now c.empty-in-Err-Store.new.self x y.acceptor.records
+    there left.0 left.1 c.cut.ensures.kept app n m i (write_in c.args.draft.change) (place.0, place.1) (λ z k. k)
+    (λ u due this. sym ((drafted x there).plans app u nothing due this).write)
+    (stopped.crash place.2)

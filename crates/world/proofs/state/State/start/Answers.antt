@@ -1,0 +1,58 @@
+use Rattle.std.proofs.Common.{◌≤◌, ◌-◌, IsSome, refl, sym, subst, ap, ◌∙◌}
+use Rattle.std.specs.Vec.{with_item}
+use Rattle.std.proofs.lemmas.Option.{same_Some}
+use Rattle.paxos.proofs.WellFormed.{Sound}
+use Rattle.world.specs.Held.{shown}
+use Rattle.world.specs.Reached.{Follows, Steps}
+use Rattle.world.specs.Seats.{IsFit, MayStart}
+use Rattle.world.specs.declared.seat.Seat.{Seat}
+use Rattle.world.proofs.Given.{err_so, ok_so}
+use Rattle.world.proofs.Placing.{fit_after, read_there, held_after, same_seats, silent_after, stays_after}
+use Rattle.world.proofs.state.State.start.Goals as goal
+
+pub returns-clause-held : goal.returns-clause-held
+returns-clause-held g c =
+    let self = c.args.self.now in
+    let number = c.args.number in
+    let held = c.requires.held in
+    let seat = c.index_mut.result.now in
+    let there = read_there self.seats.items number seat c.requires.least (subst (λ n. number ≤ n) (sym held.size) c.requires.most) c.index_mut.ensures.value in
+    held_after {R = g.row.R.Denot} g.R.Records.stands g.R.Records.is_kept self (record { members = self.members; seats = with_item self.seats (number - 1) c.start.new.self; mail = self.mail; told = self.told }) number seat c.start.new.self
+    held c.requires.least there refl refl c.start.ensures.seat held.whole
+
+pub returns-clause-started : goal.returns-clause-started
+returns-clause-started g c =
+    let self = c.args.self.now in
+    let number = c.args.number in
+    let held = c.requires.held in
+    let seat = c.index_mut.result.now in
+    let there = read_there self.seats.items number seat c.requires.least (subst (λ n. number ≤ n) (sym held.size) c.requires.most) c.index_mut.ensures.value in
+    ok_so c.start.result _ _ (λ moved s at_s none.
+    let same = same_Some seat s (sym there ∙ at_s) in
+    subst (λ (x : Seat g.row.R.Denot). Follows {R = g.row.R.Denot} g.R.Records.stands g.R.Records.is_kept (Sound self.members) (Steps (shown self) x number MayStart) (shown self) (shown (record { members = self.members; seats = with_item self.seats (number - 1) c.start.new.self; mail = self.mail; told = self.told }))) same
+    (silent_after {R = g.row.R.Denot} g.R.Records.stands g.R.Records.is_kept self (record { members = self.members; seats = with_item self.seats (number - 1) c.start.new.self; mail = self.mail; told = self.told }) number seat c.start.new.self
+    held c.requires.least there refl refl (IsFit self.members) MayStart
+    (fit_after {R = g.row.R.Denot} g.R.Records.stands g.R.Records.is_kept self (record { members = self.members; seats = with_item self.seats (number - 1) c.start.new.self; mail = self.mail; told = self.told }) number seat c.start.new.self
+    held c.requires.least there refl refl) refl refl
+    (moved (ap (λ (x : Seat g.row.R.Denot). x.member) same ∙ none)))) c.start.ensures.moved
+
+pub returns-clause-runs : goal.returns-clause-runs
+returns-clause-runs g c = λ s at_s some.
+    let self = c.args.self.now in
+    let number = c.args.number in
+    let held = c.requires.held in
+    let seat = c.index_mut.result.now in
+    let there = read_there self.seats.items number seat c.requires.least (subst (λ n. number ≤ n) (sym held.size) c.requires.most) c.index_mut.ensures.value in
+    let same = same_Some seat s (sym there ∙ at_s) in
+    same_seats {R = g.row.R.Denot} self (record { members = self.members; seats = with_item self.seats (number - 1) c.start.new.self; mail = self.mail; told = self.told }) number seat c.start.new.self c.requires.least there refl refl refl refl
+    (c.start.ensures.runs (subst (λ (x : Seat g.row.R.Denot). IsSome x.member) (sym same) some))
+
+pub returns-clause-refused : goal.returns-clause-refused
+returns-clause-refused g c =
+    let self = c.args.self.now in
+    let number = c.args.number in
+    let held = c.requires.held in
+    let seat = c.index_mut.result.now in
+    let there = read_there self.seats.items number seat c.requires.least (subst (λ n. number ≤ n) (sym held.size) c.requires.most) c.index_mut.ensures.value in
+    err_so c.start.result _ _ (λ moved. stays_after {R = g.row.R.Denot} g.R.Records.stands g.R.Records.is_kept self (record { members = self.members; seats = with_item self.seats (number - 1) c.start.new.self; mail = self.mail; told = self.told }) number seat c.start.new.self
+    held c.requires.least there refl refl refl refl moved) c.start.ensures.refused

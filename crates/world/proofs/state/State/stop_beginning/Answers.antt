@@ -1,0 +1,45 @@
+use Rattle.std.proofs.Common.{◌≤◌, true, IfSome, Option, sym, subst, ◌∙◌}
+use Rattle.member.specs.Steps.{Begins}
+use Rattle.member.specs.declared.draft.Draft.{Draft}
+use Rattle.paxos.specs.World.{StopInBegin}
+use Rattle.paxos.proofs.WellFormed.{Sound}
+use Rattle.world.specs.Held.{shown}
+use Rattle.world.specs.Reached.{Follows, Happened, Stays, Steps}
+use Rattle.world.specs.Seats.{IsPlannedAt, MayStopIn}
+use Rattle.world.proofs.Given.{err_so, ok_so}
+use Rattle.world.proofs.Happening.{stops_in_begin}
+use Rattle.world.proofs.Lifting.{joined, so}
+use Rattle.world.proofs.Placing.{seat_there}
+use Rattle.world.proofs.Stopping.{begin_stop_happens}
+use Rattle.world.proofs.state.State.stop_beginning.Goals as goal
+
+pub returns-in_default-clause-happened : goal.returns-in_default-clause-happened
+returns-in_default-clause-happened g c = λ app nothing.
+    let self = c.args.self.now in
+    let mid = c.tick.new.self in
+    let end = c.stop.new.self in
+    let number = c.args.number in
+    let s = seat_there mid number c.tick.ensures.held c.requires.least (subst (λ n. number ≤ n) (sym c.tick.ensures.same.0) c.requires.most) in
+    joined {R = g.row.R.Denot} {stands = g.R.Records.stands} {is_kept = g.R.Records.is_kept} {MayBe = Sound self.members} (Happened app (StopInBegin c.args.number true)) (shown self) (shown mid) (shown end) c.tick.ensures.stays
+    (subst (λ n. Follows {R = g.row.R.Denot} g.R.Records.stands g.R.Records.is_kept (Sound n) (Happened app (StopInBegin c.args.number true)) (shown mid) (shown end)) c.tick.ensures.same.0
+    (begin_stop_happens {R = g.row.R.Denot} g.R.Records.stands g.R.Records.is_kept app mid end number s.0 s.1 c.tick.ensures.held (c.stop.ensures.stopped s.0 s.1) (c.stop.ensures.none s.0 s.1) true))
+
+pub returns-clause-happened : goal.returns-clause-happened
+returns-clause-happened g c =
+    let self = c.args.self.now in
+    let mid = c.tick.new.self in
+    let end = c.stop_in.new.self in
+    let number = c.args.number in
+    let planned = subst (λ (o : Option Draft). IfSome o (λ x. IsPlannedAt {R = g.row.R.Denot} mid.seats.items number (Begins) x)) c.in-Some.is c.in_ok-draft.ensures.planned in
+    ok_so c.stop_in.result _ _ (λ stopped app nothing.
+    joined {R = g.row.R.Denot} {stands = g.R.Records.stands} {is_kept = g.R.Records.is_kept} {MayBe = Sound self.members} (Happened app (StopInBegin c.args.number true)) (shown self) (shown mid) (shown end) c.tick.ensures.stays
+    (so (Steps (shown mid) planned.0 number (MayStopIn app self.members number (Begins) true)) (Happened app (StopInBegin c.args.number true)) (shown mid) (shown end)
+    (λ v z sound step. stops_in_begin app self.members (shown mid) planned.0 number (c.tick.ensures.held.size ∙ c.tick.ensures.same.0) true v z step)
+    (subst (λ n. Follows {R = g.row.R.Denot} g.R.Records.stands g.R.Records.is_kept (Sound n) (Steps (shown mid) planned.0 number (MayStopIn app n number (Begins) true)) (shown mid) (shown end)) c.tick.ensures.same.0
+    (stopped app (Begins) planned.0 nothing planned.1 planned.2 tt)))) c.stop_in.ensures.stopped
+
+pub returns-clause-refused : goal.returns-clause-refused
+returns-clause-refused g c =
+    let self = c.args.self.now in
+    err_so c.stop_in.result _ _ (λ stays. joined {R = g.row.R.Denot} {stands = g.R.Records.stands} {is_kept = g.R.Records.is_kept} {MayBe = Sound self.members} Stays (shown self) (shown c.tick.new.self) (shown c.stop_in.new.self) c.tick.ensures.stays
+    (subst (λ n. Follows {R = g.row.R.Denot} g.R.Records.stands g.R.Records.is_kept (Sound n) Stays (shown c.tick.new.self) (shown c.stop_in.new.self)) c.tick.ensures.same.0 stays)) c.stop_in.ensures.refused

@@ -1,0 +1,69 @@
+use Rattle.std.proofs.Common.{true, ◌≤◌, ◌-◌, refl, sym, subst, ◌∙◌}
+use Rattle.std.specs.Vec.{with_item}
+use Rattle.std.proofs.lemmas.Option.{same_Some}
+use Rattle.member.specs.Drafts.{IsDrafted}
+use Rattle.member.specs.Steps.{Member}
+use Rattle.paxos.proofs.WellFormed.{Sound}
+use Rattle.world.specs.Held.{shown}
+use Rattle.world.specs.Reached.{Follows, Steps}
+use Rattle.world.specs.Seats.{IsPlanned, MayHear, MayStopIn}
+use Rattle.world.specs.declared.seat.Seat.{Seat}
+use Rattle.world.proofs.Given.{err_so, ok_so}
+use Rattle.world.proofs.Placing.{due_after, read_there, held_after, silent_after, stays_after}
+use Rattle.world.proofs.state.State.stop_in.Goals as goal
+
+pub stop_in-requires-clause-there : goal.stop_in-requires-clause-there
+stop_in-requires-clause-there g c =
+    let self = c.args.self.now in
+    let number = c.args.number in
+    let held = c.requires.held in
+    let seat = c.index_mut.result.now in
+    let there = read_there self.seats.items number seat c.requires.least (subst (λ n. number ≤ n) (sym held.size) c.requires.most) c.index_mut.ensures.value in
+    (c.requires.ready seat there).there
+
+pub stop_in-requires-clause-ready : goal.stop_in-requires-clause-ready
+stop_in-requires-clause-ready g c =
+    let self = c.args.self.now in
+    let number = c.args.number in
+    let held = c.requires.held in
+    let seat = c.index_mut.result.now in
+    let there = read_there self.seats.items number seat c.requires.least (subst (λ n. number ≤ n) (sym held.size) c.requires.most) c.index_mut.ensures.value in
+    λ x q. ((c.requires.ready seat there).ready x q, (held.seats number seat there x q).2)
+
+pub returns-clause-held : goal.returns-clause-held
+returns-clause-held g c =
+    let self = c.args.self.now in
+    let number = c.args.number in
+    let held = c.requires.held in
+    let seat = c.index_mut.result.now in
+    let there = read_there self.seats.items number seat c.requires.least (subst (λ n. number ≤ n) (sym held.size) c.requires.most) c.index_mut.ensures.value in
+    held_after {R = g.row.R.Denot} g.R.Records.stands g.R.Records.is_kept self (record { members = self.members; seats = with_item self.seats (number - 1) c.stop_in.new.self; mail = self.mail; told = self.told }) number seat c.stop_in.new.self
+    held c.requires.least there refl refl (c.stop_in.ensures.seat self.members number) held.whole
+
+pub returns-clause-stopped : goal.returns-clause-stopped
+returns-clause-stopped g c =
+    let self = c.args.self.now in
+    let number = c.args.number in
+    let held = c.requires.held in
+    let seat = c.index_mut.result.now in
+    let there = read_there self.seats.items number seat c.requires.least (subst (λ n. number ≤ n) (sym held.size) c.requires.most) c.index_mut.ensures.value in
+    ok_so c.stop_in.result _ _ (λ moved app i s nothing at_s planned due.
+    let same = same_Some seat s (sym there ∙ at_s) in
+    let own = subst (λ (x : Seat g.row.R.Denot). IsPlanned {R = g.row.R.Denot} x i c.args.draft) (sym same) planned in
+    subst (λ (x : Seat g.row.R.Denot). Follows {R = g.row.R.Denot} g.R.Records.stands g.R.Records.is_kept (Sound self.members) (Steps (shown self) x number (MayStopIn app self.members number i true)) (shown self) (shown (record { members = self.members; seats = with_item self.seats (number - 1) c.stop_in.new.self; mail = self.mail; told = self.told }))) same
+    (silent_after {R = g.row.R.Denot} g.R.Records.stands g.R.Records.is_kept self (record { members = self.members; seats = with_item self.seats (number - 1) c.stop_in.new.self; mail = self.mail; told = self.told }) number seat c.stop_in.new.self
+    held c.requires.least there refl refl (MayHear i) (MayStopIn app self.members number i true)
+    (due_after {R = g.row.R.Denot} g.R.Records.stands g.R.Records.is_kept self (record { members = self.members; seats = with_item self.seats (number - 1) c.stop_in.new.self; mail = self.mail; told = self.told }) number seat c.stop_in.new.self
+    held c.requires.least there refl refl i due) refl refl
+    (moved app self.members number i nothing (held.seats number seat there)
+    (λ x q. subst (λ (z : Member g.row.R.Denot). IsDrafted {R = g.row.R.Denot} i z c.args.draft) (same_Some own.member x (sym own.there ∙ q)) own.drafted)))) c.stop_in.ensures.moved
+
+pub returns-clause-refused : goal.returns-clause-refused
+returns-clause-refused g c =
+    let self = c.args.self.now in
+    let number = c.args.number in
+    let held = c.requires.held in
+    let seat = c.index_mut.result.now in
+    let there = read_there self.seats.items number seat c.requires.least (subst (λ n. number ≤ n) (sym held.size) c.requires.most) c.index_mut.ensures.value in
+    err_so c.stop_in.result _ _ (λ moved. stays_after {R = g.row.R.Denot} g.R.Records.stands g.R.Records.is_kept self (record { members = self.members; seats = with_item self.seats (number - 1) c.stop_in.new.self; mail = self.mail; told = self.told }) number seat c.stop_in.new.self
+    held c.requires.least there refl refl refl refl moved) c.stop_in.ensures.refused

@@ -1,0 +1,10 @@
+use Rattle.world.proofs.Placing.{seat_there}
+use Rattle.world.proofs.Stopping.{begin_stop_happens}
+use Rattle.world.proofs.state.State.stop_in_begin.Goals as goal
+
+pub returns-clause-happened : goal.returns-clause-happened
+returns-clause-happened g c = λ app nothing.
+    let self = c.args.self.now in
+    let number = c.args.number in
+    let s = seat_there self number c.requires.held c.requires.least c.requires.most in
+    begin_stop_happens {R = g.row.R.Denot} g.R.Records.stands g.R.Records.is_kept app self c.stop.new.self number s.0 s.1 c.requires.held (c.stop.ensures.stopped s.0 s.1) (c.stop.ensures.none s.0 s.1) c.args.kept

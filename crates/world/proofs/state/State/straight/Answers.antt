@@ -1,0 +1,71 @@
+use Rattle.std.proofs.Common.{◌∷◌, ◌<◌, ◌≤◌, ◌∙◌, [], arith, sym, subst, take}
+use Rattle.std.proofs.lemmas.List.{take_all}
+use Rattle.std.proofs.lemmas.Result.{err_from_is_err_and}
+use Rattle.world.specs.Held.{shown}
+use Rattle.world.specs.Runs.{LeadsSmoothly, StopsAt, straight_event, straight_run}
+use Rattle.world.proofs.Leading.{smoothly_join, smoothly_none}
+use Rattle.world.proofs.Straightly.{length_straight, stopped_after, stopped_at, straight_at, take_step}
+use Rattle.world.proofs.state.State.straight.Goals as goal
+
+pub loop-before-init : goal.loop-before-init
+loop-before-init g c = (c.requires.held, smoothly_none {R = g.row.R.Denot} g.R.Records.stands g.R.Records.is_kept (shown c.args.self.now))
+
+pub go_straight-requires-clause-held : goal.go_straight-requires-clause-held
+go_straight-requires-clause-held g c = c.loop-before.invariant.0
+
+pub go_straight-requires-clause-most : goal.go_straight-requires-clause-most
+go_straight-requires-clause-most g c = subst (λ n. c.args.member ≤ n) (sym c.loop-before.invariant.1.leads.members) c.requires.most
+
+pub loop-before-preserved : goal.loop-before-preserved
+loop-before-preserved g c =
+    let i = c.loop-before.invariant in
+    let old = shown c.args.self.now in
+    let mid = shown c.loop-before.self in
+    let end = shown c.go_straight.new.self in
+    let m = c.args.member in
+    let q = c.args.request.now in
+    let before = c.loop-before.before in
+    let events = straight_run old.members m q in
+    let e = straight_event old.members m q before in (
+      c.go_straight.ensures.held,
+      subst (LeadsSmoothly {R = g.row.R.Denot} g.R.Records.stands g.R.Records.is_kept old end)
+          (sym (take_step events before e (straight_at old.members m q before (subst (λ k. before < k) c.straight_events-events.ensures c.loop-before-test.true))))
+          (smoothly_join {R = g.row.R.Denot} g.R.Records.stands g.R.Records.is_kept old mid end (take before events) (e ∷ []) i.1
+          (subst (λ n. LeadsSmoothly {R = g.row.R.Denot} g.R.Records.stands g.R.Records.is_kept mid end (straight_event n m q before ∷ [])) i.1.leads.members c.in_ok-go_straight.ensures.done)),
+    )
+
+pub returns-in_err-go_straight-clause-refused : goal.returns-in_err-go_straight-clause-refused
+returns-in_err-go_straight-clause-refused g c =
+    let i = c.loop-before.invariant in
+    let old = shown c.args.self.now in
+    let mid = shown c.loop-before.self in
+    let m = c.args.member in
+    let q = c.args.request.now in
+    let before = c.loop-before.before in
+    let end = shown c.go_straight.new.self in
+    let fault = c.in_err-go_straight.field-0.0 in
+    let least = subst (λ k. before < k) c.straight_events-events.ensures c.loop-before-test.true in
+    let p = err_from_is_err_and c.from_residual.result c.from_residual.ensures.1 in
+    rw (p.1, p.2) (stopped_at {R = g.row.R.Denot} g.R.Records.stands g.R.Records.is_kept old mid end (straight_run old.members m q) before (straight_event old.members m q before) fault
+    (subst (λ k. before < k) (sym (length_straight old.members m q)) least) (straight_at old.members m q before least) i.1.leads
+    (subst (λ n. StopsAt {R = g.row.R.Denot} g.R.Records.stands g.R.Records.is_kept mid end (straight_event n m q before) before fault) i.1.leads.members c.in_err-go_straight.ensures.refused))
+
+pub returns-then-all_applied-clause-held : goal.returns-then-all_applied-clause-held
+returns-then-all_applied-clause-held g c = c.loop-before.invariant.0
+
+pub returns-else-all_applied-clause-held : goal.returns-else-all_applied-clause-held
+returns-else-all_applied-clause-held g c = c.loop-before.invariant.0
+
+pub returns-then-all_applied-clause-done : goal.returns-then-all_applied-clause-done
+returns-then-all_applied-clause-done g c =
+    let old = shown c.args.self.now in
+    let events = straight_run old.members c.args.member c.args.request.now in
+    subst (LeadsSmoothly {R = g.row.R.Denot} g.R.Records.stands g.R.Records.is_kept old (shown c.loop-before.self))
+    (take_all c.loop-before.before events (omega (arith, length_straight old.members c.args.member c.args.request.now, c.straight_events-events.ensures, c.loop-before-test.false)))
+    c.loop-before.invariant.1
+
+pub returns-else-all_applied-clause-refused : goal.returns-else-all_applied-clause-refused
+returns-else-all_applied-clause-refused g c =
+    let old = shown c.args.self.now in
+    stopped_after {R = g.row.R.Denot} g.R.Records.stands g.R.Records.is_kept old (shown c.loop-before.self) (straight_run old.members c.args.member c.args.request.now) c.loop-before.before c.straight_events-events.result
+    c.loop-before.auto.before-end (omega (arith, c.loop-before-test.false)) (c.straight_events-events.ensures ∙ sym (length_straight old.members c.args.member c.args.request.now)) c.loop-before.invariant.1.leads

@@ -1,0 +1,9 @@
+use Rattle.std.proofs.Common.{take}
+use Rattle.world.specs.Held.{IsHeld, shown}
+use Rattle.world.specs.Runs.{LeadsSmoothly, straight_run}
+use Rattle.world.proofs.state.State.straight.Given as goal
+
+-- the events before have happened
+abbrev pub invariant-loop-before : goal.invariant-loop-before
+invariant-loop-before g l = IsHeld {R = g.row.R.Denot} l.self
+    × LeadsSmoothly {R = g.row.R.Denot} g.R.Records.stands g.R.Records.is_kept (shown l.fn.self) (shown l.self) (take l.before (straight_run l.fn.self.members l.member l.request))

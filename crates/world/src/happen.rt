@@ -1,0 +1,230 @@
+//! What each event does.
+
+ghost use Rattle.std.specs.Prelude.{◌≡◌, ◌<◌, ◌≤◌, true, None, Some, IfSome, OnErr, OnOk};
+ghost use Rattle.ballots.specs.Messages.{Packet};
+ghost use Rattle.member.specs.Steps.{KnowsNothing};
+ghost use Rattle.paxos.specs.Application.{Application};
+ghost use Rattle.paxos.specs.World.{Deliver, Start, Stop, StopInBegin, StopInDeliver, Submits};
+ghost use Rattle.paxos.proofs.WellFormed.{Sound};
+ghost use Rattle.paxos.specs.Lists.{at};
+ghost use Rattle.world.specs.Posts.{sent_in};
+ghost use Rattle.world.specs.Held.{IsDeliveryOf, IsHeld, shown};
+ghost use Rattle.world.specs.Reached.{Follows, Happened, Stays, event_of};
+ghost use Rattle.world.specs.Runs.{is_for};
+ghost use Rattle.world.specs.declared.event.Event.TheVariants as event;
+
+use crate::event::{Event, Step, Tick};
+use crate::mail::Delivery;
+use crate::state::State;
+use acceptor::Records;
+use ballots::{Message, Request};
+use std::alloc::{AllocError, Global};
+
+impl<R: Records + Drop> State<R> {
+    /// The delivery of a number, if it was sent to a member.
+    fn to_member(&self, number: u64) -> Option<Delivery>
+        requires held { IsHeld self.now }
+        ensures there { IfSome result (λ d. IsDeliveryOf (shown self.now) number self.now.mail d) }
+        ensures none { result ≡ None → (p : Packet) → at (sent_in self.now.mail) number ≡ Some p → at self.now.seats.items p.target ≡ None }
+    {
+        let delivery = self.mail.delivery(number)?;
+        if delivery.target == 0 || delivery.target > self.members.count() {
+            None
+        } else {
+            Some(delivery)
+        }
+    }
+
+    /// The message of a number is delivered.
+    ///
+    /// It fails where memory is refused, and then nothing that shows has changed.
+    pub(super) fn deliver(&mut self, alloc: Global, number: u64) -> Result<(), AllocError>
+        requires held { IsHeld self.old }
+        ensures held { IsHeld self.new }
+        ensures happened { OnOk result ((app : Application) → KnowsNothing app → Follows R.stands R.is_kept (Sound self.old.members) (Happened app (Deliver number)) (shown self.old) (shown self.new)) }
+        ensures refused { OnErr result (Follows R.stands R.is_kept (Sound self.old.members) Stays (shown self.old) (shown self.new)) }
+    {
+        let Some(delivery) = self.to_member(number) else {
+            return Ok(());
+        };
+        let Some(draft) = self.hear(alloc, delivery)? else {
+            return Ok(());
+        };
+        self.take(alloc, delivery.target, draft)
+    }
+
+    /// A tick comes to a member.
+    ///
+    /// It fails where memory is refused, and then nothing that shows has changed.
+    pub(super) fn tick_to(
+        &mut self,
+        alloc: Global,
+        number: u8,
+        tick: Tick,
+    ) -> Result<(), AllocError>
+        requires held { IsHeld self.old }
+        requires least { 1 ≤ number }
+        requires most { number ≤ self.old.members }
+        ensures held { IsHeld self.new }
+        ensures happened { OnOk result ((app : Application) → KnowsNothing app → Follows R.stands R.is_kept (Sound self.old.members) (Happened app (event_of (event.Tick number tick))) (shown self.old) (shown self.new)) }
+        ensures refused { OnErr result (Follows R.stands R.is_kept (Sound self.old.members) Stays (shown self.old) (shown self.new)) }
+    {
+        let Some(draft) = self.tick(alloc, number, tick)? else {
+            return Ok(());
+        };
+        self.take(alloc, number, draft)
+    }
+
+    /// A member stops.
+    pub(super) fn stop_at(&mut self, number: u8)
+        requires held { IsHeld self.old }
+        requires least { 1 ≤ number }
+        requires most { number ≤ self.old.members }
+        ensures held { IsHeld self.new }
+        ensures happened { (app : Application) → KnowsNothing app → Follows R.stands R.is_kept (Sound self.old.members) (Happened app (Stop number)) (shown self.old) (shown self.new) }
+    {
+        self.stop(number);
+    }
+
+    /// A member stops in the write of a Begin, which is kept.
+    ///
+    /// It fails where memory is refused, and then nothing that shows has changed.
+    fn stop_beginning(&mut self, alloc: Global, number: u8) -> Result<(), AllocError>
+        requires held { IsHeld self.old }
+        requires least { 1 ≤ number }
+        requires most { number ≤ self.old.members }
+        ensures held { IsHeld self.new }
+        ensures happened { OnOk result ((app : Application) → KnowsNothing app → Follows R.stands R.is_kept (Sound self.old.members) (Happened app (StopInBegin number true)) (shown self.old) (shown self.new)) }
+        ensures refused { OnErr result (Follows R.stands R.is_kept (Sound self.old.members) Stays (shown self.old) (shown self.new)) }
+    {
+        let Some(draft) = self.tick(alloc, number, Tick::Begin)? else {
+            self.stop(number);
+            return Ok(());
+        };
+        self.stop_in(alloc, number, draft)
+    }
+
+    /// A member stops in the write of a Begin, which is kept or lost.
+    ///
+    /// It fails where memory is refused, and then nothing that shows has changed.
+    pub(super) fn stop_in_begin(
+        &mut self,
+        alloc: Global,
+        number: u8,
+        kept: bool,
+    ) -> Result<(), AllocError>
+        requires held { IsHeld self.old }
+        requires least { 1 ≤ number }
+        requires most { number ≤ self.old.members }
+        ensures held { IsHeld self.new }
+        ensures happened { OnOk result ((app : Application) → KnowsNothing app → Follows R.stands R.is_kept (Sound self.old.members) (Happened app (StopInBegin number kept)) (shown self.old) (shown self.new)) }
+        ensures refused { OnErr result (Follows R.stands R.is_kept (Sound self.old.members) Stays (shown self.old) (shown self.new)) }
+    {
+        if kept {
+            return self.stop_beginning(alloc, number);
+        }
+        self.stop(number);
+        Ok(())
+    }
+
+    /// A member stops in the write of a delivery, which is kept.
+    ///
+    /// It fails where memory is refused, and then nothing that shows has changed.
+    fn stop_hearing(
+        &mut self,
+        alloc: Global,
+        number: u64,
+        delivery: Delivery,
+    ) -> Result<(), AllocError>
+        requires held { IsHeld self.old }
+        requires there { IsDeliveryOf (shown self.old) number self.old.mail delivery }
+        ensures held { IsHeld self.new }
+        ensures happened { OnOk result ((app : Application) → KnowsNothing app → Follows R.stands R.is_kept (Sound self.old.members) (Happened app (StopInDeliver number true)) (shown self.old) (shown self.new)) }
+        ensures refused { OnErr result (Follows R.stands R.is_kept (Sound self.old.members) Stays (shown self.old) (shown self.new)) }
+    {
+        let Some(draft) = self.hear(alloc, delivery)? else {
+            self.stop(delivery.target);
+            return Ok(());
+        };
+        self.stop_in(alloc, delivery.target, draft)
+    }
+
+    /// A member stops in the write of a delivery, which is kept or lost.
+    ///
+    /// It fails where memory is refused, and then nothing that shows has changed.
+    pub(super) fn stop_in_delivery(
+        &mut self,
+        alloc: Global,
+        number: u64,
+        kept: bool,
+    ) -> Result<(), AllocError>
+        requires held { IsHeld self.old }
+        ensures held { IsHeld self.new }
+        ensures happened { OnOk result ((app : Application) → KnowsNothing app → Follows R.stands R.is_kept (Sound self.old.members) (Happened app (StopInDeliver number kept)) (shown self.old) (shown self.new)) }
+        ensures refused { OnErr result (Follows R.stands R.is_kept (Sound self.old.members) Stays (shown self.old) (shown self.new)) }
+    {
+        let Some(delivery) = self.to_member(number) else {
+            return Ok(());
+        };
+        if kept {
+            return self.stop_hearing(alloc, number, delivery);
+        }
+        self.stop(delivery.target);
+        Ok(())
+    }
+
+    /// A member starts, if it is stopped and its store does not fail.
+    ///
+    /// It fails where memory is refused, and then nothing that shows has changed.
+    pub(super) fn start_at(&mut self, alloc: Global, number: u8) -> Result<(), AllocError>
+        requires held { IsHeld self.old }
+        requires least { 1 ≤ number }
+        requires most { number ≤ self.old.members }
+        ensures held { IsHeld self.new }
+        ensures happened { OnOk result ((app : Application) → KnowsNothing app → Follows R.stands R.is_kept (Sound self.old.members) (Happened app (Start number)) (shown self.old) (shown self.new)) }
+        ensures refused { OnErr result (Follows R.stands R.is_kept (Sound self.old.members) Stays (shown self.old) (shown self.new)) }
+    {
+        self.start(alloc, number)
+    }
+
+    /// A client sends a request to a member.
+    ///
+    /// It fails where memory is refused, and then nothing that shows has changed.
+    pub(super) fn submit(&mut self, number: u8, request: &Request) -> Result<(), AllocError>
+        requires held { IsHeld self.old }
+        requires least { 1 ≤ number }
+        requires most { number ≤ self.old.members }
+        ensures held { IsHeld self.new }
+        ensures happened { OnOk result ((app : Application) → KnowsNothing app → Follows R.stands R.is_kept (Sound self.old.members) (Happened app (Submits number request.now)) (shown self.old) (shown self.new)) }
+        ensures refused { OnErr result (Follows R.stands R.is_kept (Sound self.old.members) Stays (shown self.old) (shown self.new)) }
+    {
+        let request = request.clone()?;
+        self.mail.ask(number, Message::Submit(request))
+    }
+
+    /// What an event does, whose member there is.
+    ///
+    /// It fails where memory is refused, and then nothing that shows has changed.
+    pub(super) fn happen(&mut self, alloc: Global, event: &Event) -> Result<(), AllocError>
+        requires held { IsHeld self.old }
+        requires named { is_for self.old.members event.now ≡ true }
+        ensures held { IsHeld self.new }
+        ensures happened { OnOk result ((app : Application) → KnowsNothing app → Follows R.stands R.is_kept (Sound self.old.members) (Happened app (event_of event.now)) (shown self.old) (shown self.new)) }
+        ensures refused { OnErr result (Follows R.stands R.is_kept (Sound self.old.members) Stays (shown self.old) (shown self.new)) }
+    {
+        match event {
+            Event::Deliver(number) => self.deliver(alloc, *number),
+            Event::Tick(member, tick) => self.tick_to(alloc, *member, *tick),
+            Event::Submit(member, request) => self.submit(*member, request),
+            Event::StopIn(Step::Deliver(number), kept) => {
+                self.stop_in_delivery(alloc, *number, *kept)
+            }
+            Event::StopIn(Step::Begin(member), kept) => self.stop_in_begin(alloc, *member, *kept),
+            Event::Stop(member) => {
+                self.stop_at(*member);
+                Ok(())
+            }
+            Event::Start(member) => self.start_at(alloc, *member),
+        }
+    }
+}

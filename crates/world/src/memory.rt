@@ -1,0 +1,46 @@
+//! Worlds whose members keep their records in memory.
+
+ghost use Rattle.std.specs.Prelude.{◌≡◌, ◌⊎◌, [], IfOk, length};
+ghost use Rattle.paxos.specs.Application.{Application};
+ghost use Rattle.paxos.specs.Lists.{Has};
+ghost use Rattle.paxos.specs.Records.{Record};
+ghost use Rattle.paxos.specs.World.{fresh};
+ghost use Rattle.world.specs.Reached.{Reached, ReachedSmoothly};
+
+use crate::world::World;
+use acceptor::{MemRecords, RecordsFault};
+use ballots::Members;
+use std::alloc::{AllocError, Global};
+use trees::Names;
+
+/// Records in memory that nobody has written, for so many members.
+fn stores(alloc: Global, members: Members) -> Result<Vec<MemRecords>, AllocError>
+    ensures many { IfOk result (λ stores. length stores.items ≡ members) }
+    ensures unwritten { IfOk result (λ stores. (r : Record) → Has stores.items r → r ≡ fresh.kept) }
+{
+    let mut stores = Vec::new(alloc);
+    for before in 0..members.count() {
+        stores.push(MemRecords::new(alloc))?;
+    }
+    Ok(stores)
+}
+
+impl World<MemRecords> {
+    /// Members that never did anything, with records in memory, which never fail, and documents of these names.
+    ///
+    /// It fails where memory is refused.
+    pub fn in_memory(
+        alloc: Global,
+        members: Members,
+        names: Names,
+    ) -> Result<World<MemRecords>, RecordsFault>
+        ensures members { IfOk result (λ w. w.members ≡ members) }
+        ensures reached { IfOk result (λ w. (app : Application) → Reached (λ s a b. (s ≡ a) ⊎ (s ≡ b)) app w []) }
+        ensures smoothly { IfOk result (λ w. (app : Application) → ReachedSmoothly (λ s a b. (s ≡ a) ⊎ (s ≡ b)) app w []) }
+    {
+        let Ok(stores) = stores(alloc, members) else {
+            return Err(RecordsFault::Memory);
+        };
+        World::new(alloc, members, names, stores)
+    }
+}

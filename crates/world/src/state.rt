@@ -1,0 +1,183 @@
+//! What a world holds, and how it is changed.
+
+ghost use Rattle.std.specs.Prelude.{◌≡◌, ◌+◌, ◌<◌, ◌≤◌, ◌++◌, ℕ, length, map, vec_capacity, vec_len, None, Some, IfOk, IfSome, IsSome, OnErr, OnOk, true};
+ghost use Rattle.member.specs.Drafts.{IsDrafted};
+ghost use Rattle.member.specs.Steps.{Input as InputTerm, Hears, KnowsNothing, input_of};
+ghost use Rattle.paxos.specs.Application.{Application};
+ghost use Rattle.paxos.specs.Lists.{at};
+ghost use Rattle.paxos.proofs.WellFormed.{Sound};
+ghost use Rattle.paxos.specs.World.{told_to};
+ghost use Rattle.world.specs.Posts.{IsWhole, all_deliveries, packet_of, sent_in};
+ghost use Rattle.world.specs.Tellings.{told_in};
+ghost use Rattle.world.specs.Held.{IsHeld, shown};
+ghost use Rattle.world.specs.Reached.{Follows, IsDue, Stays, Steps};
+ghost use Rattle.world.specs.Seats.{IsPlanned, IsPlannedAt, MayMake, MayStart, MayStep, MayStop, MayStopIn, SkipsAt, sent_by, ticked, told_by};
+ghost use Rattle.world.specs.declared.seat.Seat.{Seat as SeatTerm};
+
+use crate::event::Tick;
+use crate::mail::{Delivery, Mail};
+use crate::seat::Seat;
+use crate::told::{Told, tell};
+use acceptor::Records;
+use ballots::Members;
+use member::{Draft, Input, Outcome};
+use std::alloc::{AllocError, Global};
+
+/// How many members there are, where each of them sits, all that was sent and all that was told.
+#[derive(Drop)]
+pub(super) struct State<R: Records + Drop> {
+    pub(super) members: Members,
+    pub(super) seats: Vec<Seat<R>>,
+    pub(super) mail: Mail,
+    pub(super) told: Vec<Told>,
+}
+
+/// The input of a tick.
+fn input_for(tick: Tick) -> Input<'static>
+    ensures { (m : ℕ) → input_of m result ≡ ticked tick }
+{
+    match tick {
+        Tick::Begin => Input::Begin,
+        Tick::Resend => Input::Resend,
+        Tick::CatchUp => Input::CatchUp,
+    }
+}
+
+impl<R: Records + Drop> State<R> {
+    /// What comes of a message to a member that is there, if anything. Nothing that shows has changed.
+    ///
+    /// It fails where memory is refused.
+    pub(super) fn hear(
+        &mut self,
+        alloc: Global,
+        delivery: Delivery,
+    ) -> Result<Option<Draft>, AllocError>
+        requires held { IsHeld self.old }
+        requires least { 1 ≤ delivery.target }
+        requires most { delivery.target ≤ self.old.members }
+        requires there { delivery.message < length self.old.mail.messages.items }
+        ensures held { IsHeld self.new }
+        ensures stays { Follows R.stands R.is_kept (Sound self.old.members) Stays (shown self.old) (shown self.new) }
+        ensures planned { IfOk result (λ o. IfSome o (λ d. IsPlannedAt self.new.seats.items delivery.target (Hears (packet_of self.old.mail.messages.items delivery)) d)) }
+        ensures skipped { IfOk result (λ o. o ≡ None → SkipsAt self.new.seats.items delivery.target (Hears (packet_of self.old.mail.messages.items delivery))) }
+        ensures same { (self.new.members ≡ self.old.members) × (self.new.mail ≡ self.old.mail) × (self.new.told ≡ self.old.told) }
+    {
+        let input = Input::Message(
+            delivery.sender,
+            &self.mail.messages[delivery.message].message,
+        );
+        self.seats[(delivery.target - 1) as usize].draft(alloc, &input)
+    }
+
+    /// What comes of a tick to a member that is there, if anything. Nothing that shows has changed.
+    ///
+    /// It fails where memory is refused.
+    pub(super) fn tick(
+        &mut self,
+        alloc: Global,
+        number: u8,
+        tick: Tick,
+    ) -> Result<Option<Draft>, AllocError>
+        requires held { IsHeld self.old }
+        requires least { 1 ≤ number }
+        requires most { number ≤ self.old.members }
+        ensures held { IsHeld self.new }
+        ensures stays { Follows R.stands R.is_kept (Sound self.old.members) Stays (shown self.old) (shown self.new) }
+        ensures planned { IfOk result (λ o. IfSome o (λ d. IsPlannedAt self.new.seats.items number (ticked tick) d)) }
+        ensures skipped { IfOk result (λ o. o ≡ None → SkipsAt self.new.seats.items number (ticked tick)) }
+        ensures same { (self.new.members ≡ self.old.members) × (self.new.mail ≡ self.old.mail) × (self.new.told ≡ self.old.told) }
+    {
+        let input = input_for(tick);
+        self.seats[(number - 1) as usize].draft(alloc, &input)
+    }
+
+    /// Makes what was drafted for a member that runs: room for what it sends and is told first, and then its step. Where its store fails
+    /// it stops, and nothing is sent or told.
+    ///
+    /// It fails where memory is refused, and then nothing that shows has changed.
+    pub(super) fn take(&mut self, alloc: Global, number: u8, draft: Draft) -> Result<(), AllocError>
+        requires held { IsHeld self.old }
+        requires least { 1 ≤ number }
+        requires most { number ≤ self.old.members }
+        requires ready { (s : SeatTerm R) → at self.old.seats.items number ≡ Some s → MayMake s draft }
+        ensures held { IsHeld self.new }
+        ensures taken { OnOk result ((app : Application) (i : InputTerm) (s : SeatTerm R) → KnowsNothing app → at self.old.seats.items number ≡ Some s → IsPlanned s i draft → IsDue (shown self.old) number i
+            → Follows R.stands R.is_kept (Sound self.old.members) (Steps (shown self.old) s number (MayStep app self.old.members number i)) (shown self.old) (shown self.new)) }
+        ensures refused { OnErr result (Follows R.stands R.is_kept (Sound self.old.members) Stays (shown self.old) (shown self.new)) }
+    {
+        let plan = self.mail.plan(alloc, self.members, number, draft.sends())?;
+        self.told.reserve(draft.tells().len())?;
+        let made = self.seats[(number - 1) as usize].commit(alloc, draft)?;
+        self.note(number, made, plan);
+        Ok(())
+    }
+
+    /// Notes what a member sent and was told, if it did not stop. It takes no memory.
+    fn note(&mut self, number: u8, made: Option<Outcome>, plan: Vec<Delivery>)
+        requires least { 1 ≤ number }
+        requires whole { IsWhole self.old.mail }
+        requires planned { IfSome made (λ o. plan.items ≡ all_deliveries self.old.members number (length self.old.mail.messages.items) o.sends.items) }
+        requires messages { IfSome made (λ o. vec_len self.old.mail.messages + length o.sends.items ≤ vec_capacity self.old.mail.messages) }
+        requires deliveries { vec_len self.old.mail.deliveries + vec_len plan ≤ vec_capacity self.old.mail.deliveries }
+        requires told { IfSome made (λ o. vec_len self.old.told + length o.tells.items ≤ vec_capacity self.old.told) }
+        ensures whole { IsWhole self.new.mail }
+        ensures sent { sent_in self.new.mail ≡ sent_in self.old.mail ++ sent_by self.old.members number made }
+        ensures told { told_in self.new.told.items ≡ told_in self.old.told.items ++ map (told_to number) (told_by made) }
+        ensures same { (self.new.members ≡ self.old.members) × (self.new.seats ≡ self.old.seats) }
+    {
+        if let Some(outcome) = made {
+            self.mail.post(outcome.sends, plan);
+            tell(&mut self.told, number, outcome.tells);
+        }
+    }
+
+    /// Stops a member that is there, if it runs.
+    pub(super) fn stop(&mut self, number: u8)
+        requires held { IsHeld self.old }
+        requires least { 1 ≤ number }
+        requires most { number ≤ self.old.members }
+        ensures held { IsHeld self.new }
+        ensures stopped { (s : SeatTerm R) → at self.old.seats.items number ≡ Some s → IsSome s.member
+            → Follows R.stands R.is_kept (Sound self.old.members) (Steps (shown self.old) s number MayStop) (shown self.old) (shown self.new) }
+        ensures none { (s : SeatTerm R) → at self.old.seats.items number ≡ Some s → s.member ≡ None → shown self.new ≡ shown self.old }
+    {
+        self.seats[(number - 1) as usize].stop();
+    }
+
+    /// Makes the write of what was drafted for a member that runs, and stops the member.
+    ///
+    /// It fails where memory is refused, and then nothing that shows has changed.
+    pub(super) fn stop_in(
+        &mut self,
+        alloc: Global,
+        number: u8,
+        draft: Draft,
+    ) -> Result<(), AllocError>
+        requires held { IsHeld self.old }
+        requires least { 1 ≤ number }
+        requires most { number ≤ self.old.members }
+        requires ready { (s : SeatTerm R) → at self.old.seats.items number ≡ Some s → MayMake s draft }
+        ensures held { IsHeld self.new }
+        ensures stopped { OnOk result ((app : Application) (i : InputTerm) (s : SeatTerm R) → KnowsNothing app → at self.old.seats.items number ≡ Some s → IsPlanned s i draft → IsDue (shown self.old) number i
+            → Follows R.stands R.is_kept (Sound self.old.members) (Steps (shown self.old) s number (MayStopIn app self.old.members number i true)) (shown self.old) (shown self.new)) }
+        ensures refused { OnErr result (Follows R.stands R.is_kept (Sound self.old.members) Stays (shown self.old) (shown self.new)) }
+    {
+        self.seats[(number - 1) as usize].stop_in(alloc, draft)
+    }
+
+    /// Starts a member that is there, if it is stopped and its store does not fail.
+    ///
+    /// It fails where memory is refused, and then nothing that shows has changed.
+    pub(super) fn start(&mut self, alloc: Global, number: u8) -> Result<(), AllocError>
+        requires held { IsHeld self.old }
+        requires least { 1 ≤ number }
+        requires most { number ≤ self.old.members }
+        ensures held { IsHeld self.new }
+        ensures started { OnOk result ((s : SeatTerm R) → at self.old.seats.items number ≡ Some s → s.member ≡ None
+            → Follows R.stands R.is_kept (Sound self.old.members) (Steps (shown self.old) s number MayStart) (shown self.old) (shown self.new)) }
+        ensures runs { (s : SeatTerm R) → at self.old.seats.items number ≡ Some s → IsSome s.member → shown self.new ≡ shown self.old }
+        ensures refused { OnErr result (Follows R.stands R.is_kept (Sound self.old.members) Stays (shown self.old) (shown self.new)) }
+    {
+        self.seats[(number - 1) as usize].start(alloc, self.members, number)
+    }
+}

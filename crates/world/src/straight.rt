@@ -1,0 +1,125 @@
+//! The straight run: one member begins, a request is submitted to it, and all messages are delivered in order.
+
+ghost use Rattle.std.specs.Prelude.{◌≡◌, ◌∷◌, ◌+◌, ◌*◌, ◌≤◌, [], IfErr, OnErr, OnOk};
+ghost use Rattle.member.specs.Steps.{KnowsNothing};
+ghost use Rattle.paxos.specs.Application.{Application};
+ghost use Rattle.paxos.proofs.WellFormed.{Sound};
+ghost use Rattle.world.specs.Held.{IsHeld, shown};
+ghost use Rattle.world.specs.Reached.{Follows, Happened, Stays};
+ghost use Rattle.world.specs.Runs.{HasDone, LeadsSmoothly, StopsAt, straight_event, straight_run};
+
+use crate::event::Tick;
+use crate::fault::WorldFault;
+use crate::state::State;
+use acceptor::Records;
+use ballots::Request;
+use std::alloc::{AllocError, Global};
+
+impl<R: Records + Drop> State<R> {
+    /// How many messages of the opening there are: a Prepare and a Promise of each member.
+    fn opening(&self) -> u64
+        ensures { result ≡ 2 * self.now.members }
+    {
+        2 * u64::from(self.members.count())
+    }
+
+    /// How many events a straight run has: two more than messages.
+    fn straight_events(&self) -> u64
+        requires held { IsHeld self.now }
+        ensures { result ≡ self.now.members * self.now.members + 3 * self.now.members + 3 }
+    {
+        let members = u64::from(self.members.count());
+        members * members + 3 * members + 3
+    }
+
+    /// The event of a straight run before which there are `before`.
+    ///
+    /// It fails where memory is refused, and then nothing that shows has changed.
+    fn straight_event(
+        &mut self,
+        alloc: Global,
+        member: u8,
+        request: &Request,
+        before: u64,
+    ) -> Result<(), AllocError>
+        requires held { IsHeld self.old }
+        requires least { 1 ≤ member }
+        requires most { member ≤ self.old.members }
+        ensures held { IsHeld self.new }
+        ensures happened { OnOk result ((app : Application) → KnowsNothing app → Follows R.stands R.is_kept (Sound self.old.members) (Happened app (straight_event self.old.members member request.now before)) (shown self.old) (shown self.new)) }
+        ensures refused { OnErr result (Follows R.stands R.is_kept (Sound self.old.members) Stays (shown self.old) (shown self.new)) }
+    {
+        let opening = self.opening();
+        if before == 0 {
+            self.tick_to(alloc, member, Tick::Begin)
+        } else if before <= opening {
+            self.deliver(alloc, before)
+        } else if before == opening + 1 {
+            self.submit(member, request)
+        } else {
+            self.deliver(alloc, before - 1)
+        }
+    }
+
+    /// That event, in which no store may stop a member.
+    fn go_straight(
+        &mut self,
+        alloc: Global,
+        member: u8,
+        request: &Request,
+        before: u64,
+    ) -> Result<(), WorldFault>
+        requires held { IsHeld self.old }
+        requires least { 1 ≤ member }
+        requires most { member ≤ self.old.members }
+        ensures held { IsHeld self.new }
+        ensures done { OnOk result (LeadsSmoothly R.stands R.is_kept (shown self.old) (shown self.new) (straight_event self.old.members member request.now before ∷ [])) }
+        ensures refused { IfErr result (λ fault. StopsAt R.stands R.is_kept (shown self.old) (shown self.new) (straight_event self.old.members member request.now before) before fault) }
+    {
+        let Ok(()) = self.straight_event(alloc, member, request, before) else {
+            return Err(WorldFault::Memory(before));
+        };
+        if self.all_run() {
+            Ok(())
+        } else {
+            Err(WorldFault::Store)
+        }
+    }
+
+    /// Makes a straight run.
+    pub(super) fn straight(
+        &mut self,
+        alloc: Global,
+        member: u8,
+        request: &Request,
+    ) -> Result<(), WorldFault>
+        requires held { IsHeld self.old }
+        requires least { 1 ≤ member }
+        requires most { member ≤ self.old.members }
+        ensures held { IsHeld self.new }
+        ensures done { OnOk result (LeadsSmoothly R.stands R.is_kept (shown self.old) (shown self.new) (straight_run self.old.members member request.now)) }
+        ensures refused { IfErr result (λ fault. HasDone R.stands R.is_kept (shown self.old) (shown self.new) (straight_run self.old.members member request.now) fault) }
+    {
+        let events = self.straight_events();
+        for before in 0..events {
+            self.go_straight(alloc, member, request, before)?;
+        }
+        if self.all_applied() {
+            Ok(())
+        } else {
+            Err(WorldFault::Memory(events))
+        }
+    }
+
+    /// Whether each member that runs has applied a position.
+    fn all_applied(&self) -> bool {
+        for seat in &self.seats {
+            if let Some(member) = &seat.member {
+                if member.prefix() == 0 {
+                    return false;
+                }
+            }
+        }
+        true
+    }
+}
