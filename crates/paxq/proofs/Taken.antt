@@ -1,5 +1,5 @@
 -- Which words `clap` takes at the command of this crate, and what it makes of them.
-use Rattle.std.proofs.Common.{◌≡◌, ◌∙◌, ◌||◌, ◌⊎◌, ℕ, Bool, cond, true, false, refl, sym, ap, subst, List, [], ◌∷◌, Option, Some, None, inl, inr, true≢false, codes}
+use Rattle.std.proofs.Common.{◌≡◌, ◌∙◌, ◌||◌, ◌⊎◌, ℕ, Bool, cond, not, true, false, refl, sym, ap, subst, List, [], ◌∷◌, Option, Some, None, inl, inr, true≢false, codes}
 use Rattle.std.specs.List.{list_any}
 use Rattle.std.specs.Str.{IsUtf8, bytes_eq}
 use Rattle.std.proofs.lemmas.Slice.Eq.{bytes_eq-Decides}
@@ -10,8 +10,8 @@ use Rattle.clap.specs.Simple.{Shape, built, built_leaf, inherited, names_of, sub
 use Rattle.clap.specs.Walk.{Held, Names, Row, Step, Text, Walk, arg_by_index, idle, long_or_other, nothing_held, subcommand_met, value, walk, walk_from, walked}
 use Rattle.clap.proofs.WalkLemmas.{walk_stopped}
 use Rattle.clap.proofs.OnLiterals.{clap_on_literals}
-use Rattle.paxq.specs.Words.{IsRun, is_option, paxq_app, run_shape, script_in}
-use Rattle.paxq.proofs.Refusals.{HasNoOptions, IsFault, IsFault-first, IsFault-then, IsPlainWord, dashes, held, no_fault, option_refused, plain_word_is, refused_or_plain}
+use Rattle.paxq.specs.Words.{IsFormOf, file_in, form_shape, is_option, paxq_app}
+use Rattle.paxq.proofs.Refusals.{HasNoOptions, IsFault, IsFault-first, IsFault-then, IsPlainWord, dashes, held, no_fault, option_refused, plain_word_is, refused_or_plain, some≢none}
 
 -- ---- one word
 
@@ -52,103 +52,129 @@ top = (built paxq_app).top
 abbrev top_names : Names
 top_names = names_of (built paxq_app)
 
--- `run` as it is built
-abbrev run : Shape
-run = built_leaf (inherited paxq_app.top run_shape)
+-- the name of a form: `run` or `sim`
+abbrev pub name_of : Bool → Text
+name_of true = codes "run"
+name_of false = codes "sim"
+
+-- the form as it is built
+abbrev form : Bool → Shape
+form k = built_leaf (inherited paxq_app.top (form_shape (name_of k)))
 
 -- the whole command has no options
 top_has_none : HasNoOptions top.rules
 top_has_none = record { long = λ name. refl; short = λ x. refl }
 
--- `run` has no options
-run_has_none : HasNoOptions run.rules
-run_has_none = record { long = λ name. refl; short = λ x. refl }
+-- a form has no options
+form_has_none : (k : Bool) → HasNoOptions (form k).rules
+form_has_none true = record { long = λ name. refl; short = λ x. refl }
+form_has_none false = record { long = λ name. refl; short = λ x. refl }
+
+-- it has one argument
+form_has_one : (k : Bool) → arg_by_index (form k).rules 2 ≡ None
+form_has_one true = refl
+form_has_one false = refl
 
 -- no words are refused
 no_words : IsFault (fault_of paxq_app [])
 unfolding clap_on_literals
 no_words = tt
 
--- `run` alone is refused
-run_alone : IsFault (fault_of paxq_app (codes "run" ∷ []))
+-- a form alone is refused
+form_alone : (k : Bool) → IsFault (fault_of paxq_app (name_of k ∷ []))
 unfolding clap_on_literals
-run_alone = tt
+form_alone true = tt
+form_alone false = tt
 
 -- ---- the first word
 
--- a first word that is not `run` is refused
-first_refused : (word : Text) (rest : List Text) → bytes_eq (codes "run") word ≡ false → bytes_eq word dashes ≡ false → IsFault (fault_of paxq_app (word ∷ rest))
+-- a first word that names no form is refused
+first_refused : (word : Text) (rest : List Text) → bytes_eq (codes "run") word ≡ false → bytes_eq (codes "sim") word ≡ false → bytes_eq word dashes ≡ false → IsFault (fault_of paxq_app (word ∷ rest))
 unfolding walk_fault
-first_refused word rest new other =
-    let no_sub : subcommand_met top_names idle word ≡ None = rw new refl in
+first_refused word rest run sim other =
+    let no_sub : subcommand_met top_names idle word ≡ None = rw (run, sim) refl in
     IsFault-first _ _ (IsFault-first _ _ (stray_refused top top_names [] None 1 word top_has_none no_sub refl other))
 
--- the walk stops at `run` and leaves it the words that follow
-stop_is : (rest : List Text) → (walk top.rules top_names nothing_held (codes "run" ∷ rest)).stopped ≡ Some (codes "run", rest)
+-- the walk stops at the name of a form and leaves it the words that follow
+stop_is : (k : Bool) (rest : List Text) → (walk top.rules top_names nothing_held (name_of k ∷ rest)).stopped ≡ Some (name_of k, rest)
 unfolding walked
-stop_is rest = sym (ap (λ (w : Walk). w.stopped) (walk_stopped top.rules top_names (before [] None 1) (codes "run") [] rest))
+stop_is true rest = sym (ap (λ (w : Walk). w.stopped) (walk_stopped top.rules top_names (before [] None 1) (codes "run") [] rest))
+stop_is false rest = sym (ap (λ (w : Walk). w.stopped) (walk_stopped top.rules top_names (before [] None 1) (codes "sim") [] rest))
 
--- ---- the words after `run`
+-- ---- the words after the name of a form
 
--- what `run` refuses is refused
-run_refused : (rest : List Text) → IsFault (level_fault run [] nothing_held rest false []) → IsFault (fault_of paxq_app (codes "run" ∷ rest))
-run_refused rest h =
-    let below = subst (λ stop. IsFault (entered_fault (built paxq_app) stop)) (sym (stop_is rest)) h in
+-- what the form refuses is refused
+form_refused : (k : Bool) (rest : List Text) → IsFault (level_fault (form k) [] nothing_held rest false []) → IsFault (fault_of paxq_app (name_of k ∷ rest))
+form_refused true rest h =
+    let below = subst (λ stop. IsFault (entered_fault (built paxq_app) stop)) (sym (stop_is true rest)) h in
+    IsFault-then _ _ (IsFault-first _ _ below)
+form_refused false rest h =
+    let below = subst (λ stop. IsFault (entered_fault (built paxq_app) stop)) (sym (stop_is false rest)) h in
     IsFault-then _ _ (IsFault-first _ _ below)
 
--- the walk after the script
-abbrev after_script : Text → Walk
-after_script script = before [] (Some (codes "script", script ∷ [])) 2
+-- the walk after the file
+abbrev after_file : Text → Walk
+after_file file = before [] (Some (codes "file", file ∷ [])) 2
 
 -- the word goes to the positional
-abbrev IsPlain : Text → Type 0
-IsPlain word = long_or_other run.rules idle word (long_of word) nothing_held ≡ (nothing_held, value)
+abbrev IsPlain : Bool → Text → Type 0
+IsPlain k word = long_or_other (form k).rules idle word (long_of word) nothing_held ≡ (nothing_held, value)
 
--- the walk takes such a word as the script
-script_walked : (script : Text) → bytes_eq script dashes ≡ false → IsPlain script → walked run.rules [] (walk_from nothing_held) script ≡ after_script script
+-- the walk takes such a word as the file
+file_walked : (k : Bool) (file : Text) → bytes_eq file dashes ≡ false → IsPlain k file → walked (form k).rules [] (walk_from nothing_held) file ≡ after_file file
 unfolding walked
-script_walked script other plain = rw (other, plain) refl
+file_walked true file other plain = rw (other, plain) refl
+file_walked false file other plain = rw (other, plain) refl
 
--- a word that is refused as an option is refused by `run`
-script_refused : (script : Text) → bytes_eq script dashes ≡ false → IsFault (flag_word_fault run.rules false (long_of script) script nothing_held)
-    → IsFault (turn_fault run [] (walk_from nothing_held) script)
-script_refused script other h = rw other (IsFault-first _ _ h)
+-- a word that is refused as an option is refused by the form
+file_refused : (k : Bool) (file : Text) → bytes_eq file dashes ≡ false → IsFault (flag_word_fault (form k).rules false (long_of file) file nothing_held)
+    → IsFault (turn_fault (form k) [] (walk_from nothing_held) file)
+file_refused true file other h = rw other (IsFault-first _ _ h)
+file_refused false file other h = rw other (IsFault-first _ _ h)
 
--- a word after the script is refused
-third_refused : (script third : Text) (more : List Text) → bytes_eq script dashes ≡ false → bytes_eq third dashes ≡ false
-    → IsFault (walk_fault run [] (walk_from nothing_held) (script ∷ third ∷ more))
+-- a word after the file is refused
+third_refused : (k : Bool) (file third : Text) (more : List Text) → bytes_eq file dashes ≡ false → bytes_eq third dashes ≡ false
+    → IsFault (walk_fault (form k) [] (walk_from nothing_held) (file ∷ third ∷ more))
 unfolding walk_fault
-third_refused script third more other other' = elim (refused_or_plain run.rules false idle [] None script run_has_none) [
-  | inl h ↦ IsFault-first _ _ (script_refused script other h)
-  | inr h ↦ IsFault-then _ _ (subst (λ w. IsFault (walk_fault run [] w (third ∷ more))) (sym (script_walked script other h))
-      (IsFault-first _ _ (stray_refused run [] [] (Some (codes "script", script ∷ [])) 2 third run_has_none refl refl other')))
+third_refused k file third more other other' = elim (refused_or_plain (form k).rules false idle [] None file (form_has_none k)) [
+  | inl h ↦ IsFault-first _ _ (file_refused k file other h)
+  | inr h ↦ IsFault-then _ _ (subst (λ w. IsFault (walk_fault (form k) [] w (third ∷ more))) (sym (file_walked k file other h))
+      (IsFault-first _ _ (stray_refused (form k) [] [] (Some (codes "file", file ∷ [])) 2 third (form_has_none k) refl (form_has_one k) other')))
 ]
 
--- ---- `run` with one word
+-- ---- a form with one word
 
--- `run SCRIPT`
-abbrev one_word : Text → List Text
-one_word script = codes "run" ∷ script ∷ []
+-- the form's name and a file
+abbrev pub one_word : Bool → Text → List Text
+one_word k file = name_of k ∷ file ∷ []
 
 -- the same of the whole command
-script_after_run : (script : Text) → bytes_eq script dashes ≡ false → IsFault (flag_word_fault run.rules false (long_of script) script nothing_held)
-    → IsFault (fault_of paxq_app (one_word script))
+file_after_name : (k : Bool) (file : Text) → bytes_eq file dashes ≡ false → IsFault (flag_word_fault (form k).rules false (long_of file) file nothing_held)
+    → IsFault (fault_of paxq_app (one_word k file))
 unfolding walk_fault
-script_after_run script other h = run_refused (script ∷ []) (IsFault-first _ _ (IsFault-first _ _ (script_refused script other h)))
+file_after_name k file other h = form_refused k (file ∷ []) (IsFault-first _ _ (IsFault-first _ _ (file_refused k file other h)))
 
--- an option is no script, where it is text
-option_after_run : (script : Text) → is_option script ≡ true → bytes_eq script dashes ≡ false → IsUtf8 script → IsFault (fault_of paxq_app (one_word script))
-option_after_run script option other text = script_after_run script other (option_refused run.rules false [] None run_has_none script option other text)
+-- an option is no file, where it is text
+option_after_name : (k : Bool) (file : Text) → is_option file ≡ true → bytes_eq file dashes ≡ false → IsUtf8 file → IsFault (fault_of paxq_app (one_word k file))
+option_after_name k file option other text = file_after_name k file other (option_refused (form k).rules false [] None (form_has_none k) file option other text)
 
--- a script that is no option is taken
-pub script_taken : (script : Text) → IsPlainWord script → fault_of paxq_app (one_word script) ≡ []
+-- a file that is no option is taken
+file_taken : (k : Bool) (file : Text) → IsPlainWord file → fault_of paxq_app (one_word k file) ≡ []
 unfolding clap_on_literals
-script_taken script plain = rw (plain.dashes, plain.long, plain.short) refl
+file_taken true file plain = rw (plain.dashes, plain.long, plain.short) refl
+file_taken false file plain = rw (plain.dashes, plain.long, plain.short) refl
 
--- the matches hold the script
-pub script_found : (script : Text) → bytes_eq script dashes ≡ false → IsPlain script → script_in (subcommand_of paxq_app (one_word script)) ≡ Some script
+-- the matches hold the file
+file_found : (k : Bool) (file : Text) → bytes_eq file dashes ≡ false → IsPlain k file → file_in (name_of k) (subcommand_of paxq_app (one_word k file)) ≡ Some file
 unfolding clap_on_literals
-script_found script other plain = rw (other, plain) refl
+file_found true file other plain = rw (other, plain) refl
+file_found false file other plain = rw (other, plain) refl
+
+-- and none of the other form
+other_absent : (k : Bool) (file : Text) → bytes_eq file dashes ≡ false → IsPlain k file → file_in (name_of (not k)) (subcommand_of paxq_app (one_word k file)) ≡ None
+unfolding clap_on_literals
+other_absent true file other plain = refl
+other_absent false file other plain = refl
 
 -- ---- all words
 
@@ -161,70 +187,87 @@ both_false : (a b : Bool) → (a || b) ≡ false → (a ≡ false) × (b ≡ fal
 both_false true b e = absurd (true≢false e)
 both_false false b e = (refl, e)
 
--- the words are `run` and one more, or are refused
-abbrev IsRunOrRefused : List Text → Type 0
-IsRunOrRefused words = ((script : Text) × (words ≡ one_word script)) ⊎ IsFault (fault_of paxq_app words)
+-- the words are the name of a form and one more, or are refused
+abbrev IsFormOrRefused : List Text → Type 0
+IsFormOrRefused words = ((k : Bool) × (file : Text) × (words ≡ one_word k file)) ⊎ IsFault (fault_of paxq_app words)
 
--- the words after `run` are one, or are refused
-after_run_word : (rest : List Text) → HasNoDashes rest → IsRunOrRefused (codes "run" ∷ rest)
-after_run_word [] e = inr run_alone
-after_run_word (script ∷ []) e = inl (script, refl)
-after_run_word (script ∷ third ∷ more) e =
+-- the words after the name are one, or are refused
+after_name : (k : Bool) (rest : List Text) → HasNoDashes rest → IsFormOrRefused (name_of k ∷ rest)
+after_name k [] e = inr (form_alone k)
+after_name k (file ∷ []) e = inl (k, file, refl)
+after_name k (file ∷ third ∷ more) e =
     let first = both_false _ _ e in
     let second = both_false _ _ first.1 in
-    inr (run_refused (script ∷ third ∷ more) (IsFault-first _ _ (third_refused script third more first.0 second.0)))
+    inr (form_refused k (file ∷ third ∷ more) (IsFault-first _ _ (third_refused k file third more first.0 second.0)))
 
--- all words are `run SCRIPT`, or are refused
-run_or_refused : (words : List Text) → HasNoDashes words → IsRunOrRefused words
-run_or_refused [] e = inr no_words
-run_or_refused (word ∷ rest) e = go (bytes_eq (codes "run") word) refl
+-- all words are a form, or are refused
+form_or_refused : (words : List Text) → HasNoDashes words → IsFormOrRefused words
+form_or_refused [] e = inr no_words
+form_or_refused (word ∷ rest) e = go (bytes_eq (codes "run") word) (bytes_eq (codes "sim") word) refl refl
   where
     parts : (bytes_eq word dashes ≡ false) × HasNoDashes rest
     parts = both_false _ _ e
 
-    go : (b : Bool) → bytes_eq (codes "run") word ≡ b → IsRunOrRefused (word ∷ rest)
-    go true is = subst (λ w. IsRunOrRefused (w ∷ rest)) ((bytes_eq-Decides (codes "run") word).0 is) (after_run_word rest parts.1)
-    go false new = inr (first_refused word rest new parts.0)
+    go : (a b : Bool) → bytes_eq (codes "run") word ≡ a → bytes_eq (codes "sim") word ≡ b → IsFormOrRefused (word ∷ rest)
+    go true b run sim = subst (λ w. IsFormOrRefused (w ∷ rest)) ((bytes_eq-Decides (codes "run") word).0 run) (after_name true rest parts.1)
+    go false true run sim = subst (λ w. IsFormOrRefused (w ∷ rest)) ((bytes_eq-Decides (codes "sim") word).0 sim) (after_name false rest parts.1)
+    go false false run sim = inr (first_refused word rest run sim parts.0)
 
 -- what the words are that `clap` takes
-pub record IsTaken (words : List Text) (script : Text) : Type 0 where
-  pub are : words ≡ one_word script
-  pub found : script_in (subcommand_of paxq_app words) ≡ Some script
-  pub plain : IsUtf8 script → is_option script ≡ false
+pub record IsTaken (words : List Text) (k : Bool) (file : Text) : Type 0 where
+  pub are : words ≡ one_word k file
+  pub found : file_in (name_of k) (subcommand_of paxq_app words) ≡ Some file
+  pub other : file_in (name_of (not k)) (subcommand_of paxq_app words) ≡ None
+  pub plain : IsUtf8 file → is_option file ≡ false
 
--- the script is not `--`
-second_word : (script : Text) → HasNoDashes (one_word script) → bytes_eq script dashes ≡ false
-second_word script e = (both_false _ _ e).0
+-- the file is not `--`
+second_word : (k : Bool) (file : Text) → HasNoDashes (one_word k file) → bytes_eq file dashes ≡ false
+second_word true file e = (both_false _ _ e).0
+second_word false file e = (both_false _ _ e).0
 
--- `run SCRIPT`, where it is taken
-one_taken : (script : Text) → bytes_eq script dashes ≡ false → fault_of paxq_app (one_word script) ≡ [] → IsTaken (one_word script) script
-one_taken script other none = record { are = refl; found = found; plain = λ text. plain text (is_option script) refl }
+-- a form, where it is taken
+one_taken : (k : Bool) (file : Text) → bytes_eq file dashes ≡ false → fault_of paxq_app (one_word k file) ≡ [] → IsTaken (one_word k file) k file
+one_taken k file other none = record { are = refl; found = met.0; other = met.1; plain = λ text. plain text (is_option file) refl }
   where
-    plain : IsUtf8 script → (b : Bool) → is_option script ≡ b → is_option script ≡ false
-    plain text true option = absurd (no_fault _ none (option_after_run script option other text))
+    plain : IsUtf8 file → (b : Bool) → is_option file ≡ b → is_option file ≡ false
+    plain text true option = absurd (no_fault _ none (option_after_name k file option other text))
     plain text false e = e
 
-    found : script_in (subcommand_of paxq_app (one_word script)) ≡ Some script
-    found = elim (refused_or_plain run.rules false idle [] None script run_has_none) [
-      | inl h ↦ absurd (no_fault _ none (script_after_run script other h))
-      | inr h ↦ script_found script other h
+    met : (file_in (name_of k) (subcommand_of paxq_app (one_word k file)) ≡ Some file) × (file_in (name_of (not k)) (subcommand_of paxq_app (one_word k file)) ≡ None)
+    met = elim (refused_or_plain (form k).rules false idle [] None file (form_has_none k)) [
+      | inl h ↦ absurd (no_fault _ none (file_after_name k file other h))
+      | inr h ↦ (file_found k file other h, other_absent k file other h)
     ]
 
 -- the words that are taken
-pub taken_is_run : (words : List Text) → HasNoDashes words → fault_of paxq_app words ≡ [] → (script : Text) × IsTaken words script
-taken_is_run words e none = elim (run_or_refused words e) [
-  | inl h ↦ (h.0, subst (λ ws. IsTaken ws h.0) (sym h.1) (one_taken h.0 (second_word h.0 (subst HasNoDashes h.1 e)) (subst (λ ws. fault_of paxq_app ws ≡ []) h.1 none)))
+pub taken_is_form : (words : List Text) → HasNoDashes words → fault_of paxq_app words ≡ [] → (k : Bool) × (file : Text) × IsTaken words k file
+taken_is_form words e none = elim (form_or_refused words e) [
+  | inl h ↦ (h.0, h.1, subst (λ ws. IsTaken ws h.0 h.1) (sym h.2) (one_taken h.0 h.1 (second_word h.0 h.1 (subst HasNoDashes h.2 e)) (subst (λ ws. fault_of paxq_app ws ≡ []) h.2 none)))
   | inr h ↦ absurd (no_fault _ none h)
 ]
 
--- `run SCRIPT` is taken, where the script is no option
-pub run_is_taken : (words : List Text) (script : Text) → IsRun words script → fault_of paxq_app words ≡ []
-run_is_taken words script is = subst (λ ws. fault_of paxq_app ws ≡ []) (sym is.0) (script_taken script (plain_word_is script is.1))
+-- a form is taken, where the file is no option
+pub form_is_taken : (k : Bool) (words : List Text) (file : Text) → IsFormOf (name_of k) words file → fault_of paxq_app words ≡ []
+form_is_taken k words file is = subst (λ ws. fault_of paxq_app ws ≡ []) (sym is.0) (file_taken k file (plain_word_is file is.1))
 
 -- such words have no `--`
-pub run_has_no_dashes : (words : List Text) (script : Text) → IsRun words script → HasNoDashes words
-run_has_no_dashes words script is = subst HasNoDashes (sym is.0) (rw ((plain_word_is script is.1).dashes) refl)
+pub form_has_no_dashes : (k : Bool) (words : List Text) (file : Text) → IsFormOf (name_of k) words file → HasNoDashes words
+form_has_no_dashes true words file is = subst HasNoDashes (sym is.0) (rw ((plain_word_is file is.1).dashes) refl)
+form_has_no_dashes false words file is = subst HasNoDashes (sym is.0) (rw ((plain_word_is file is.1).dashes) refl)
 
--- the words ask for the script that was found
-pub taken_asks_run : (words : List Text) (found script : Text) → IsTaken words found → script ≡ found → IsUtf8 script → IsRun words script
-taken_asks_run words found script taken e text = (taken.are ∙ ap one_word (sym e), subst (λ s. is_option s ≡ false) (sym e) (taken.plain (subst IsUtf8 e text)))
+-- the words ask for the file that was found
+pub taken_asks : (words : List Text) (k : Bool) (found file : Text) → IsTaken words k found → file ≡ found → IsUtf8 file → IsFormOf (name_of k) words file
+taken_asks words k found file taken e text = (taken.are ∙ ap (one_word k) (sym e), subst (λ s. is_option s ≡ false) (sym e) (taken.plain (subst IsUtf8 e text)))
+
+-- of two forms the one whose file was found, or of which no file was
+pub taken_as : (words : List Text) (k j : Bool) (file : Text) (o : Option Text) (x : Text) → IsTaken words k file → o ≡ file_in (name_of j) (subcommand_of paxq_app words) → o ≡ Some x → k ≡ j
+taken_as words true true file o x t e h = refl
+taken_as words false false file o x t e h = refl
+taken_as words true false file o x t e h = absurd (some≢none x (sym h ∙ e ∙ t.other))
+taken_as words false true file o x t e h = absurd (some≢none x (sym h ∙ e ∙ t.other))
+
+pub taken_other : (words : List Text) (k j : Bool) (file : Text) (o : Option Text) → IsTaken words k file → o ≡ file_in (name_of j) (subcommand_of paxq_app words) → o ≡ None → k ≡ not j
+taken_other words true true file o t e h = absurd (some≢none file (sym t.found ∙ sym e ∙ h))
+taken_other words false false file o t e h = absurd (some≢none file (sym t.found ∙ sym e ∙ h))
+taken_other words true false file o t e h = refl
+taken_other words false true file o t e h = refl

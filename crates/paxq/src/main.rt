@@ -8,6 +8,7 @@ ghost use Rattle.std.specs.IoError.{error_kind};
 ghost use Rattle.std.specs.declared.io.ErrorKind.TheVariants.{OutOfMemory};
 
 use paxq_run::{cannot_read, run_script};
+use paxq_sim::run_events;
 use std::io::{BufWriter, Write};
 use std::process::ExitCode;
 use std::{fs, io};
@@ -33,6 +34,7 @@ fn run_words(rt: &HostRuntime) -> io::Result<u8> {
     };
     match words::read_words(rt.alloc(), words) {
         Ok(Form::Run { script }) => run_file(rt, script.as_str()),
+        Ok(Form::Sim { events }) => sim_file(rt, events.as_str()),
         Err(fault) => {
             eprintln!(rt; "paxq: {fault}")?;
             Ok(status_of(fault))
@@ -48,6 +50,19 @@ fn run_file(rt: &HostRuntime, script: &str) -> io::Result<u8> {
         Ok(mut file) => run_script(rt.alloc(), script, &mut file, &mut output, &mut errors)?,
         Err(error) if error.kind() == io::ErrorKind::OutOfMemory => return Err(error),
         Err(_) => cannot_read(rt.alloc(), script, &mut errors)?,
+    };
+    output.flush()?;
+    Ok(status)
+}
+
+/// Simulates an event file.
+fn sim_file(rt: &HostRuntime, events: &str) -> io::Result<u8> {
+    let mut output = BufWriter::new(rt.alloc(), io::writer(rt))?;
+    let mut errors = rt.stderr();
+    let status = match fs::open(rt, events) {
+        Ok(mut file) => run_events(rt.alloc(), events, &mut file, &mut output, &mut errors)?,
+        Err(error) if error.kind() == io::ErrorKind::OutOfMemory => return Err(error),
+        Err(_) => cannot_read(rt.alloc(), events, &mut errors)?,
     };
     output.flush()?;
     Ok(status)

@@ -2,10 +2,10 @@
 
 ghost use Rattle.std.specs.Prelude.{◌≡◌, ◌≢◌, ◌↔◌, IfOk, IsErrOf, List, OnOk, [], ℕ, codes, map, option_map};
 ghost use Rattle.std.specs.List.{list_any};
-ghost use Rattle.std.specs.Str.{bytes_eq};
+ghost use Rattle.std.specs.Str.{IsUtf8, bytes_eq};
 ghost use Rattle.std.specs.String.{string_bytes};
 ghost use Rattle.clap.specs.Words.{app_of, fault_of, kind_of, subcommand_of, subcommand_rows_of};
-ghost use Rattle.paxq.specs.Words.{IsForm, IsRun, paxq_app, script_in};
+ghost use Rattle.paxq.specs.Words.{IsForm, IsFormOf, IsLocal, file_in, form_shape, paxq_app};
 
 use clap::error::ErrorKind;
 use clap::{Arg, ArgMatches, Command, Error};
@@ -18,6 +18,11 @@ pub enum Form {
     Run {
         /// The name of the file that holds the script.
         script: String,
+    },
+    /// `sim EVENTS`: a group of members in memory.
+    Sim {
+        /// The name of the file that holds the events.
+        events: String,
     },
 }
 
@@ -34,25 +39,40 @@ pub enum WordsFault {
 
 /// Reads the words of the command line, the program's name left out.
 ///
-/// The one form is `run SCRIPT`. A script that begins with `-` and is more than that is taken for
-/// an option, and there is none; `./-name` names such a file. `--` is a word of no form.
+/// The forms are `run SCRIPT` and `sim EVENTS`. A file that begins with `-` and is more than that is
+/// taken for an option, and there is none; `./-name` names such a file. `--` is a word of no form.
 ///
 /// # Errors
 ///
 /// `Usage` where the words are of no form, and `Memory` where memory was refused.
 pub fn read_words(alloc: Global, words: &[String]) -> Result<Form, WordsFault>
     ensures ok { IfOk result (IsForm (map string_bytes words.now)) }
-    ensures usage { IsErrOf result WordsFault.Usage
-        → (script : List ℕ) → IsRun (map string_bytes words.now) script → ⊥ }
+    ensures no_run { IsErrOf result WordsFault.Usage
+        → (script : List ℕ) → IsFormOf (codes "run") (map string_bytes words.now) script → ⊥ }
+    ensures no_sim { IsErrOf result WordsFault.Usage
+        → (events : List ℕ) → IsFormOf (codes "sim") (map string_bytes words.now) events → ⊥ }
 {
     if has_terminator(words) {
         return Err(WordsFault::Usage);
     }
     let matches = parse(alloc, words)?;
-    // `clap` took the words, so the one subcommand has its one argument.
-    let script = script_of(&matches).unwrap();
-    match String::from_str(alloc, script) {
-        Ok(script) => Ok(Form::Run { script }),
+    if let Some(script) = file_of(&matches, "run") {
+        let script = copied(alloc, script)?;
+        return Ok(Form::Run { script });
+    }
+    // `clap` took the words, so the other subcommand has its one argument.
+    let events = copied(alloc, file_of(&matches, "sim").unwrap())?;
+    Ok(Form::Sim { events })
+}
+
+/// A copy of a text.
+fn copied(alloc: Global, text: &str) -> Result<String, WordsFault>
+    ensures ok { IfOk result (λ copy. string_bytes copy ≡ text.now) }
+    ensures text { IsUtf8 text.now }
+    ensures memory { IsErrOf result WordsFault.Usage → ⊥ }
+{
+    match String::from_str(alloc, text) {
+        Ok(copy) => Ok(copy),
         Err(_) => Err(WordsFault::Memory),
     }
 }
@@ -83,21 +103,31 @@ fn parse<'a>(alloc: Global, words: &'a [String]) -> Result<ArgMatches<'a>, Words
 fn command<'a>(alloc: Global) -> Result<Command<'a>, AllocError>
     ensures { IfOk result (λ c. app_of c ≡ paxq_app) }
 {
-    let script = Arg::new(alloc, "script").required(true);
-    let run = Command::new(alloc, "run").arg(script)?;
+    let run = subcommand(alloc, "run")?;
+    let sim = subcommand(alloc, "sim")?;
     Command::new(alloc, "paxq")
         .no_binary_name(true)
         .subcommand_required(true)
         .disable_help_flag(true)
         .disable_help_subcommand(true)
-        .subcommand(run)
+        .subcommand(run)?
+        .subcommand(sim)
 }
 
-/// The script that `run` was given.
-fn script_of<'a>(matches: &ArgMatches<'a>) -> Option<&'a str>
-    ensures { option_map (λ s. s.now) result ≡ script_in (subcommand_rows_of matches.now) }
+/// The subcommand of a form, which names a file.
+fn subcommand<'a>(alloc: Global, name: &'a str) -> Result<Command<'a>, AllocError>
+    ensures shape { IfOk result (λ c. (app_of c).top ≡ form_shape name.now) }
+    ensures local { IfOk result IsLocal }
 {
-    matches.subcommand_matches("run")?.get_str("script")
+    let file = Arg::new(alloc, "file").required(true);
+    Command::new(alloc, name).arg(file)
+}
+
+/// The file that the form of a name was given.
+fn file_of<'a>(matches: &ArgMatches<'a>, form: &str) -> Option<&'a str>
+    ensures { option_map (λ s. s.now) result ≡ file_in form.now (subcommand_rows_of matches.now) }
+{
+    matches.subcommand_matches(form)?.get_str("file")
 }
 
 /// What a refusal by `clap` means here.

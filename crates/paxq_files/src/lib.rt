@@ -1,4 +1,4 @@
-//! The files of the program `paxq`: for now its scripts.
+//! The files of the program `paxq`: its scripts, and the parts of lines that other files have too.
 #![tactic(auto)]
 
 mod line;
@@ -7,4 +7,6 @@ mod script;
 #[cfg(test)]
 mod tests;
 
-pub use script::{Command, Script, ScriptFault, read_script};
+pub use line::{has_text_length, new_request, read_client, read_number};
+pub use lines::cut_at;
+pub use script::{Command, Script, ScriptFault, read_names, read_script};

@@ -80,8 +80,13 @@ fn read_ask(alloc: Global, text: &str) -> Result<Option<Command>, AllocError>
     Ok(Some(Command::Ask(String::from_str(alloc, text)?)))
 }
 
-// A request of a text that is not too long.
-fn new_request(alloc: Global, client: u32, number: u64, text: &str) -> Result<Request, AllocError>
+/// A request of a text that is not too long, at the language level 1. It fails where memory is refused.
+pub fn new_request(
+    alloc: Global,
+    client: u32,
+    number: u64,
+    text: &str,
+) -> Result<Request, AllocError>
     requires { length text.now ≤ 4096 }
     ensures { IfOk result (λ r. r ≡ record { client = client; number = number; level = 1; text = text.now }) }
 {
@@ -92,15 +97,15 @@ fn new_request(alloc: Global, client: u32, number: u64, text: &str) -> Result<Re
     }
 }
 
-// Whether a text is neither empty nor too long.
-fn has_text_length(text: &str) -> bool
+/// Whether a text has 1 to 4,096 bytes.
+pub fn has_text_length(text: &str) -> bool
     ensures { result ≡ has_text_length text.now }
 {
     !text.is_empty() && text.len() <= MAX_TEXT
 }
 
-// A client's number, in decimal.
-fn read_client(digits: &str) -> Option<u32>
+/// A client's number, up to 2^32 - 1, in decimal and without a sign; leading zeros are taken.
+pub fn read_client(digits: &str) -> Option<u32>
     ensures { result ≡ number_below (2 ^ 32) digits.now }
 {
     if are_digits(digits.as_bytes()) {
@@ -110,8 +115,8 @@ fn read_client(digits: &str) -> Option<u32>
     }
 }
 
-// A request's number, in decimal.
-fn read_number(digits: &str) -> Option<u64>
+/// A request's number, up to 2^64 - 1, in decimal and without a sign; leading zeros are taken.
+pub fn read_number(digits: &str) -> Option<u64>
     ensures { result ≡ number_below (2 ^ 64) digits.now }
 {
     if are_digits(digits.as_bytes()) {

@@ -44,7 +44,7 @@ pub(crate) fn first_line(text: &str, before: u64) -> Option<Line<'_>>
 
 /// What stands before the first `mark`, an ASCII character, and what stands after it: the whole
 /// text and nothing where there is none.
-pub(crate) fn cut_at(mark: char, text: &str) -> (&str, &str)
+pub fn cut_at(mark: char, text: &str) -> (&str, &str)
     requires { mark < 128 }
     ensures before { result.0.now ≡ before_first (λ b. b == mark) text.now }
     ensures after { result.1.now ≡ after_first (λ b. b == mark) text.now }

@@ -140,8 +140,8 @@ fn default_names(alloc: Global) -> Result<Names, AllocError>
     }
 }
 
-// The names of a list with single spaces between them.
-fn read_names(alloc: Global, list: &str) -> Result<Names, NamesFault>
+/// The names of a list with single spaces between them, unless they are wrong (`Wrong`) or memory is refused (`Memory`).
+pub fn read_names(alloc: Global, list: &str) -> Result<Names, NamesFault>
     ensures read { IfOk result (λ names. names ≡ slice_split is_space list.now) }
     ensures good { OnOk result (are_document_names (slice_split is_space list.now) ≡ true) }
     ensures wrong { IsErrOf result NamesFault.Wrong → are_document_names (slice_split is_space list.now) ≡ false }

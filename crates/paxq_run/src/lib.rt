@@ -6,4 +6,4 @@
 mod print;
 mod run;
 
-pub use run::{cannot_read, run_script};
+pub use run::{ReadFault, cannot_read, no_memory, read_all, run_script, wrong_line};

@@ -64,7 +64,7 @@ pub fn cannot_read<E: Write>(alloc: Global, file: &str, errors: &mut E) -> io::R
 
 /// Why a file was not read.
 #[derive(Clone, Copy, PartialEq, Eq, Debug)]
-enum ReadFault {
+pub enum ReadFault {
     /// Memory was refused.
     Memory,
     /// The reader failed.
@@ -72,7 +72,7 @@ enum ReadFault {
 }
 
 /// Reads all that a reader gives.
-fn read_all<R: Read>(alloc: Global, reader: &mut R) -> Result<Vec<u8>, ReadFault>
+pub fn read_all<R: Read>(alloc: Global, reader: &mut R) -> Result<Vec<u8>, ReadFault>
     ensures { IfOk result (λ bytes. IfSome (R.remaining reader.old) (λ known. bytes.items ≡ known)) }
 {
     let mut bytes = Vec::new(alloc);
@@ -246,7 +246,7 @@ fn run_commands<W: Write, E: Write>(
 }
 
 /// Reports a wrong line: status 1.
-fn wrong_line<E: Write>(alloc: Global, number: u64, errors: &mut E) -> io::Result<u8>
+pub fn wrong_line<E: Write>(alloc: Global, number: u64, errors: &mut E) -> io::Result<u8>
     ensures { IfOk result (λ status.
         ((status ≡ 1) × Appends (E.contents errors.old) (E.contents errors.new) (codes "paxq: line " ++ decimal number ++ line_feed))
         ⊎ ((status ≡ 4) × Appends (E.contents errors.old) (E.contents errors.new) (codes "paxq: no memory" ++ line_feed))) }
@@ -261,7 +261,7 @@ fn wrong_line<E: Write>(alloc: Global, number: u64, errors: &mut E) -> io::Resul
 }
 
 /// Reports that memory was refused: status 4.
-fn no_memory<E: Write>(errors: &mut E) -> io::Result<u8>
+pub fn no_memory<E: Write>(errors: &mut E) -> io::Result<u8>
     ensures { IfOk result (λ status.
         (status ≡ 4) × Appends (E.contents errors.old) (E.contents errors.new) (codes "paxq: no memory" ++ line_feed)) }
 {

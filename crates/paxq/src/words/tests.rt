@@ -18,8 +18,22 @@ fn is_usage(alloc: Global, words: &[&str]) -> bool {
 fn is_run(alloc: Global, words: &[&str], wanted: &str) -> bool {
     match read(alloc, words) {
         Ok(Form::Run { script }) => script.as_str() == wanted,
-        Err(_) => false,
+        _ => false,
     }
+}
+
+fn is_sim(alloc: Global, words: &[&str], wanted: &str) -> bool {
+    match read(alloc, words) {
+        Ok(Form::Sim { events }) => events.as_str() == wanted,
+        _ => false,
+    }
+}
+
+#[test]
+fn sim_names_events(rt: HostRuntime) {
+    assert!(rt; is_sim(rt.alloc(), &["sim", "E"], "E"));
+    assert!(rt; is_sim(rt.alloc(), &["sim", "run"], "run"));
+    assert!(rt; is_run(rt.alloc(), &["run", "sim"], "sim"));
 }
 
 #[test]
@@ -36,7 +50,9 @@ fn other_words_are_no_form(rt: HostRuntime) {
     assert!(rt; is_usage(rt.alloc(), &["run"]));
     assert!(rt; is_usage(rt.alloc(), &["run", "a", "b"]));
     assert!(rt; is_usage(rt.alloc(), &["ran", "a"]));
-    assert!(rt; is_usage(rt.alloc(), &["sim", "E"]));
+    assert!(rt; is_usage(rt.alloc(), &["sim"]));
+    assert!(rt; is_usage(rt.alloc(), &["sim", "a", "b"]));
+    assert!(rt; is_usage(rt.alloc(), &["sim", "-x"]));
 }
 
 #[test]

@@ -1,0 +1,4 @@
+pub mod Forms
+pub mod EventFiles
+pub mod Within
+pub mod Spelt

@@ -1,0 +1,10 @@
+use Rattle.std.proofs.Common.{rules, ap, ap₂, codes, true, ◌≡◌, ◌∙◌}
+use Rattle.std.proofs.lemmas.Result.{IfOk-weaker}
+use Rattle.clap.specs.Words.{App, app_of, new_app, rule_of, with_rule}
+use Rattle.paxq.specs.Words.{file_rule}
+use Rattle.paxq.proofs.words.subcommand.Goals as goal
+
+pub returns-clause-shape : goal.returns-clause-shape
+returns-clause-shape c =
+    let file_is : rule_of c.required-file.result ≡ file_rule = search rules in
+    IfOk-weaker c.arg.result _ _ (λ r h. ap (λ (a : App). a.top) (h.shape (search rules) ∙ ap₂ with_rule c.new-2.ensures.app file_is)) c.arg.ensures

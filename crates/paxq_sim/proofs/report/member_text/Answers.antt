@@ -1,0 +1,15 @@
+use Rattle.std.proofs.Common.{sym, ap, ◌∙◌, string_bytes}
+use Rattle.std.specs.Option.{option_copied}
+use Rattle.paxq_run.proofs.Turns.{ok-gives}
+use Rattle.paxq_sim.proofs.Reports.{applied_there, stopped_line_there}
+use Rattle.paxq_sim.proofs.report.member_text.Goals as goal
+
+pub returns-in-Some : goal.returns-in-Some
+returns-in-Some c =
+    ok-gives c.applied_line.result c.applied_line.ensures
+    (λ text h kept v s. applied_there c.args.world.now kept v s c.args.number (string_bytes text) c.prefix.result c.in-Some.member.now h (sym c.node.ensures ∙ ap option_copied c.in-Some.is) c.prefix.ensures.applied)
+
+pub returns-in-None : goal.returns-in-None
+returns-in-None c =
+    ok-gives c.stopped_line.result c.stopped_line.ensures
+    (λ text h kept v s. stopped_line_there c.args.world.now kept v s c.args.number (string_bytes text) h (sym c.node.ensures ∙ ap option_copied c.in-None.is))

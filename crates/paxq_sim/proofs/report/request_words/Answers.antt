@@ -1,0 +1,6 @@
+use Rattle.std.proofs.Common.{◌∙◌, append_assoc}
+use Rattle.paxq_run.proofs.Turns.{ok-gives}
+use Rattle.paxq_sim.proofs.report.request_words.Goals as goal
+
+pub returns : goal.returns
+returns c = ok-gives c.format.result c.format.ensures.ok (λ s h. h ∙ simp append_assoc)

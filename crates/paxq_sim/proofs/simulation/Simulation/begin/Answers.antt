@@ -1,0 +1,20 @@
+use Rattle.std.proofs.Common.{◌≡◌, ◌∙◌, [], ap, arith, length, subst, sym}
+use Rattle.std.proofs.lemmas.List.{length-map}
+use Rattle.ballots.specs.Messages.{up_to}
+use Rattle.paxos.specs.Lists.{Has}
+use Rattle.straight_runs.proofs.Lists.{length_up_to}
+use Rattle.paxq_sim.specs.Going.{HasCome}
+use Rattle.paxq_sim.specs.Stores.{store_of}
+use Rattle.paxq_sim.proofs.Leading.{all_kept, begun, unwritten}
+use Rattle.paxq_sim.proofs.simulation.Simulation.begin.Goals as goal
+
+pub new-requires-clause-many : goal.new-requires-clause-many
+new-requires-clause-many c = ap length c.in_ok-stores.ensures ∙ length-map (up_to c.args.group.members) (store_of c.args.failures.now) ∙ length_up_to c.args.group.members
+
+pub new-requires-clause-unwritten : goal.new-requires-clause-unwritten
+new-requires-clause-unwritten c = λ r h kept. unwritten c.args.failures.now c.args.group.members r (subst (λ rs. Has rs r) c.in_ok-stores.ensures h)
+
+pub returns-in-Ok-clause-begun : goal.returns-in-Ok-clause-begun
+returns-in-Ok-clause-begun c = λ app.
+    subst (λ named. HasCome app c.args.group.members [] c.in-Ok.world 0 named) (sym c.new-in-Ok.ensures)
+    (begun app c.args.group.members c.in-Ok.world c.in-Ok.ensures.members (omega (arith, c.count-count.ensures.least, c.count-count.ensures.most)) (c.in-Ok.ensures.reached app (all_kept c.in-Ok.world)))

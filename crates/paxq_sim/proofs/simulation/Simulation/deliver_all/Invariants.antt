@@ -1,0 +1,17 @@
+use Rattle.std.proofs.Common.{◌≡◌, ℕ, ◌-◌, ◌^◌, List}
+use Rattle.event_files.specs.declared.command.Command.{Command}
+use Rattle.member.specs.Steps.{KnowsNothing}
+use Rattle.paxos.specs.Application.{Application}
+use Rattle.paxq_sim.specs.Going.{HasCome, IsDelivering}
+use Rattle.paxq_sim.proofs.simulation.Simulation.deliver_all.Given as goal
+
+-- messages before are delivered
+abbrev pub invariant-loop-self : goal.invariant-loop-self
+invariant-loop-self l =
+    (l.self.world.members ≡ l.initial.self.world.members)
+    × ((app : Application) → KnowsNothing app → (n : ℕ) (done : List Command)
+    → HasCome app n done l.initial.self.world l.initial.self.delivered l.initial.self.named → IsDelivering app n done l.self.world l.self.delivered l.self.named)
+
+-- the numbers that are left
+abbrev pub decreases-loop-self : goal.decreases-loop-self
+decreases-loop-self l = 2 ^ 64 - l.self.delivered

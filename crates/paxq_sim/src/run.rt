@@ -1,0 +1,90 @@
+//! `paxq sim EVENTS`: a group of members in memory, as an event file says.
+
+ghost use Rattle.std.specs.Prelude.{All, IfOk, string_bytes};
+ghost use Rattle.event_files.specs.EventFiles.{file_term};
+ghost use Rattle.event_files.specs.Within.{IsCommandOf};
+ghost use Rattle.paxq_sim.specs.Play.{IsSimulated};
+ghost use Rattle.paxq_sim.specs.Ran.{BytesRan, EventsRan, FileRan};
+
+use super::report::report;
+use super::simulation::Simulation;
+use event_files::{EventFile, EventFileFault, read_event_file};
+use paxq_run::{ReadFault, cannot_read, no_memory, read_all, wrong_line};
+use std::alloc::{AllocError, Global};
+use std::io;
+use std::io::{Read, Write};
+
+/// Simulates the event file that a reader gives, and answers the exit status.
+///
+/// `file` is the file's name. What [`simulate`] prints is written to `output` (status 0), or the first wrong line of the file is
+/// reported to `errors` (status 1), or a reader that fails, as a file that cannot be read (status 1), or want of memory (status 4,
+/// and nothing is printed). An `Err` says that `output` or `errors` could not be written.
+pub fn run_events<R: Read, W: Write, E: Write>(
+    alloc: Global,
+    file: &str,
+    reader: &mut R,
+    output: &mut W,
+    errors: &mut E,
+) -> io::Result<u8>
+    ensures { IfOk result (EventsRan file.now (R.remaining reader.old) (W.contents output.old, W.contents output.new) (E.contents errors.old, E.contents errors.new)) }
+{
+    match read_all(alloc, reader) {
+        Ok(bytes) => run_bytes(alloc, &bytes, output, errors),
+        Err(ReadFault::Failed) => cannot_read(alloc, file, errors),
+        Err(ReadFault::Memory) => no_memory(errors),
+    }
+}
+
+/// Simulates the event file that bytes are, and answers the exit status.
+fn run_bytes<W: Write, E: Write>(
+    alloc: Global,
+    bytes: &[u8],
+    output: &mut W,
+    errors: &mut E,
+) -> io::Result<u8>
+    ensures { IfOk result (BytesRan bytes.now (W.contents output.old, W.contents output.new) (E.contents errors.old, E.contents errors.new)) }
+{
+    match read_event_file(alloc, bytes) {
+        Ok(file) => run_file(alloc, file, output, errors),
+        Err(EventFileFault::Line(number)) => wrong_line(alloc, number, errors),
+        Err(EventFileFault::Memory) => no_memory(errors),
+    }
+}
+
+/// Simulates an event file, and answers the exit status.
+fn run_file<W: Write, E: Write>(
+    alloc: Global,
+    file: EventFile,
+    output: &mut W,
+    errors: &mut E,
+) -> io::Result<u8>
+    requires within { All (IsCommandOf file.group.members) file.commands.items }
+    ensures { IfOk result (FileRan (file_term file) (W.contents output.old, W.contents output.new) (E.contents errors.old, E.contents errors.new)) }
+{
+    let Ok(text) = simulate(alloc, file) else {
+        return no_memory(errors);
+    };
+    output.write_all(text.as_bytes())?;
+    Ok(0)
+}
+
+/// What a simulation of an event file prints: all that members were told, in order, each thing once, then how many messages were sent,
+/// and how far each member is.
+///
+/// It fails where memory is refused.
+pub fn simulate(alloc: Global, file: EventFile) -> Result<String, AllocError>
+    requires within { All (IsCommandOf file.group.members) file.commands.items }
+    ensures { IfOk result (λ text. IsSimulated (file_term file) (string_bytes text)) }
+{
+    let EventFile {
+        group,
+        failures,
+        commands,
+    } = file;
+    let mut simulation = Simulation::begin(alloc, group, &failures)?;
+    simulation.play(alloc, &commands)?;
+    report(alloc, &simulation.world)
+}
+
+#[cfg(test)]
+mod tests;

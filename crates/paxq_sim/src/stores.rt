@@ -1,0 +1,45 @@
+//! The stores of a group's members.
+
+ghost use Rattle.std.specs.Prelude.{◌≡◌, IfOk};
+ghost use Rattle.paxq_sim.specs.Stores.{plan_of, store_of, stores_of};
+
+use acceptor::ScriptRecords;
+use ballots::Members;
+use event_files::Failure;
+use std::alloc::{AllocError, Global};
+
+/// The writes of a member that fail, in the order of the file.
+fn plan_of(alloc: Global, member: u8, failures: &[Failure]) -> Result<Vec<(u64, bool)>, AllocError>
+    ensures { IfOk result (λ plan. plan.items ≡ plan_of member failures.now) }
+{
+    let mut plan = Vec::new(alloc);
+    for failure in failures {
+        if failure.member == member {
+            plan.push((failure.write, failure.kept))?;
+        }
+    }
+    Ok(plan)
+}
+
+/// A member's store, which nobody has written.
+fn store_of(alloc: Global, member: u8, failures: &[Failure]) -> Result<ScriptRecords, AllocError>
+    ensures { IfOk result (λ store. store ≡ store_of failures.now member) }
+{
+    let plan = plan_of(alloc, member, failures)?;
+    ScriptRecords::new(alloc, &plan)
+}
+
+/// The stores of the members, in order, whose writes fail as the file says.
+pub(crate) fn stores_of(
+    alloc: Global,
+    members: Members,
+    failures: &[Failure],
+) -> Result<Vec<ScriptRecords>, AllocError>
+    ensures { IfOk result (λ stores. stores.items ≡ stores_of members failures.now) }
+{
+    let mut stores = Vec::new(alloc);
+    for before in 0..members.count() {
+        stores.push(store_of(alloc, before + 1, failures)?)?;
+    }
+    Ok(stores)
+}
