@@ -3,8 +3,10 @@
 
 mod learning;
 mod nodes;
+mod parsing;
 mod proposing;
 mod votes;
+mod worlds;
 
 use std::io;
 use std::process::ExitCode;
@@ -31,6 +33,11 @@ fn run(rt: &HostRuntime) -> io::Result<u8> {
         "prepares" => votes::prepared(rt.alloc(), count),
         "learnt" => learning::learnt(rt.alloc(), count),
         "proposed" => proposing::proposed(rt.alloc(), count),
+        "deliver3" => worlds::delivered(rt.alloc(), 3, count),
+        "deliver9" => worlds::delivered(rt.alloc(), 9, count),
+        "deliver63" => worlds::delivered(rt.alloc(), 63, count),
+        "texts" => parsing::made(rt.alloc(), count),
+        "parse" => parsing::parsed(rt.alloc(), count),
         "nodes" => nodes::made(rt.alloc(), count).map(|_| count),
         "print" => nodes::printed(rt.alloc(), count),
         "compare" => nodes::compared(rt.alloc(), count),

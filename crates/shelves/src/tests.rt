@@ -7,7 +7,7 @@ ghost use Rattle.shelves.specs.Shelf.{shelf_trees};
 use crate::Shelf;
 use std::alloc::{AllocError, Global};
 use std::test::Fail;
-use trees::{Content, Forest, Kind, Names, NamesFault, NodeId, Tree};
+use trees::{Content, Forest, Kind, MakeFault, Names, NamesFault, NodeId, Tree};
 
 /// The texts, as a list of its own.
 fn list(alloc: Global, texts: &[&str]) -> Result<Vec<String>, AllocError> {
@@ -157,6 +157,77 @@ fn filled(alloc: Global) -> Result<Forest, Fail> {
         put_new(alloc, &mut forest, a, Kind::Text, "", "hi")?;
     }
     Ok(forest)
+}
+
+/// The forest of `filled`, whose element also has an attribute, 6.
+fn marked(alloc: Global) -> Result<Forest, Fail> {
+    let mut forest = filled(alloc)?;
+    let a = NodeId::new(4);
+    if forest.has(a) {
+        put_new(alloc, &mut forest, a, Kind::Attribute, "n", "1")?;
+    }
+    Ok(forest)
+}
+
+#[test]
+fn orders_a_tree(rt: HostRuntime) -> Result<(), Fail> {
+    let forest = marked(rt.alloc())?;
+    let ordered: [u64; 4] = [1, 4, 6, 5];
+    for (at, number) in ordered.iter().enumerate() {
+        for (other, later) in ordered.iter().enumerate() {
+            let (a, b) = (NodeId::new(*number), NodeId::new(*later));
+            assert!(rt; forest.has(a) && forest.has(b));
+            assert_eq!(rt; forest.before(a, b), at < other, "{number} {later}");
+        }
+    }
+    Ok(())
+}
+
+#[test]
+fn takes_out(rt: HostRuntime) -> Result<(), Fail> {
+    let mut forest = marked(rt.alloc())?;
+    let a = NodeId::new(4);
+    for number in [5, 6] {
+        let id = NodeId::new(number);
+        assert!(rt; forest.has(id));
+        assert!(rt; forest.parent(id).is_some());
+        forest.take_out(id);
+        assert!(rt; forest.has(id));
+        assert_eq!(rt; forest.parent(id), None);
+    }
+    assert!(rt; forest.has(a));
+    assert_eq!(rt; forest.children(a).len(), 0);
+    assert_eq!(rt; forest.attributes(a).len(), 0);
+    assert_eq!(rt; forest.len(), 5);
+    Ok(())
+}
+
+#[test]
+fn numbers_copies_in_document_order(rt: HostRuntime) -> Result<(), Fail> {
+    let alloc = rt.alloc();
+    let mut forest = marked(alloc)?;
+    let a = NodeId::new(4);
+    assert!(rt; forest.has(a));
+    let copy = forest.copy(alloc, a)?;
+    assert_eq!(rt; copy, NodeId::new(7));
+    assert!(rt; forest.has(copy));
+    assert_eq!(rt; forest.attributes(copy), [NodeId::new(8)].as_slice());
+    assert_eq!(rt; forest.children(copy), [NodeId::new(9)].as_slice());
+    Ok(())
+}
+
+#[test]
+fn makes_nodes_up_to_the_limit(rt: HostRuntime) -> Result<(), Fail> {
+    let alloc = rt.alloc();
+    let mut forest = Forest::empty(alloc, NodeId::new((1 << 62) - 1));
+    let last = forest.make(alloc, Kind::Element, String::new(alloc), String::new(alloc))?;
+    let more = forest.make(alloc, Kind::Element, String::new(alloc), String::new(alloc));
+    assert_eq!(rt; more.err(), Some(MakeFault::Limit));
+    assert!(rt; forest.has(last));
+    assert_eq!(rt; forest.copy(alloc, last).err(), Some(MakeFault::Limit));
+    assert_eq!(rt; forest.next(), NodeId::new(1 << 62));
+    assert_eq!(rt; forest.len(), 1);
+    Ok(())
 }
 
 /// Makes an own node and puts it below an own one, as an attribute or as the first child.

@@ -48,6 +48,32 @@ fn reads_integers(rt: HostRuntime) {
     }
 }
 
+/// The names of all codes, in the order of their numbers.
+const CODES: [&str; 45] = [
+    "XPST0003", "XPST0008", "XPST0017", "XQST0090", "XUST0001", "XPDY0002", "XPTY0004", "XPTY0018",
+    "XPTY0019", "XPTY0020", "FOAR0001", "FOAR0002", "FODC0002", "FORG0001", "FORG0006", "XQTY0024",
+    "XQDY0025", "XQDY0026", "XQDY0041", "XQDY0064", "XQDY0072", "XQDY0074", "XUTY0004", "XUTY0005",
+    "XUTY0006", "XUTY0007", "XUTY0008", "XUTY0010", "XUTY0011", "XUTY0012", "XUTY0022", "XUDY0009",
+    "XUDY0015", "XUDY0016", "XUDY0017", "XUDY0021", "XUDY0027", "XUDY0029", "XUDY0030", "PXQ0001",
+    "PXQ0002", "PXQ0003", "PXQ0004", "PXQ0005", "XQST0089",
+];
+
+#[test]
+fn numbers_codes(rt: HostRuntime) -> Result<(), Fail> {
+    let alloc = rt.alloc();
+    for number in 1..46u8 {
+        let code = Code::of_number(number);
+        assert_eq!(rt; code.map(Code::number), Some(number));
+        if let Some(code) = code {
+            let want = CODES[usize::from(number) - 1];
+            assert_eq!(rt; code.to_string(alloc)?.as_str(), want);
+        }
+    }
+    assert_eq!(rt; Code::of_number(0), None);
+    assert_eq!(rt; Code::of_number(46), None);
+    Ok(())
+}
+
 #[test]
 fn reads_booleans(rt: HostRuntime) {
     for (text, want) in [
@@ -88,35 +114,35 @@ fn letter(compared: Result<Option<bool>, Code>) -> char {
 }
 
 #[test]
-fn compares_each_pair_of_types_in_general(rt: HostRuntime) -> Result<(), Fail> {
+fn compares_each_pair_of_types(rt: HostRuntime) -> Result<(), Fail> {
     let alloc = rt.alloc();
     let samples = samples(alloc)?;
-    let rows = ["TXXTFF", "XTXTRT", "XXTTRR", "TTTTFF", "FRRFTF", "FTRFFT"];
-    for (left, want) in samples.chunks(1).zip(rows) {
-        let mut row = String::new(alloc);
+    let rows = [
+        ("TXXTFF", "TXXTFF"),
+        ("XTXTRT", "XTXXXX"),
+        ("XXTTRR", "XXTXXX"),
+        ("TTTTFF", "TXXTFF"),
+        ("FRRFTF", "FXXFTF"),
+        ("FTRFFT", "FXXFFT"),
+    ];
+    for (left, (want_in_general, want_by_value)) in samples.chunks(1).zip(rows) {
+        let mut in_general = String::new(alloc);
+        let mut by_value = String::new(alloc);
         for right in samples.chunks(1) {
             let mut turns = 1;
             let result = compare_general(Comparison::Equal, left, right, &mut turns);
             assert_eq!(rt; turns, 0);
-            row.push(letter(result.map(Some)))?;
+            in_general.push(letter(result.map(Some)))?;
+            by_value.push(letter(compare_value(Comparison::Equal, left, right)))?;
         }
-        assert_eq!(rt; row.as_str(), want);
+        assert_eq!(rt; in_general.as_str(), want_in_general);
+        assert_eq!(rt; by_value.as_str(), want_by_value);
     }
     Ok(())
 }
 
 #[test]
-fn compares_each_pair_of_types_by_value(rt: HostRuntime) -> Result<(), Fail> {
-    let alloc = rt.alloc();
-    let samples = samples(alloc)?;
-    let rows = ["TXXTFF", "XTXXXX", "XXTXXX", "TXXTFF", "FXXFTF", "FXXFFT"];
-    for (left, want) in samples.chunks(1).zip(rows) {
-        let mut row = String::new(alloc);
-        for right in samples.chunks(1) {
-            row.push(letter(compare_value(Comparison::Equal, left, right)))?;
-        }
-        assert_eq!(rt; row.as_str(), want);
-    }
+fn counts_compared_values(rt: HostRuntime) {
     let one = [Atom::Integer(1)];
     let two = [Atom::Integer(1), Atom::Integer(1)];
     let op = Comparison::Equal;
@@ -124,7 +150,6 @@ fn compares_each_pair_of_types_by_value(rt: HostRuntime) -> Result<(), Fail> {
     assert_eq!(rt; compare_value(op, &one, &[]), Ok(None));
     assert_eq!(rt; compare_value(op, &two, &[]), Err(Code::XPTY0004));
     assert_eq!(rt; compare_value(op, &[], &two), Err(Code::XPTY0004));
-    Ok(())
 }
 
 #[test]
@@ -209,18 +234,23 @@ fn calculates_to_both_ends(rt: HostRuntime) {
         (i64::MAX, Operator::Add, 1, overflow),
         (i64::MIN, Operator::Add, -1, overflow),
         (i64::MAX, Operator::Add, i64::MIN, Ok(Some(-1))),
+        (i64::MAX - 1, Operator::Add, 1, Ok(Some(i64::MAX))),
         (i64::MAX, Operator::Subtract, -1, overflow),
         (i64::MIN, Operator::Subtract, 1, overflow),
         (0, Operator::Subtract, i64::MIN, overflow),
+        (-1, Operator::Subtract, i64::MAX, Ok(Some(i64::MIN))),
         (i64::MAX, Operator::Multiply, 2, overflow),
         (i64::MIN, Operator::Multiply, 2, overflow),
         (i64::MIN, Operator::Multiply, -1, overflow),
         (i64::MIN, Operator::IntegerDivide, -1, overflow),
         (-7, Operator::IntegerDivide, 2, Ok(Some(-3))),
+        (7, Operator::IntegerDivide, -2, Ok(Some(-3))),
+        (-7, Operator::IntegerDivide, -2, Ok(Some(3))),
         (7, Operator::IntegerDivide, 0, Err(Code::FOAR0001)),
         (i64::MIN, Operator::Modulo, -1, Ok(Some(0))),
         (7, Operator::Modulo, -2, Ok(Some(1))),
         (-7, Operator::Modulo, 2, Ok(Some(-1))),
+        (-7, Operator::Modulo, -2, Ok(Some(-1))),
         (7, Operator::Modulo, 0, Err(Code::FOAR0001)),
     ] {
         let result = arithmetic(op, &[Atom::Integer(left)], &[Atom::Integer(right)]);
@@ -349,6 +379,28 @@ fn prints_each_kind(rt: HostRuntime) -> Result<(), Fail> {
         let shelf = Shelf::new(alloc, forest);
         assert!(rt; shelf.has(document));
         assert_eq!(rt; printed(alloc, &shelf, document)?.as_str(), want);
+    }
+    Ok(())
+}
+
+#[test]
+fn escapes_in_each_kind(rt: HostRuntime) -> Result<(), Fail> {
+    let alloc = rt.alloc();
+    for (kind, name, opening) in [
+        (Kind::Attribute, "a", "attribute a"),
+        (Kind::Text, "", "text"),
+        (Kind::Comment, "", "comment"),
+        (Kind::Instruction, "pi", "processing-instruction pi"),
+    ] {
+        let mut forest = Forest::empty(alloc, NodeId::new(1));
+        let name = String::from_str(alloc, name)?;
+        let text = String::from_str(alloc, "\"&\t\n\r<")?;
+        let id = forest.make(alloc, kind, name, text)?;
+        let shelf = Shelf::new(alloc, &forest);
+        assert!(rt; shelf.has(id));
+        let text = printed(alloc, &shelf, id)?;
+        let want = format!(in alloc; "{opening} {{\"\"\"&amp;&#9;&#10;&#13;<\"}}")?;
+        assert_eq!(rt; text.as_str(), want.as_str());
     }
     Ok(())
 }

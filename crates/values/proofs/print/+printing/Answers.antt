@@ -1,4 +1,4 @@
--- A node's text is made of its pieces.
+-- A node's text is made of its pieces. What both calls of `push_parts` require holds of either list, so their order is a matter of the text alone.
 use Rattle.std.proofs.Common.{◌≡◌, ◌++◌, arith, refl, sym, ◌∙◌, string_bytes, codes, rules}
 use Rattle.trees.specs.Trees.{find, attributes_of, children_of}
 use Rattle.shelves.specs.Shelf.{shelf_trees}
@@ -10,12 +10,12 @@ use Rattle.values.proofs.print.+printing.Goals.{push_node-then-is_inner+in_ok-pu
 pub push_node-push_parts-requires : goal.push_node-push_parts-requires
 push_node-push_parts-requires t c =
     let p = has-parts (shelf_trees c.args.shelf.now) c.args.id c.kind-kind.result c.name.result.now c.attributes-attributes.result.now c.children-children.result.now c.requires.distinct c.kind-kind.ensures c.name.ensures c.attributes-attributes.ensures c.children-children.ensures in
-    (omega arith, (p.attributes, c.requires.distinct))
+    (omega arith, (search (p.attributes, p.children), c.requires.distinct))
 
 pub push_node-push_parts-requires-then-is_inner : goal.push_node-push_parts-requires-then-is_inner
 push_node-push_parts-requires-then-is_inner t c =
     let p = has-parts (shelf_trees c.args.shelf.now) c.args.id c.kind-kind.result c.name.result.now c.attributes-attributes.result.now c.children-children.result.now c.requires.distinct c.kind-kind.ensures c.name.ensures c.attributes-attributes.ensures c.children-children.ensures in
-    (omega arith, (p.children, c.requires.distinct))
+    (omega arith, (search (p.attributes, p.children), c.requires.distinct))
 
 pub push_node-returns : goal.push_node-returns
 push_node-returns t c =
