@@ -1,10 +1,11 @@
 # `make` alone lists the targets.
 
-.PHONY: help demo test paxq measure examples bench sweep clean
+.PHONY: help demo test edits paxq measure examples bench sweep clean
 
 help:
 	@echo 'make demo      builds paxq without waiting for its proof, and runs examples/first.pxq'
 	@echo 'make test      proves everything from nothing and runs every test (the gate; last line "N passed, M failed")'
+	@echo 'make edits     tries every wrong body of CRATES (all, if none is named), also those that the gate leaves out for time'
 	@echo 'make paxq      proves paxq and what it stands on, and leaves the program at bin/paxq'
 	@echo 'make examples  runs bin/paxq on the examples and on input that it refuses'
 	@echo 'make measure   proves measure, which runs parts for the benchmarks, and leaves it at bin/measure'
@@ -18,6 +19,9 @@ demo:
 
 test:
 	rt ci
+
+edits:
+	.ci/edits $(CRATES)
 
 paxq:
 	cd crates/paxq && rt run -- run "$(CURDIR)/examples/first.pxq"
