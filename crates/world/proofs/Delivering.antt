@@ -1,5 +1,5 @@
 -- Events that change nothing of what is shown.
-use Rattle.std.proofs.Common.{◌≡◌, ◌≤◌, ℕ, Bool, refl, sym, subst, ap, ◌∙◌, Option, Some, None, ⊎_elim, length}
+use Rattle.std.proofs.Common.{◌≡◌, ◌≤◌, ℕ, Bool, refl, inl, sym, subst, ap, ◌∙◌, Option, Some, None, ⊎_elim, length}
 use Rattle.ballots.specs.Ballot.{most_members}
 use Rattle.ballots.specs.Messages.{Packet}
 use Rattle.member.specs.Drafts.{IsSpent}
@@ -11,7 +11,7 @@ use Rattle.paxos.specs.Step.{Running, Effect, on_message}
 use Rattle.paxos.specs.World.{World as Whole, Choice, Deliver, StopInDeliver, acts, delivers, keeps_in, settles, stops_in}
 use Rattle.paxos.proofs.Lists.{at_has}
 use Rattle.paxos.proofs.WellFormed.{Sound}
-use Rattle.world.specs.Reached.{Follows, Happened}
+use Rattle.world.specs.Reached.{Follows, HappenedIf}
 use Rattle.world.specs.Seats.{SkipsAt}
 use Rattle.world.specs.Shown.{World, AreSeats, Shows}
 use Rattle.world.proofs.Idling.{nobody_still, part_of, stopped_still}
@@ -21,7 +21,7 @@ use Rattle.world.proofs.Lifting.{idle}
 abbrev any : Choice
 any = record { fails = None; applied = 0 }
 
-module _ {R : Type 0} (stands : R → Record → Record → Type 0) (is_kept : R → Type 0) (app : Application) (n : ℕ) (few : n ≤ most_members) (w : World R) where
+module _ {R : Type 0} (stands : R → Record → Record → Type 0) (is_kept : R → Type 0) (Failed : Type 0) (app : Application) (n : ℕ) (few : n ≤ most_members) (w : World R) where
   -- an unknown number, or a message to no member
   pub unknown : (k : ℕ) → ((p : Packet) → at w.sent k ≡ Some p → at w.seats p.target ≡ None)
       → (how : (v : Whole) → Effect → Effect) (before : ℕ → Record) (v : Whole) → Sound n v → Shows w before v → delivers app v (how v) (at v.sent k) ≡ v
@@ -52,12 +52,12 @@ module _ {R : Type 0} (stands : R → Record → Record → Type 0) (is_kept : R
           (skips.2 x q))
 
   -- so for a delivery
-  pub unknown_delivery : (k : ℕ) → ((p : Packet) → at w.sent k ≡ Some p → at w.seats p.target ≡ None) → Follows stands is_kept (Sound n) (Happened app (Deliver k)) w w
-  unknown_delivery k none = idle (Happened app (Deliver k)) w (λ before v sound shows. (any, sym (unknown k none (λ v. settles (length v.members) any) before v sound shows)))
+  pub unknown_delivery : (k : ℕ) → ((p : Packet) → at w.sent k ≡ Some p → at w.seats p.target ≡ None) → Follows stands is_kept (Sound n) (HappenedIf Failed app (Deliver k)) w w
+  unknown_delivery k none = idle (HappenedIf Failed app (Deliver k)) w (λ before v sound shows. (any, inl refl, sym (unknown k none (λ v. settles (length v.members) any) before v sound shows)))
 
-  pub skipped_delivery : (k : ℕ) (p : Packet) → at w.sent k ≡ Some p → AreSeats n w.seats → SkipsAt w.seats p.target (Hears p) → Follows stands is_kept (Sound n) (Happened app (Deliver k)) w w
-  skipped_delivery k p is seats skips = idle (Happened app (Deliver k)) w (λ before v sound shows. (any, sym (skipped k p is seats skips (λ v. settles (length v.members) any) before v sound shows)))
+  pub skipped_delivery : (k : ℕ) (p : Packet) → at w.sent k ≡ Some p → AreSeats n w.seats → SkipsAt w.seats p.target (Hears p) → Follows stands is_kept (Sound n) (HappenedIf Failed app (Deliver k)) w w
+  skipped_delivery k p is seats skips = idle (HappenedIf Failed app (Deliver k)) w (λ before v sound shows. (any, inl refl, sym (skipped k p is seats skips (λ v. settles (length v.members) any) before v sound shows)))
 
   -- and for a stop in one
-  pub unknown_stop : (k : ℕ) (kept : Bool) → ((p : Packet) → at w.sent k ≡ Some p → at w.seats p.target ≡ None) → Follows stands is_kept (Sound n) (Happened app (StopInDeliver k kept)) w w
-  unknown_stop k kept none = idle (Happened app (StopInDeliver k kept)) w (λ before v sound shows. (any, sym (unknown k none (λ v. stops_in (keeps_in None kept)) before v sound shows)))
+  pub unknown_stop : (k : ℕ) (kept : Bool) → ((p : Packet) → at w.sent k ≡ Some p → at w.seats p.target ≡ None) → Follows stands is_kept (Sound n) (HappenedIf Failed app (StopInDeliver k kept)) w w
+  unknown_stop k kept none = idle (HappenedIf Failed app (StopInDeliver k kept)) w (λ before v sound shows. (any, inl refl, sym (unknown k none (λ v. stops_in (keeps_in None kept)) before v sound shows)))

@@ -1,19 +1,19 @@
 -- What each event does in the protocol's world is what a seat does.
-use Rattle.std.proofs.Common.{◌≡◌, ◌⊎◌, ℕ, Bool, true, false, refl, inl, inr, sym, subst, ap, ◌∙◌, Some, None, ⊎_elim, [], length, append-nil}
+use Rattle.std.proofs.Common.{◌≡◌, ◌⊎◌, ℕ, Bool, true, false, refl, inl, inr, sym, subst, ap, ◌∙◌, Option, Some, None, ⊎_elim, [], length, append-nil}
 use Rattle.std.specs.Prelude.{if◌then◌else◌}
 use Rattle.std.proofs.lemmas.Option.{same_Some}
 use Rattle.ballots.specs.Messages.{Packet}
 use Rattle.member.specs.Drafts.{IsSpent}
-use Rattle.member.specs.Steps.{Hears, Begins, Resends, CatchesUp, IsThis, Member, effect_of}
+use Rattle.member.specs.Steps.{Input, Hears, Begins, Resends, CatchesUp, IsThis, Member, effect_of}
 use Rattle.paxos.specs.Lists.{at}
 use Rattle.paxos.specs.Application.{Application}
 use Rattle.paxos.specs.Records.{Record, Nothing}
 use Rattle.paxos.specs.Step.{Running, Effect, quiet, may_begin, begins}
-use Rattle.paxos.specs.World.{World as Whole, Member as Part, Choice, Deliver, Begin, Resend, CatchUp, StopInDeliver, StopInBegin, Stop, Start, acts, after, delivers, restarts, settles, started, starts, stops_in, keeps_in}
+use Rattle.paxos.specs.World.{World as Whole, Member as Part, Event as Happens, Choice, Deliver, Begin, Resend, CatchUp, StopInDeliver, StopInBegin, Stop, Start, acts, after, delivers, restarts, settles, started, starts, stops_in, keeps_in}
 use Rattle.paxos.proofs.Worlds.{acts-there, put-same}
-use Rattle.world.specs.Seats.{MayStart, MayStay, MayStep, MayStop, MayStopIn}
+use Rattle.world.specs.Seats.{FailsOnlyIf, Skips, MayStart, MayStay, MayStep, MayStop, MayStopIn}
 use Rattle.world.specs.Shown.{World}
-use Rattle.world.specs.Reached.{Happened, Stays, Steps}
+use Rattle.world.specs.Reached.{Happened, HappenedIf, Stays, Steps}
 use Rattle.world.specs.declared.seat.Seat.{Seat}
 
 -- a step in which nothing happens
@@ -24,7 +24,30 @@ stay_same v m y h = rw (put-same v.members m y h) (simp append-nil)
 pub stayed : {R : Type 0} (old : World R) (s : Seat R) (m : ℕ) (v z : Whole) → Steps old s m MayStay v z → Stays v z
 stayed old s m v z t = t.is ∙ ap (after v m t.part.kept) t.may ∙ stay_same v m t.part t.there
 
-module _ {R : Type 0} (app : Application) (n : ℕ) (old : World R) (s : Seat R) (m : ℕ) (len : length old.seats ≡ n) where
+-- a store that fails only if one has failed fails only if what that comes to holds
+pub only_if : (Failed Other : Type 0) → (Failed → Other) → (fails : Option Bool) → FailsOnlyIf Failed fails → FailsOnlyIf Other fails
+only_if Failed Other into fails f = ⊎_elim (λ (q : fails ≡ None). inl q) (λ (q : Failed). inr (into q)) f
+
+-- so for an event
+pub happened_if : (Failed Other : Type 0) → (Failed → Other) → (app : Application) (e : Happens) (v z : Whole) → HappenedIf Failed app e v z → HappenedIf Other app e v z
+happened_if Failed Other into app e v z h = (h.0, only_if Failed Other into h.0.fails h.1, h.2)
+
+-- so for steps, stops in a write, and starts
+pub step_if : (Failed Other : Type 0) → (Failed → Other) → (app : Application) (n m : ℕ) (i : Input) (y : Part) (e : Effect) → MayStep Failed app n m i y e → MayStep Other app n m i y e
+step_if Failed Other into app n m i y e t = (t.0, t.1, t.2, only_if Failed Other into t.2.fails t.3, t.4)
+
+pub stop_if : (Failed Other : Type 0) → (Failed → Other) → (app : Application) (n m : ℕ) (i : Input) (kept : Bool) (y : Part) (e : Effect)
+    → MayStopIn Failed app n m i kept y e → MayStopIn Other app n m i kept y e
+stop_if Failed Other into app n m i kept y e t = (t.0, t.1, t.2, only_if Failed Other into t.2 t.3, t.4)
+
+pub start_if : (Failed Other : Type 0) → (Failed → Other) → (y : Part) (e : Effect) → MayStart Failed y e → MayStart Other y e
+start_if Failed Other into y e t = (t.0, ⊎_elim (λ (q : e ≡ quiet started). inl q) (λ (q : Failed × MayStay y e). inr (into q.0, q.1)) t.1)
+
+-- it has happened, in any case
+pub happened : (Failed : Type 0) (app : Application) (e : Happens) (v z : Whole) → HappenedIf Failed app e v z → Happened app e v z
+happened Failed app e v z h = (h.0, h.2)
+
+module _ {R : Type 0} (Failed : Type 0) (app : Application) (n : ℕ) (old : World R) (s : Seat R) (m : ℕ) (len : length old.seats ≡ n) where
   -- a running member that is there
   there_runs : (v : Whole) (y : Part) (u : Running) → at v.members m ≡ Some y → y.running ≡ Some u → at v.members m ≡ Some (record { kept = y.kept; running = Some u })
   there_runs v y u h r = h ∙ ap (λ o. Some (record { kept = y.kept; running = o })) r
@@ -42,61 +65,66 @@ module _ {R : Type 0} (app : Application) (n : ℕ) (old : World R) (s : Seat R)
       ∙ ap (delivers app v how) (sym (ap (λ xs. at xs k) sent ∙ is))
 
   -- a delivery
-  pub delivers_step : (k : ℕ) (p : Packet) → at old.sent k ≡ Some p → p.target ≡ m → (v z : Whole) → Steps old s m (MayStep app n m (Hears p)) v z → Happened app (Deliver k) v z
+  pub delivers_step : (k : ℕ) (p : Packet) → at old.sent k ≡ Some p → p.target ≡ m → (v z : Whole) → Steps old s m (MayStep Failed app n m (Hears p)) v z → HappenedIf Failed app (Deliver k) v z
   delivers_step k p is target v z t =
       let u = t.may.0 in
       let c = t.may.2 in (
         c,
+        t.may.3,
         delivered k p is target v t.sent (settles (length v.members) c) z
             (acted v z t.part u t.effect (λ r w. settles (length v.members) c (effect_of app (length v.members) m r w (Hears p))) t.there t.may.1
-            (t.may.3 ∙ rw (sym len) (rw (sym t.size) refl)) t.is),
+            (t.may.4 ∙ rw (sym len) (rw (sym t.size) refl)) t.is),
       )
 
   -- a stop in a delivery
-  pub stops_in_delivery : (k : ℕ) (p : Packet) (kept : Bool) → at old.sent k ≡ Some p → p.target ≡ m → (v z : Whole) → Steps old s m (MayStopIn app n m (Hears p) kept) v z → Happened app (StopInDeliver k kept) v z
+  pub stops_in_delivery : (k : ℕ) (p : Packet) (kept : Bool) → at old.sent k ≡ Some p → p.target ≡ m → (v z : Whole) → Steps old s m (MayStopIn Failed app n m (Hears p) kept) v z → HappenedIf Failed app (StopInDeliver k kept) v z
   stops_in_delivery k p kept is target v z t =
       let u = t.may.0 in
       let c : Choice = record { fails = t.may.2; applied = 0 } in (
         c,
+        t.may.3,
         delivered k p is target v t.sent (stops_in (keeps_in c.fails kept)) z
             (acted v z t.part u t.effect (λ r w. stops_in (keeps_in c.fails kept) (effect_of app (length v.members) m r w (Hears p))) t.there t.may.1
-            (t.may.3 ∙ rw (sym len) (rw (sym t.size) refl)) t.is),
+            (t.may.4 ∙ rw (sym len) (rw (sym t.size) refl)) t.is),
       )
 
   -- the tick Resend
-  pub resends : (v z : Whole) → Steps old s m (MayStep app n m Resends) v z → Happened app (Resend m) v z
+  pub resends : (v z : Whole) → Steps old s m (MayStep Failed app n m Resends) v z → HappenedIf Failed app (Resend m) v z
   resends v z t =
       let c = t.may.2 in (
         c,
+        t.may.3,
         acted v z t.part t.may.0 t.effect (λ r w. settles (length v.members) c (effect_of app (length v.members) m r w Resends)) t.there t.may.1
-            (t.may.3 ∙ rw (sym len) (rw (sym t.size) refl)) t.is,
+            (t.may.4 ∙ rw (sym len) (rw (sym t.size) refl)) t.is,
       )
 
   -- the tick CatchUp
-  pub catches_up : (v z : Whole) → Steps old s m (MayStep app n m CatchesUp) v z → Happened app (CatchUp m) v z
+  pub catches_up : (v z : Whole) → Steps old s m (MayStep Failed app n m CatchesUp) v z → HappenedIf Failed app (CatchUp m) v z
   catches_up v z t =
       let c = t.may.2 in (
         c,
+        t.may.3,
         acted v z t.part t.may.0 t.effect (λ r w. settles (length v.members) c (effect_of app (length v.members) m r w CatchesUp)) t.there t.may.1
-            (t.may.3 ∙ rw (sym len) (rw (sym t.size) refl)) t.is,
+            (t.may.4 ∙ rw (sym len) (rw (sym t.size) refl)) t.is,
       )
 
   -- a stop in a Begin
-  pub stops_in_begin : (kept : Bool) (v z : Whole) → Steps old s m (MayStopIn app n m Begins kept) v z → Happened app (StopInBegin m kept) v z
+  pub stops_in_begin : (kept : Bool) (v z : Whole) → Steps old s m (MayStopIn Failed app n m Begins kept) v z → HappenedIf Failed app (StopInBegin m kept) v z
   stops_in_begin kept v z t =
       let c : Choice = record { fails = t.may.2; applied = 0 } in (
         c,
+        t.may.3,
         acted v z t.part t.may.0 t.effect (λ r w. stops_in (keeps_in c.fails kept) (effect_of app (length v.members) m r w Begins)) t.there t.may.1
-            (t.may.3 ∙ rw (sym len) (rw (sym t.size) refl)) t.is,
+            (t.may.4 ∙ rw (sym len) (rw (sym t.size) refl)) t.is,
       )
 
   -- a stop
-  pub stops : (v z : Whole) → Steps old s m MayStop v z → Happened app (Stop m) v z
-  stops v z t = (record { fails = None; applied = 0 }, acted v z t.part t.may.0 t.effect (λ r w. stops_in false (quiet w)) t.there t.may.1 t.may.2 t.is)
+  pub stops : (v z : Whole) → Steps old s m MayStop v z → HappenedIf Failed app (Stop m) v z
+  stops v z t = (record { fails = None; applied = 0 }, inl refl, acted v z t.part t.may.0 t.effect (λ r w. stops_in false (quiet w)) t.there t.may.1 t.may.2 t.is)
 
   -- a ballot that can begin
   pub begins_step : (x : Member _) → s.member ≡ Some x → x.members ≡ n → ((u : Running) → IsThis u x → IsSpent x u Begins → ⊥)
-      → (v z : Whole) → Steps old s m (MayStep app n m Begins) v z → Happened app (Begin m) v z
+      → (v z : Whole) → Steps old s m (MayStep Failed app n m Begins) v z → HappenedIf Failed app (Begin m) v z
   begins_step x there place due v z t =
       let c = t.may.2 in
       let known = t.is_part.running x there in
@@ -107,8 +135,9 @@ module _ {R : Type 0} (app : Application) (n : ℕ) (old : World R) (s : Seat R)
       (subst (λ r. may_begin n r t.may.0 ≡ false) (t.is_part.kept_is ∙ known.3) h)))))
       (bool_cases (may_begin n t.part.kept t.may.0)) in (
         c,
+        t.may.3,
         acted v z t.part t.may.0 t.effect (λ r w. if may_begin (length v.members) r w then settles (length v.members) c (begins (length v.members) m r w) else quiet w) t.there t.may.1
-            (t.may.3 ∙ ap (λ b. settles n c (if b then begins n m t.part.kept t.may.0 else quiet t.may.0)) may
+            (t.may.4 ∙ ap (λ b. settles n c (if b then begins n m t.part.kept t.may.0 else quiet t.may.0)) may
             ∙ sym (ap (λ b. if b then settles n c (begins n m t.part.kept t.may.0) else quiet t.may.0) may)
             ∙ rw (sym len) (rw (sym t.size) refl)) t.is,
       )
@@ -117,28 +146,48 @@ module _ {R : Type 0} (app : Application) (n : ℕ) (old : World R) (s : Seat R)
       bool_cases true = inl refl
       bool_cases false = inr refl
 
-  -- a stop where nothing is written, in a delivery
-  pub stops_at_delivery : (k : ℕ) (p : Packet) (kept : Bool) → at old.sent k ≡ Some p → p.target ≡ m → (v z : Whole) → Steps old s m MayStop v z → Happened app (StopInDeliver k kept) v z
-  stops_at_delivery k p kept is target v z t =
-      let c : Choice = record { fails = Some false; applied = 0 } in (
-        c,
-        delivered k p is target v t.sent (stops_in false) z
-            (acted v z t.part t.may.0 t.effect (λ r w. stops_in false (effect_of app (length v.members) m r w (Hears p))) t.there t.may.1 t.may.2 t.is),
-      )
+  -- a stop whose write is lost, in a delivery
+  pub stops_at_delivery : (k : ℕ) (p : Packet) → at old.sent k ≡ Some p → p.target ≡ m → (v z : Whole) → Steps old s m MayStop v z → HappenedIf Failed app (StopInDeliver k false) v z
+  stops_at_delivery k p is target v z t = (
+    record { fails = None; applied = 0 },
+    inl refl,
+    delivered k p is target v t.sent (stops_in false) z
+        (acted v z t.part t.may.0 t.effect (λ r w. stops_in false (effect_of app (length v.members) m r w (Hears p))) t.there t.may.1 t.may.2 t.is),
+  )
 
   -- and in a Begin
-  pub stops_at_begin : (kept : Bool) (v z : Whole) → Steps old s m MayStop v z → Happened app (StopInBegin m kept) v z
-  stops_at_begin kept v z t =
-      (record { fails = Some false; applied = 0 }, acted v z t.part t.may.0 t.effect (λ r w. stops_in false (effect_of app (length v.members) m r w Begins)) t.there t.may.1 t.may.2 t.is)
+  pub stops_at_begin : (v z : Whole) → Steps old s m MayStop v z → HappenedIf Failed app (StopInBegin m false) v z
+  stops_at_begin v z t = (
+    record { fails = None; applied = 0 },
+    inl refl,
+    acted v z t.part t.may.0 t.effect (λ r w. stops_in false (effect_of app (length v.members) m r w Begins)) t.there t.may.1 t.may.2 t.is,
+  )
+
+  -- a stop in a Begin that writes nothing, since no ballot can begin
+  pub stops_unbegun : Skips s Begins → (x : Member R) → s.member ≡ Some x → x.members ≡ n → (v z : Whole) → Steps old s m MayStop v z → HappenedIf Failed app (StopInBegin m true) v z
+  stops_unbegun skips x there place v z t =
+      let known = t.is_part.running x there in
+      let same : known.0 ≡ t.may.0 = same_Some known.0 t.may.0 (sym known.1 ∙ t.may.1) in
+      let spent : may_begin x.members x.acceptor.kept known.0 ≡ false =
+      ⊎_elim (λ (f : Unit {0} → ⊥). absurd (f tt)) (λ (f : (u : Running) → IsThis u x → may_begin x.members x.acceptor.kept u ≡ false). f known.0 known.2) (skips x there) in
+      let may : may_begin (length v.members) t.part.kept t.may.0 ≡ false =
+      subst (λ w. may_begin (length v.members) t.part.kept w ≡ false) same (subst (λ j. may_begin j t.part.kept known.0 ≡ false) (place ∙ sym len ∙ sym t.size)
+      (subst (λ r. may_begin x.members r known.0 ≡ false) (sym (t.is_part.kept_is ∙ known.3)) spent)) in (
+        record { fails = None; applied = 0 },
+        inl refl,
+        acted v z t.part t.may.0 t.effect (λ r w. stops_in true (effect_of app (length v.members) m r w Begins)) t.there t.may.1
+            (t.may.2 ∙ ap (λ b. stops_in true (if b then begins (length v.members) m t.part.kept t.may.0 else quiet t.may.0)) (sym may)) t.is,
+      )
 
   -- a start, or a store that fails to give the record
-  pub starts_step : (v z : Whole) → Steps old s m MayStart v z → Happened app (Start m) v z
+  pub starts_step : (v z : Whole) → Steps old s m (MayStart Failed) v z → HappenedIf Failed app (Start m) v z
   starts_step v z t = ⊎_elim
       (λ (e : t.effect ≡ quiet started).
-      (record { fails = None; applied = 0 }, t.is ∙ ap (after v m t.part.kept) e ∙ sym (ap (restarts v None m t.part.kept) t.may.0) ∙ sym (ap (starts v None m) t.there)))
-      (λ (e : MayStay t.part t.effect). (
+      (record { fails = None; applied = 0 }, inl refl, t.is ∙ ap (after v m t.part.kept) e ∙ sym (ap (restarts v None m t.part.kept) t.may.0) ∙ sym (ap (starts v None m) t.there)))
+      (λ (e : Failed × MayStay t.part t.effect). (
         record { fails = Some false; applied = 0 },
-        t.is ∙ ap (after v m t.part.kept) e ∙ stay_same v m t.part t.there
+        inr e.0,
+        t.is ∙ ap (after v m t.part.kept) e.1 ∙ stay_same v m t.part t.there
             ∙ sym (ap (restarts v (Some false) m t.part.kept) t.may.0) ∙ sym (ap (starts v (Some false) m) t.there),
       ))
       t.may.1

@@ -96,13 +96,13 @@ module _ {R : Type 0} (n : ℕ) (few : n ≤ most_members) (old : World R) (m : 
       (sound.sent p (subst (λ xs. Has xs p) (sym shows.sent) d.0), subst (λ j. IsExpected y.kept j) q (may_hear i due y h))
 
   -- a step upon what is due asks nothing
-  pub asks_nothing : (app : Application) (i : Input) → IsDue old m i → (y : Part) (e : Effect) (sends : List Send) → at v.members m ≡ Some y → MayStep app n m i y e
+  pub asks_nothing : (Failed : Type 0) (app : Application) (i : Input) → IsDue old m i → (y : Part) (e : Effect) (sends : List Send) → at v.members m ≡ Some y → MayStep Failed app n m i y e
       → e.sends ≡ all_packets n m sends → (k : Packet) → Has (all_packets n m sends) k → IsNoQuestion k.body
-  asks_nothing app i due y e sends h may q k o =
+  asks_nothing Failed app i due y e sends h may q k o =
       let number = at_number v.members m y h in
       let step = step_is app n m i y.kept may.0 number.0 (subst (λ j. m ≤ j) sound.size number.1) few (may_come i due y h) (sound.runs m y may.0 h may.1) in
       no_question_of n m k number.0 (sent_by_self n m sends k o)
-      (step.sends k (settled_sends n may.2 (effect_of app n m y.kept may.0 i) k (subst (λ (x : Effect). Has x.sends k) may.3 (subst (λ xs. Has xs k) (sym q) o))))
+      (step.sends k (settled_sends n may.2 (effect_of app n m y.kept may.0 i) k (subst (λ (x : Effect). Has x.sends k) may.4 (subst (λ xs. Has xs k) (sym q) o))))
 
   -- the part of a seat
   pub part_of : (s : Seat R) → at old.seats m ≡ Some s → (y : Part) × (at v.members m ≡ Some y) × IsPart s (before m) y

@@ -126,6 +126,22 @@ module _ {R : Type 0} (stands : R → Record → Record → Type 0) (is_kept : R
         no_question = λ k h. ⊎_elim (λ (o : Has old.sent k). shows.no_question k o) (λ (o : Has sends k). no_question (with now r) v y e may shows here does sends_are k o) (has_cases old.sent sends k h);
       }
 
+-- a seat that moves so, moves as that comes to
+pub moves_so : {R : Type 0} {stands : R → Record → Record → Type 0} {is_kept : R → Type 0} {Given : Part → Type 0} {s t : Seat R} {sends : List Packet} {tells : List Pair} (May Other : Part → Effect → Type 0)
+    → ((y : Part) (e : Effect) → May y e → Other y e) → Moves stands is_kept Given May s t sends tells → Moves stands is_kept Given Other s t sends tells
+moves_so May Other into moves = record {
+  kept = moves.kept;
+  changes = λ k a b stand.
+      let one = moves.changes k a b stand in (
+        one.0,
+        one.1,
+        one.2,
+        λ r q.
+            let own = one.3 r q in
+            (own.0, own.1, λ y given part. let did = own.2 y given part in (did.0, into y did.0 did.1, did.2, did.3, did.4)),
+      );
+}
+
 module _ {R : Type 0} {stands : R → Record → Record → Type 0} {is_kept : R → Type 0} {MayBe : Whole → Type 0} where
   -- What follows one change and then another.
   pub joined : (Next : Whole → Whole → Type 0) (old mid end : World R) → Follows stands is_kept MayBe Stays old mid → Follows stands is_kept MayBe Next mid end → Follows stands is_kept MayBe Next old end
@@ -151,9 +167,10 @@ module _ {R : Type 0} {stands : R → Record → Record → Type 0} {is_kept : R
         );
   }
 
-  -- What follows a change follows what that comes to.
-  pub so : (One Other : Whole → Whole → Type 0) (old end : World R) → ((v z : Whole) → MayBe v → One v z → Other v z) → Follows stands is_kept MayBe One old end → Follows stands is_kept MayBe Other old end
-  so One Other old end into f = record {
+  -- What follows a change follows what that comes to in a world that was shown.
+  pub so_shown : (One Other : Whole → Whole → Type 0) (old end : World R) → ((before : ℕ → Record) (v z : Whole) → MayBe v → Shows old before v → One v z → Other v z)
+      → Follows stands is_kept MayBe One old end → Follows stands is_kept MayBe Other old end
+  so_shown One Other old end into f = record {
     members = f.members;
     kept = f.kept;
     changes = λ k a b stand.
@@ -163,9 +180,13 @@ module _ {R : Type 0} {stands : R → Record → Record → Type 0} {is_kept : R
           one.2,
           λ now p.
               let first = one.3 now p in
-              (first.0, first.1, λ v may shows. let was = first.2 v may shows in (was.0, into v was.0 may was.1, was.2)),
+              (first.0, first.1, λ v may shows. let was = first.2 v may shows in (was.0, into first.0 v was.0 may shows was.1, was.2)),
         );
   }
+
+  -- so in any
+  pub so : (One Other : Whole → Whole → Type 0) (old end : World R) → ((v z : Whole) → MayBe v → One v z → Other v z) → Follows stands is_kept MayBe One old end → Follows stands is_kept MayBe Other old end
+  so One Other old end into f = so_shown One Other old end (λ before v z may shows one. into v z may one) f
 
   -- What has not changed follows what changes nothing.
   pub idle : (Next : Whole → Whole → Type 0) (old : World R) → ((before : ℕ → Record) (v : Whole) → MayBe v → Shows old before v → Next v v) → Follows stands is_kept MayBe Next old old

@@ -1,5 +1,5 @@
 -- From a change of what code holds to the lists of events that lead to it.
-use Rattle.std.proofs.Common.{◌≡◌, ℕ, ◌≤◌, refl, sym, subst, ◌∙◌, inr, List, [], ◌∷◌, ◌++◌, length, IsSome, Some, None, Option}
+use Rattle.std.proofs.Common.{◌≡◌, ℕ, ◌≤◌, refl, sym, subst, ◌∙◌, inl, inr, ⊎_elim, List, [], ◌∷◌, ◌++◌, length, IsSome, Some, None, Option}
 use Rattle.std.proofs.lemmas.Option.{none-some, same_Some}
 use Rattle.ballots.specs.Ballot.{most_members}
 use Rattle.member.specs.Steps.{Member}
@@ -17,7 +17,7 @@ use Rattle.straight_runs.proofs.Smooth.{smooth_more, smooth_run}
 use Rattle.world.specs.Runs.{AllRun}
 use Rattle.world.specs.Seats.{IsPart, IsSeat}
 use Rattle.world.specs.Shown.{World, AreKept, AreSeats, Shows}
-use Rattle.world.specs.Reached.{Follows, Happened, Reached, ReachedBy, ReachedSmoothly, Stays}
+use Rattle.world.specs.Reached.{Follows, Happened, HappenedIf, Reached, ReachedBy, ReachedSmoothly, Stays}
 use Rattle.world.specs.declared.seat.Seat.{Seat}
 use Rattle.world.proofs.Given.{some_there}
 use Rattle.world.proofs.Lifting.{some_at}
@@ -90,7 +90,20 @@ module _ {R : Type 0} (stands : R → Record → Record → Type 0) (is_kept : R
           let t = seat_of now z m y s h in
           runs_at t.0 (now m) y (run m t.0 t.1) t.2
 
-      -- An event more leads smoothly to what follows it, where each member runs then.
+      -- An event more leads smoothly to what follows it, where no store can have failed.
+      pub reaches_surely : (Failed : Type 0) → (Failed → ⊥) → (e : Happens) → Follows stands is_kept (Sound old.members) (HappenedIf Failed app e) old new
+          → ReachedSmoothly stands app old events → ReachedSmoothly stands app new (events ++ e ∷ [])
+      reaches_surely Failed never e f was = led (SmoothRun app old.members events) (SmoothRun app new.members (events ++ e ∷ [])) (HappenedIf Failed app e)
+          (λ v r. reached_sound app old.members few events v (smooth_run app old.members events v r))
+          (λ v z now r h s.
+          let shown : Shows new now (happens app v h.0 e) = subst (Shows new now) h.2 s in
+          let none : h.0.fails ≡ None = ⊎_elim (λ (q : h.0.fails ≡ None). q) (λ (q : Failed). absurd (never q)) h.1 in
+          subst (λ n. SmoothRun app n (events ++ e ∷ []) z) (sym f.members)
+          (subst (SmoothRun app old.members (events ++ e ∷ [])) (sym h.2)
+          (smooth_more app old.members events v e h.0 r (inl none) (all_applied now (happens app v h.0 e) shown))))
+          was f
+
+      -- So it does where each member runs then.
       pub reaches_smoothly : (e : Happens) → AllRun new → Follows stands is_kept (Sound old.members) (Happened app e) old new → ReachedSmoothly stands app old events → ReachedSmoothly stands app new (events ++ e ∷ [])
       reaches_smoothly e run f was = led (SmoothRun app old.members events) (SmoothRun app new.members (events ++ e ∷ [])) (Happened app e)
           (λ v r. reached_sound app old.members few events v (smooth_run app old.members events v r))

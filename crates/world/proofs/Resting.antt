@@ -14,7 +14,7 @@ use Rattle.paxos.specs.World.{World as Whole, Member as Part, Choice, Begin, Cat
 use Rattle.paxos.proofs.Lists.{has_cases}
 use Rattle.paxos.proofs.WellFormed.{Sound}
 use Rattle.paxos.proofs.Worlds.{acts-there, quiet-same}
-use Rattle.world.specs.Reached.{Follows, Happened, IsDue, Steps, event_of}
+use Rattle.world.specs.Reached.{Follows, HappenedIf, IsDue, Steps, event_of}
 use Rattle.world.specs.Seats.{IsPlanned, IsSeat, MayStep, Skips, ticked}
 use Rattle.world.specs.Shown.{World, Shows}
 use Rattle.world.specs.declared.event.Event.TheVariants as event
@@ -35,10 +35,10 @@ due_tick w m tick.Begin = tt
 due_tick w m tick.Resend = tt
 due_tick w m tick.CatchUp = tt
 
-module _ {R : Type 0} (stands : R → Record → Record → Type 0) (is_kept : R → Type 0) (app : Application) (n : ℕ) (few : n ≤ most_members) (w : World R) (m : ℕ) (s : Seat R) (there : at w.seats m ≡ Some s) where
+module _ {R : Type 0} (stands : R → Record → Record → Type 0) (is_kept : R → Type 0) (Failed : Type 0) (app : Application) (n : ℕ) (few : n ≤ most_members) (w : World R) (m : ℕ) (s : Seat R) (there : at w.seats m ≡ Some s) where
   -- a tick of which nothing comes
-  pub skipped_tick : (t : Tick) → IsSeat n m s → Skips s (ticked t) → Follows stands is_kept (Sound n) (Happened app (event_of (event.Tick m t))) w w
-  skipped_tick tick.Begin seat skips = idle (Happened app (Begin m)) w (λ before v sound shows. (any, sym (one before v sound shows s.member refl)))
+  pub skipped_tick : (t : Tick) → IsSeat n m s → Skips s (ticked t) → Follows stands is_kept (Sound n) (HappenedIf Failed app (event_of (event.Tick m t))) w w
+  skipped_tick tick.Begin seat skips = idle (HappenedIf Failed app (Begin m)) w (λ before v sound shows. (any, inl refl, sym (one before v sound shows s.member refl)))
     where
       one : (before : ℕ → Record) (v : Whole) → Sound n v → Shows w before v → (o : Option (Member R)) → s.member ≡ o → acts v m (begins_in v any m) ≡ v
       one before v sound shows None q = stopped_still n few w m before v sound shows s there q (begins_in v any m)
@@ -52,13 +52,13 @@ module _ {R : Type 0} (stands : R → Record → Record → Type 0) (is_kept : R
           acts-there v m y.0.kept u.0 (begins_in v any m) h
           ∙ ap (λ (e : Effect). Rattle.paxos.specs.World.after v m y.0.kept e) (ap (λ b. if b then settles (length v.members) any (begins (length v.members) m y.0.kept u.0) else quiet u.0) here)
           ∙ quiet-same v m y.0.kept u.0 h
-  skipped_tick tick.Resend seat skips = idle (Happened app (Resend m)) w (λ before v sound shows. (any, sym (one before v sound shows s.member refl)))
+  skipped_tick tick.Resend seat skips = idle (HappenedIf Failed app (Resend m)) w (λ before v sound shows. (any, inl refl, sym (one before v sound shows s.member refl)))
     where
       one : (before : ℕ → Record) (v : Whole) → Sound n v → Shows w before v → (o : Option (Member R)) → s.member ≡ o → acts v m (λ r u. settles (length v.members) any (on_resend (length v.members) m u)) ≡ v
       one before v sound shows None q = stopped_still n few w m before v sound shows s there q (λ r u. settles (length v.members) any (on_resend (length v.members) m u))
       one before v sound shows (Some x) q = let y = part_of n few w m before v sound shows s there in let u = y.2.running x q in
           absurd (⊎_elim (λ (f : Unit {0} → ⊥). f tt) (λ (f : (u : Running) → IsThis u x → ⊥). f u.0 u.2) (skips x q))
-  skipped_tick tick.CatchUp seat skips = idle (Happened app (CatchUp m)) w (λ before v sound shows. (any, sym (one before v sound shows s.member refl)))
+  skipped_tick tick.CatchUp seat skips = idle (HappenedIf Failed app (CatchUp m)) w (λ before v sound shows. (any, inl refl, sym (one before v sound shows s.member refl)))
     where
       one : (before : ℕ → Record) (v : Whole) → Sound n v → Shows w before v → (o : Option (Member R)) → s.member ≡ o → acts v m (λ r u. settles (length v.members) any (on_catch_up_tick (length v.members) m u)) ≡ v
       one before v sound shows None q = stopped_still n few w m before v sound shows s there q (λ r u. settles (length v.members) any (on_catch_up_tick (length v.members) m u))
@@ -66,27 +66,29 @@ module _ {R : Type 0} (stands : R → Record → Record → Type 0) (is_kept : R
           absurd (⊎_elim (λ (f : Unit {0} → ⊥). f tt) (λ (f : (u : Running) → IsThis u x → ⊥). f u.0 u.2) (skips x q))
 
   -- a tick that is a step
-  pub tick_step : (t : Tick) (d : Draft) → length w.seats ≡ n → IsSeat n m s → IsPlanned s (ticked t) d → (v z : Whole) → Steps w s m (MayStep app n m (ticked t)) v z → Happened app (event_of (event.Tick m t)) v z
-  tick_step tick.Begin d len seat planned v z step = begins_step app n w s m len planned.member planned.there (seat planned.member planned.there).0 planned.due v z step
-  tick_step tick.Resend d len seat planned v z step = resends app n w s m len v z step
-  tick_step tick.CatchUp d len seat planned v z step = catches_up app n w s m len v z step
+  pub tick_step : (t : Tick) (d : Draft) → length w.seats ≡ n → IsSeat n m s → IsPlanned s (ticked t) d → (v z : Whole) → Steps w s m (MayStep Failed app n m (ticked t)) v z → HappenedIf Failed app (event_of (event.Tick m t)) v z
+  tick_step tick.Begin d len seat planned v z step = begins_step Failed app n w s m len planned.member planned.there (seat planned.member planned.there).0 planned.due v z step
+  tick_step tick.Resend d len seat planned v z step = resends Failed app n w s m len v z step
+  tick_step tick.CatchUp d len seat planned v z step = catches_up Failed app n w s m len v z step
 
   -- a stop of a member that is stopped
-  pub stopped_stop : s.member ≡ None → Follows stands is_kept (Sound n) (Happened app (Stop m)) w w
-  stopped_stop none = idle (Happened app (Stop m)) w (λ before v sound shows. (any, sym (stopped_still n few w m before v sound shows s there none (λ r u. stops_in false (quiet u)))))
+  pub stopped_stop : s.member ≡ None → Follows stands is_kept (Sound n) (HappenedIf Failed app (Stop m)) w w
+  stopped_stop none = idle (HappenedIf Failed app (Stop m)) w (λ before v sound shows. (any, inl refl, sym (stopped_still n few w m before v sound shows s there none (λ r u. stops_in false (quiet u)))))
 
   -- and in a Begin
-  pub stopped_begin : (kept : Bool) → s.member ≡ None → Follows stands is_kept (Sound n) (Happened app (StopInBegin m kept)) w w
-  stopped_begin kept none = idle (Happened app (StopInBegin m kept)) w (λ before v sound shows. (
+  pub stopped_begin : (kept : Bool) → s.member ≡ None → Follows stands is_kept (Sound n) (HappenedIf Failed app (StopInBegin m kept)) w w
+  stopped_begin kept none = idle (HappenedIf Failed app (StopInBegin m kept)) w (λ before v sound shows. (
     any,
+    inl refl,
     sym (stopped_still n few w m before v sound shows s there none
         (λ r u. stops_in (keeps_in None kept) (on_begin (length v.members) m r u))),
   ))
 
   -- and in a delivery
-  pub stopped_delivery : (k : ℕ) (p : Packet) (kept : Bool) → at w.sent k ≡ Some p → p.target ≡ m → s.member ≡ None → Follows stands is_kept (Sound n) (Happened app (StopInDeliver k kept)) w w
-  stopped_delivery k p kept is target none = idle (Happened app (StopInDeliver k kept)) w (λ before v sound shows. (
+  pub stopped_delivery : (k : ℕ) (p : Packet) (kept : Bool) → at w.sent k ≡ Some p → p.target ≡ m → s.member ≡ None → Follows stands is_kept (Sound n) (HappenedIf Failed app (StopInDeliver k kept)) w w
+  stopped_delivery k p kept is target none = idle (HappenedIf Failed app (StopInDeliver k kept)) w (λ before v sound shows. (
     any,
+    inl refl,
     sym
         (ap (delivers app v (stops_in (keeps_in None kept))) (ap (λ xs. at xs k) shows.sent ∙ is)
         ∙ subst (λ j. acts v j (λ r u. stops_in (keeps_in None kept) (on_message app (length v.members) j p r u)) ≡ v) (sym target)
@@ -94,16 +96,16 @@ module _ {R : Type 0} (stands : R → Record → Record → Type 0) (is_kept : R
   ))
 
   -- a start of a member that runs
-  pub running_start : (x : Member R) → s.member ≡ Some x → Follows stands is_kept (Sound n) (Happened app (Start m)) w w
-  running_start x q = idle (Happened app (Start m)) w (λ before v sound shows.
+  pub running_start : (x : Member R) → s.member ≡ Some x → Follows stands is_kept (Sound n) (HappenedIf Failed app (Start m)) w w
+  running_start x q = idle (HappenedIf Failed app (Start m)) w (λ before v sound shows.
       let y = part_of n few w m before v sound shows s there in
       let u = y.2.running x q in
-      (any, sym (ap (starts v None m) y.1 ∙ ap (restarts v None m y.0.kept) u.1)))
+      (any, inl refl, sym (ap (starts v None m) y.1 ∙ ap (restarts v None m y.0.kept) u.1)))
 
   -- a request of a client
   pub submitted : (q : Request) (new : World R) → new ≡ record { members = w.members; seats = w.seats; sent = w.sent ++ packet 0 (Submit q) m ∷ []; told = w.told }
-      → Follows stands is_kept (Sound n) (Happened app (Submits m q)) w new
-  submitted q new is = subst (λ z. Follows stands is_kept (Sound n) (Happened app (Submits m q)) w z) (sym is) (record {
+      → Follows stands is_kept (Sound n) (HappenedIf Failed app (Submits m q)) w new
+  submitted q new is = subst (λ z. Follows stands is_kept (Sound n) (HappenedIf Failed app (Submits m q)) w z) (sym is) (record {
     members = refl;
     kept = λ k. k;
     changes = λ k a b stand. (
@@ -116,7 +118,7 @@ module _ {R : Type 0} (stands : R → Record → Record → Type 0) (is_kept : R
         λ v sound shows.
             let y = some_at w.seats v.members m s shows.size there in (
               record { members = v.members; sent = v.sent ++ packet 0 (Submit q) m ∷ []; votes = v.votes; told = v.told },
-              (any, sym (ap (asks v m (Submit q)) y.1)),
+              (any, inl refl, sym (ap (asks v m (Submit q)) y.1)),
               record {
                 sent = ap (λ xs. xs ++ packet 0 (Submit q) m ∷ []) shows.sent;
                 told = shows.told;

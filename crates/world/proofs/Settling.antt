@@ -1,6 +1,9 @@
 -- How a seat moves: each of the facts that a member's calls give makes a move.
 use Rattle.std.proofs.Common.{◌≡◌, ℕ, Bool, true, false, refl, ◌⊎◌, inl, inr, sym, subst, ap, ap₂, ◌∙◌, Some, None, ⊎_elim, []}
+use Rattle.acceptor.specs.Law.{Grew}
+use Rattle.acceptor.specs.Steps.{Acceptor}
 use Rattle.std.specs.Prelude.{option_map, if◌then◌else◌}
+use Rattle.std.proofs.lemmas.Bool.{false≢true}
 use Rattle.std.proofs.lemmas.Option.{none-some, same_Some}
 use Rattle.member.specs.Drafts.{IsDrafted, IsReady, IsSpent}
 use Rattle.member.specs.Steps.{Input, Member, IsExpected, IsHeard, IsThis, Took, all_packets, all_applied, effect_of}
@@ -12,7 +15,7 @@ use Rattle.paxos.specs.Records.{Record, Write, Nothing, writes, written}
 use Rattle.paxos.specs.Step.{Running, Effect, quiet}
 use Rattle.paxos.specs.WellFormed.{IsRecord}
 use Rattle.paxos.specs.World.{Member as Part, Choice, applies, applies_to, settles, started, stops_in}
-use Rattle.world.specs.Seats.{IsKeptAt, IsPart, IsPlanned, MayStart, MayStay, MayStep, MayStop, MayStopIn, Moves, Skips, Stands, part_after}
+use Rattle.world.specs.Seats.{FailedIn, failures_in, IsKeptAt, IsPart, IsPlanned, MayStart, MayStay, MayStep, MayStop, MayStopIn, Moves, Skips, Stands, part_after}
 use Rattle.world.specs.declared.seat.Seat.{Seat}
 
 module _ {R : Type 0} (stands : R → Record → Record → Type 0) (is_kept : R → Type 0) (Given : Part → Type 0) (old new : Seat R) where
@@ -65,11 +68,11 @@ module _ {R : Type 0} (stands : R → Record → Record → Type 0) (is_kept : R
     }
 
     -- it takes a step
-    pub steps : (app : Application) (n m : ℕ) (i : Input) (outcome : Outcome) → (x.members ≡ n) × (x.number ≡ m)
+    pub steps : (Failed : Type 0) (app : Application) (n m : ℕ) (i : Input) (outcome : Outcome) → (x.members ≡ n) × (x.number ≡ m)
         → ((z : Part) → Given z → IsExpected z.kept i)
         → ((u : Running) → IsExpected x.acceptor.kept i → IsThis u x → Took (effect_of app x.members x.number x.acceptor.kept u i) x y outcome)
-        → Moves stands is_kept Given (MayStep app n m i) old new (all_packets n m outcome.sends.items) outcome.tells.items
-    steps app n m i outcome place expected took = record {
+        → Moves stands is_kept Given (MayStep Failed app n m i) old new (all_packets n m outcome.sends.items) outcome.tells.items
+    steps Failed app n m i outcome place expected took = record {
       kept = kept_still;
       changes = λ k a b s. (
         y.acceptor.kept,
@@ -88,10 +91,10 @@ module _ {R : Type 0} (stands : R → Record → Record → Type 0) (is_kept : R
       where
         moved : (c : Record) → c ≡ y.acceptor.kept → (z : Part) → z.kept ≡ x.acceptor.kept → (u : Running) → z.running ≡ Some u
             → Took (effect_of app x.members x.number x.acceptor.kept u i) x y outcome
-            → (e : Effect) × MayStep app n m i z e × (e.sends ≡ all_packets n m outcome.sends.items) × (e.tells ≡ outcome.tells.items) × IsPart new c (part_after z e)
+            → (e : Effect) × MayStep Failed app n m i z e × (e.sends ≡ all_packets n m outcome.sends.items) × (e.tells ≡ outcome.tells.items) × IsPart new c (part_after z e)
         moved c c_is z z_is u r t = (
           settles n choice (effect_of app n m z.kept u i),
-          (u, r, choice, refl),
+          (u, r, choice, inl refl, refl),
           ap (λ (e : Effect). e.sends) same ∙ t.sends ∙ (rw place.0 (rw place.1 refl)),
           ap (λ (e : Effect). e.tells) same ∙ t.tells,
           part_new c (part_after z (settles n choice (effect_of app n m z.kept u i))) c_is
@@ -144,12 +147,12 @@ module _ {R : Type 0} (stands : R → Record → Record → Type 0) (is_kept : R
     }
 
     -- it stops in a write that is kept
-    pub stops_in_write : (app : Application) (n m : ℕ) (i : Input) (now : Record) → (x.members ≡ n) × (x.number ≡ m)
+    pub stops_in_write : (Failed : Type 0) (app : Application) (n m : ℕ) (i : Input) (now : Record) → (x.members ≡ n) × (x.number ≡ m)
         → ((z : Part) → Given z → IsExpected z.kept i)
         → ((u : Running) → IsExpected x.acceptor.kept i → IsThis u x → now ≡ written (effect_of app x.members x.number x.acceptor.kept u i).write x.acceptor.kept)
         → (is_kept r → stands r now now)
-        → Moves stands is_kept Given (MayStopIn app n m i true) old new [] []
-    stops_in_write app n m i now place expected wrote law = record {
+        → Moves stands is_kept Given (MayStopIn Failed app n m i true) old new [] []
+    stops_in_write Failed app n m i now place expected wrote law = record {
       kept = kept_before;
       changes = λ k a b s. (
         now,
@@ -163,7 +166,7 @@ module _ {R : Type 0} (stands : R → Record → Record → Type 0) (is_kept : R
               let c_is : c ≡ now = ⊎_elim (λ (e : c ≡ now). e) (λ (e : c ≡ now). e) q in
               let effect = effect_of app n m z.kept u.0 i in (
                 stops_in true effect,
-                (u.0, u.1, None, refl),
+                (u.0, u.1, None, inl refl, refl),
                 refl,
                 refl,
                 part_left c (part_after z (stops_in true effect))
@@ -178,7 +181,7 @@ module _ {R : Type 0} (stands : R → Record → Record → Type 0) (is_kept : R
         same z z_is u = rw (sym place.0) (rw (sym place.1) (rw z_is refl))
 
     -- its store fails, in a step or in a stop that keeps its write
-    module _ (app : Application) (n m : ℕ) (i : Input) (write : Write) (place : (x.members ≡ n) × (x.number ≡ m))
+    module _ (Failed : Type 0) (has_failed : Failed) (app : Application) (n m : ℕ) (i : Input) (write : Write) (place : (x.members ≡ n) × (x.number ≡ m))
         (expected : (z : Part) → Given z → IsExpected z.kept i)
         (same_write : (u : Running) → IsExpected x.acceptor.kept i → IsThis u x → write ≡ (effect_of app x.members x.number x.acceptor.kept u i).write)
         (law : is_kept r → stands r x.acceptor.kept (written write x.acceptor.kept)) where
@@ -202,7 +205,7 @@ module _ {R : Type 0} (stands : R → Record → Record → Type 0) (is_kept : R
       which c (inr e) = (true, e)
 
       -- in a step that writes
-      pub fails_in_step : writes write ≡ true → Moves stands is_kept Given (MayStep app n m i) old new [] []
+      pub fails_in_step : writes write ≡ true → Moves stands is_kept Given (MayStep Failed app n m i) old new [] []
       fails_in_step w = record {
         kept = kept_before;
         changes = λ k a b s. (
@@ -221,21 +224,21 @@ module _ {R : Type 0} (stands : R → Record → Record → Type 0) (is_kept : R
       }
         where
           failed : (c : Record) (z : Part) → z.kept ≡ x.acceptor.kept → (u : Running) → z.running ≡ Some u → IsExpected x.acceptor.kept i → IsThis u x → (left : Bool) → c ≡ left_by left
-              → (e : Effect) × MayStep app n m i z e × (e.sends ≡ []) × (e.tells ≡ []) × IsPart new c (part_after z e)
+              → (e : Effect) × MayStep Failed app n m i z e × (e.sends ≡ []) × (e.tells ≡ []) × IsPart new c (part_after z e)
           failed c z z_is u runs due this left q =
               let choice : Choice = record { fails = Some left; applied = 0 } in
               let effect = effect_of app n m z.kept u i in
               let does : writes effect.write ≡ true = ap (λ (e : Effect). writes e.write) (same_effect z z_is u) ∙ ap writes (sym (same_write u due this)) ∙ w in
               let stopped : settles n choice effect ≡ stops_in left effect = ap (λ t. applies n 0 (if t then stops_in left effect else effect)) does in (
                 settles n choice effect,
-                (u, runs, choice, refl),
+                (u, runs, choice, inr has_failed, refl),
                 ap (λ (e : Effect). e.sends) stopped,
                 ap (λ (e : Effect). e.tells) stopped,
                 subst (λ (e : Effect). IsPart new c (part_after z e)) (sym stopped) (left_in left c q z z_is u due this),
               )
 
       -- in a stop that was to keep its write
-      pub fails_in_stop : Moves stands is_kept Given (MayStopIn app n m i true) old new [] []
+      pub fails_in_stop : Moves stands is_kept Given (MayStopIn Failed app n m i true) old new [] []
       fails_in_stop = record {
         kept = kept_before;
         changes = λ k a b s. (
@@ -248,7 +251,7 @@ module _ {R : Type 0} (stands : R → Record → Record → Type 0) (is_kept : R
             λ z given p.
                 let u = p.running x there in
                 let l = which c q in
-                (stops_in l.0 (effect_of app n m z.kept u.0 i), (u.0, u.1, Some l.0, refl), refl, refl, left_in l.0 c l.1 z p.kept_is u.0 (subst (λ w. IsExpected w i) p.kept_is (expected z given)) u.2),
+                (stops_in l.0 (effect_of app n m z.kept u.0 i), (u.0, u.1, Some l.0, inr has_failed, refl), refl, refl, left_in l.0 c l.1 z p.kept_is u.0 (subst (λ w. IsExpected w i) p.kept_is (expected z given)) u.2),
           ),
         );
       }
@@ -263,10 +266,10 @@ module _ {R : Type 0} (stands : R → Record → Record → Type 0) (is_kept : R
     }
 
     -- it starts
-    pub starts : (n : ℕ) → x.members ≡ n → ((z : Part) → Given z → IsRecord n z.kept) → (IsRecord x.members x.acceptor.kept → IsThis started x)
+    pub starts : (Failed : Type 0) (n : ℕ) → x.members ≡ n → ((z : Part) → Given z → IsRecord n z.kept) → (IsRecord x.members x.acceptor.kept → IsThis started x)
         → (is_kept x.acceptor.records → (a b : Record) → stands r a b → (x.acceptor.kept ≡ a) ⊎ (x.acceptor.kept ≡ b))
-        → Moves stands is_kept Given MayStart old new [] []
-    starts n place fits is_started loaded = record {
+        → Moves stands is_kept Given (MayStart Failed) old new [] []
+    starts Failed n place fits is_started loaded = record {
       kept = kept_then;
       changes = λ k a b s.
           let t = s.stopped empty in
@@ -347,8 +350,8 @@ module _ {R : Type 0} (stands : R → Record → Record → Type 0) (is_kept : R
     idle_stays = idle MayStay (λ z h. refl)
 
     -- the store failed to give the record
-    pub idle_starts : Moves stands is_kept Given MayStart old new [] []
-    idle_starts = idle MayStart (λ z h. (h, inr refl))
+    pub idle_starts : (Failed : Type 0) → Failed → Moves stands is_kept Given (MayStart Failed) old new [] []
+    idle_starts Failed has_failed = idle (MayStart Failed) (λ z h. (h, inr (has_failed, refl)))
 
 -- Where nobody sits nothing is shown.
 pub nobody : {R : Type 0} (stands : R → Record → Record → Type 0) (is_kept : R → Type 0) (Given : Part → Type 0) (May : Part → Effect → Type 0) (old new : Seat R)
@@ -375,3 +378,31 @@ pub skipped : {R : Type 0} (y : Member R) (i j : Input) (s : Seat R) → s.membe
     → (IsHeard y.members i → ⊥) ⊎ ((u : Running) → IsThis u y → IsSpent y u i) → Skips s j
 skipped {R} y i j s there q h = λ x here. subst (λ (z : Member R). (IsHeard z.members j → ⊥) ⊎ ((u : Running) → IsThis u z → IsSpent z u j)) (same_Some y x (sym there ∙ here))
     (subst (λ k. (IsHeard y.members k → ⊥) ⊎ ((u : Running) → IsThis u y → IsSpent y u k)) q h)
+
+-- how often the store of a running member has failed
+pub failures_running : {R : Type 0} (failed : R → ℕ) (s : Seat R) (x : Member R) → s.member ≡ Some x → failures_in failed s ≡ failed x.acceptor.records
+failures_running failed s x is = rw is refl
+
+-- and of a stopped one
+pub failures_stopped : {R : Type 0} (failed : R → ℕ) (s : Seat R) (r : R) → s.member ≡ None → s.records ≡ Some r → failures_in failed s ≡ failed r
+failures_stopped failed s r none left = rw none (rw left refl)
+
+-- the store failed of a member that stopped
+pub failed_in : {R : Type 0} (failed : R → ℕ) (old new : Seat R) (x : Member R) (r : R) → old.member ≡ Some x → new.member ≡ None → new.records ≡ Some r
+    → Grew (failed x.acceptor.records) (failed r) → FailedIn failed old new
+failed_in failed old new x r there none left g =
+    subst (λ k. Grew k (failures_in failed new)) (sym (failures_running failed old x there)) (subst (λ k. Grew (failed x.acceptor.records) k) (sym (failures_stopped failed new r none left)) g)
+
+-- and of one that was stopped before
+pub failed_still : {R : Type 0} (failed : R → ℕ) (old new : Seat R) (r s : R) → old.member ≡ None → old.records ≡ Some r → new.member ≡ None → new.records ≡ Some s
+    → Grew (failed r) (failed s) → FailedIn failed old new
+failed_still failed old new r s empty left still back g =
+    subst (λ k. Grew k (failures_in failed new)) (sym (failures_stopped failed old r empty left)) (subst (λ k. Grew (failed r) k) (sym (failures_stopped failed new s still back)) g)
+
+-- an acceptor that ran stopped because its store failed
+pub grew : {R : Type 0} (failed : R → ℕ) {old new : Acceptor R} → old.is_stopped ≡ false
+    → (old.is_stopped ≡ true) × (new ≡ old) ⊎ (old.is_stopped ≡ false) × Grew (failed old.records) (failed new.records) → Grew (failed old.records) (failed new.records)
+grew {R} failed {old} {new} runs cause = ⊎_elim
+    (λ (p : (old.is_stopped ≡ true) × (new ≡ old)). absurd (false≢true (sym runs ∙ p.0)))
+    (λ (p : (old.is_stopped ≡ false) × Grew (failed old.records) (failed new.records)). p.1)
+    cause

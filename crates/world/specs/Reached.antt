@@ -1,5 +1,7 @@
 -- Which lists of events lead to what code holds.
 use Rattle.std.specs.Prelude.{◌≡◌, ℕ, List, Some, length}
+use Rattle.std.specs.Option.{option_map_or}
+use Rattle.acceptor.specs.Law.{Grew}
 use Rattle.member.specs.Steps.{Input, Hears}
 use Rattle.paxos.specs.Lists.{at, Has}
 use Rattle.paxos.specs.Step.{Effect}
@@ -12,7 +14,7 @@ use Rattle.world.specs.declared.event.Event.{Event}
 use Rattle.world.specs.declared.event.Event.TheVariants as event
 use Rattle.world.specs.declared.event.Step.TheVariants as step
 use Rattle.world.specs.declared.event.Tick.TheVariants as tick
-use Rattle.world.specs.Seats.{IsPart}
+use Rattle.world.specs.Seats.{FailsOnlyIf, IsPart, failures_in}
 use Rattle.world.specs.declared.seat.Seat.{Seat}
 use Rattle.world.specs.Shown.{World, AllStand, AreKept, Picks, Shows}
 
@@ -61,6 +63,26 @@ Stays v z = z ≡ v
 -- the event happens, whatever it leaves open
 abbrev pub Happened : Application → Happens → Whole → Whole → Type 0
 Happened app e v z = (c : protocol.Choice) × (z ≡ protocol.happens app v c e)
+
+-- how often the store of a member has failed
+abbrev pub failures_at : {R : Type 0} → (failed : R → ℕ) → List (Seat R) → (m : ℕ) → ℕ
+failures_at {R} failed seats m = option_map_or (failures_in failed) (at seats m) 0
+
+-- it has failed from some seats to others
+abbrev pub FailedAt : {R : Type 0} → (failed : R → ℕ) → (old new : List (Seat R)) → (m : ℕ) → Type 0
+FailedAt failed old new m = Grew (failures_at failed old m) (failures_at failed new m)
+
+-- one of the stores has failed
+abbrev pub OneFailed : {R : Type 0} → (failed : R → ℕ) → (old new : List (Seat R)) → Type 0
+OneFailed failed old new = (m : ℕ) × FailedAt failed old new m
+
+-- no store fails, ever
+abbrev pub NeverFails : {R : Type 0} → (failed : R → ℕ) → Type 0
+NeverFails {R} failed = (r : R) → failed r ≡ 0
+
+-- the event happens, and a store fails in it only if one has failed
+abbrev pub HappenedIf : (Failed : Type 0) → Application → Happens → Whole → Whole → Type 0
+HappenedIf Failed app e v z = (c : protocol.Choice) × FailsOnlyIf Failed c.fails × (z ≡ protocol.happens app v c e)
 
 -- The member that sits there takes a step with an effect that may be, in a world that is shown.
 pub record Steps {R : Type 0} (old : World R) (s : Seat R) (m : ℕ) (May : Part → Effect → Type 0) (v z : Whole) : Type 0 where

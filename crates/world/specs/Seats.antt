@@ -1,7 +1,8 @@
 -- What sits at a member's place, and how it moves.
-use Rattle.std.specs.Prelude.{◌≡◌, ◌⊎◌, ℕ, Bool, false, List, [], Option, Some, None, IsSome}
+use Rattle.std.specs.Prelude.{◌≡◌, ◌⊎◌, ℕ, zero, Bool, false, List, [], Option, Some, None, IsSome}
 use Rattle.ballots.specs.Messages.{Packet}
 use Rattle.ballots.specs.declared.value.Pair.{Pair}
+use Rattle.acceptor.specs.Law.{Grew}
 use Rattle.member.specs.Drafts.{IsDrafted, IsReady, IsSpent}
 use Rattle.member.specs.Steps.{Input, Begins, Resends, CatchesUp, Member, IsExpected, IsHeard, IsThis, all_packets, effect_of}
 use Rattle.member.specs.declared.draft.Draft.{Draft}
@@ -35,6 +36,24 @@ pub record IsPart {R : Type 0} (s : Seat R) (kept : Record) (y : Part) : Type 0 
   pub kept_is : y.kept ≡ kept
   pub running : (x : Member R) → s.member ≡ Some x → (u : Running) × (y.running ≡ Some u) × IsThis u x × (kept ≡ x.acceptor.kept)
   pub stopped : s.member ≡ None → y.running ≡ None
+
+-- how often the store at a seat has failed
+abbrev pub failures_in : {R : Type 0} → (failed : R → ℕ) → Seat R → ℕ
+failures_in {R} failed s = elim s.member as (λ o. ℕ) [
+  | Some x ↦ failed x.acceptor.records
+  | None ↦ elim s.records as (λ o. ℕ) [
+    | Some r ↦ failed r
+    | None ↦ zero
+  ]
+]
+
+-- it has failed while the seat moved
+abbrev pub FailedIn : {R : Type 0} → (failed : R → ℕ) → (old new : Seat R) → Type 0
+FailedIn failed old new = Grew (failures_in failed old) (failures_in failed new)
+
+-- in a choice a store fails only if one has failed
+abbrev pub FailsOnlyIf : (Failed : Type 0) → (fails : Option Bool) → Type 0
+FailsOnlyIf Failed fails = (fails ≡ None) ⊎ Failed
 
 -- a member after a step with this effect
 abbrev pub part_after : Part → Effect → Part
@@ -96,21 +115,21 @@ IsFit n y = IsRecord n y.kept
 abbrev pub MayStay : Part → Effect → Type 0
 MayStay y e = e ≡ record { write = Nothing; running = y.running; sends = []; tells = [] }
 
--- a step of one of n members, whatever it leaves open
-abbrev pub MayStep : Application → (members self : ℕ) → Input → Part → Effect → Type 0
-MayStep app n m i y e = (u : Running) × (y.running ≡ Some u) × (c : Choice) × (e ≡ settles n c (effect_of app n m y.kept u i))
+-- a step of one of n members, whatever it leaves open; its store fails only if one has failed
+abbrev pub MayStep : (Failed : Type 0) → Application → (members self : ℕ) → Input → Part → Effect → Type 0
+MayStep Failed app n m i y e = (u : Running) × (y.running ≡ Some u) × (c : Choice) × FailsOnlyIf Failed c.fails × (e ≡ settles n c (effect_of app n m y.kept u i))
 
 -- a stop in the write of a step
-abbrev pub MayStopIn : Application → (members self : ℕ) → Input → (kept : Bool) → Part → Effect → Type 0
-MayStopIn app n m i kept y e = (u : Running) × (y.running ≡ Some u) × (fails : Option Bool) × (e ≡ stops_in (keeps_in fails kept) (effect_of app n m y.kept u i))
+abbrev pub MayStopIn : (Failed : Type 0) → Application → (members self : ℕ) → Input → (kept : Bool) → Part → Effect → Type 0
+MayStopIn Failed app n m i kept y e = (u : Running) × (y.running ≡ Some u) × (fails : Option Bool) × FailsOnlyIf Failed fails × (e ≡ stops_in (keeps_in fails kept) (effect_of app n m y.kept u i))
 
 -- a stop
 abbrev pub MayStop : Part → Effect → Type 0
 MayStop y e = (u : Running) × (y.running ≡ Some u) × (e ≡ stops_in false (quiet u))
 
--- a start, or the store fails to give the record
-abbrev pub MayStart : Part → Effect → Type 0
-MayStart y e = (y.running ≡ None) × ((e ≡ quiet started) ⊎ MayStay y e)
+-- a start, or the store has failed to give the record
+abbrev pub MayStart : (Failed : Type 0) → Part → Effect → Type 0
+MayStart Failed y e = (y.running ≡ None) × ((e ≡ quiet started) ⊎ Failed × MayStay y e)
 
 -- what is sent where a step was made
 abbrev pub sent_by : (members self : ℕ) → Option Outcome → List Packet

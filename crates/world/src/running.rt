@@ -6,8 +6,8 @@ ghost use Rattle.paxos.specs.Application.{Application};
 ghost use Rattle.paxos.specs.Lists.{Has};
 ghost use Rattle.world.specs.Held.{IsHeld, shown};
 ghost use Rattle.world.specs.Placed.{ArePlaced, IsPlaced};
-ghost use Rattle.world.specs.Reached.{Reached, ReachedSmoothly, event_of};
-ghost use Rattle.world.specs.Runs.{AllRun, HasDone, IsUnwritten, LeadsTo, is_for};
+ghost use Rattle.world.specs.Reached.{NeverFails, Reached, ReachedSmoothly, event_of};
+ghost use Rattle.world.specs.Runs.{AllRun, HasDone, IsUnwritten, LeadsSmoothly, LeadsTo, is_for};
 ghost use Rattle.world.specs.Shown.{AreKept};
 
 use crate::event::Event;
@@ -101,6 +101,7 @@ impl<R: Records + Drop> State<R> {
         requires named { list_all (is_for self.old.members) events.now ≡ true }
         ensures held { IsHeld self.new }
         ensures done { OnOk result (LeadsTo R.stands R.is_kept (shown self.old) (shown self.new) (map event_of events.now)) }
+        ensures smoothly { OnOk result (NeverFails R.failed → LeadsSmoothly R.stands R.is_kept (shown self.old) (shown self.new) (map event_of events.now)) }
         ensures refused { IfErr result (λ fault. HasDone R.stands R.is_kept (shown self.old) (shown self.new) (map event_of events.now) fault) }
         ensures member { IsErrOf result WorldFault.Member → ⊥ }
     {

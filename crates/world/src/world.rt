@@ -8,7 +8,7 @@ ghost use Rattle.paxos.proofs.WellFormed.{Sound};
 ghost use Rattle.paxos.specs.Application.{Application};
 ghost use Rattle.paxos.specs.Lists.{Has};
 ghost use Rattle.paxos.specs.World.{Event as Happens};
-ghost use Rattle.world.specs.Reached.{Follows, Happened, Reached, ReachedSmoothly, Stays, event_of};
+ghost use Rattle.world.specs.Reached.{Follows, HappenedIf, NeverFails, OneFailed, Reached, ReachedSmoothly, Stays, event_of};
 ghost use Rattle.world.specs.Runs.{Agrees, HasDone, IsStraight, IsUnwritten, LeadsSmoothly, LeadsTo, is_for, member_at, straight_run};
 ghost use Rattle.world.specs.Shown.{AreKept};
 ghost use Rattle.world.specs.Tellings.{told_in};
@@ -89,18 +89,20 @@ impl<R: Records + Drop> World<R> {
     /// It fails where memory is refused, and then nothing that shows has changed.
     pub fn happen(&mut self, alloc: Global, event: &Event) -> Result<(), AllocError>
         requires named { is_for self.old.members event.now ≡ true }
-        ensures happened { OnOk result ((app : Application) → KnowsNothing app → Follows R.stands R.is_kept (Sound self.old.members) (Happened app (event_of event.now)) self.old self.new) }
+        ensures happened { OnOk result ((app : Application) → KnowsNothing app → Follows R.stands R.is_kept (Sound self.old.members) (HappenedIf (OneFailed R.failed self.old.seats self.new.seats) app (event_of event.now)) self.old self.new) }
         ensures refused { OnErr result (Follows R.stands R.is_kept (Sound self.old.members) Stays self.old self.new) }
     {
         self.state.happen(alloc, event)
     }
 
-    /// All events happen, in order, each as [`World::happen`] says.
+    /// All events happen, in order, each as [`World::happen`] says. Over stores that never fail they leave nothing open: no store stops a
+    /// member, and each time all is applied that is learnt without a gap.
     ///
     /// Faults: memory was refused, after that many events, and the next one has changed nothing; an event names a member that there
     /// isn't, and none has happened.
     pub fn run(&mut self, alloc: Global, events: &[Event]) -> Result<(), WorldFault>
         ensures done { OnOk result (LeadsTo R.stands R.is_kept self.old self.new (map event_of events.now)) }
+        ensures smoothly { OnOk result (NeverFails R.failed → LeadsSmoothly R.stands R.is_kept self.old self.new (map event_of events.now)) }
         ensures refused { IfErr result (λ fault. HasDone R.stands R.is_kept self.old self.new (map event_of events.now) fault) }
         ensures member { IsErrOf result WorldFault.Member ↔ (list_all (is_for self.old.members) events.now ≡ false) }
     {

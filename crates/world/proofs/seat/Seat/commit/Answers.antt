@@ -3,7 +3,7 @@ use Rattle.std.specs.Option.{option_copied_mut}
 use Rattle.acceptor.specs.Steps.{Acceptor}
 use Rattle.member.specs.Drafts.{write_in}
 use Rattle.world.specs.Seats.{IsAny, MayHear}
-use Rattle.world.proofs.Settling.{stays, steps, fails_in_step}
+use Rattle.world.proofs.Settling.{failed_in, fails_in_step, grew, stays, steps}
 use Rattle.world.proofs.seat.Seat.commit.Goals as goal
 
 -- src/seat.rt:87:5
@@ -14,7 +14,7 @@ returns-in-Ok-clause-moved g c = λ app n m i nothing seat drafted.
     let there = sym c.as_mut.ensures.value ∙ ap option_copied_mut c.in-Some.is in
     let place = seat x there in
     steps {R = g.row.R.Denot} g.R.Records.stands g.R.Records.is_kept (MayHear i) c.args.self.now (record { member = Some y; records = c.args.self.now.records }) x y
-    there refl c.commit.ensures.kept app n m i c.in-Ok.outcome (place.0, place.1) (λ z k. k)
+    there refl c.commit.ensures.kept _ app n m i c.in-Ok.outcome (place.0, place.1) (λ z k. k)
     (λ u expected this. c.in-Ok.ensures.took app i u nothing (drafted x there) expected this)
 
 -- src/seat.rt:87:5
@@ -37,7 +37,9 @@ returns-in-Err-Store-clause-moved g c = λ app n m i nothing seat drafted.
     let left = c.empty.ensures.left y refl in
     let stopped = c.in-Err-Store.ensures.stops (ap Err c.in-Err-Store.field-0-is) in
     fails_in_step {R = g.row.R.Denot} g.R.Records.stands g.R.Records.is_kept (MayHear i) c.args.self.now c.empty.new.self x y.acceptor.records
-    there left.0 left.1 c.commit.ensures.kept app n m i (write_in c.args.draft.change) (place.0, place.1) (λ z k. k)
+    there left.0 left.1 c.commit.ensures.kept _
+    (failed_in {R = g.row.R.Denot} g.R.Records.failed c.args.self.now c.empty.new.self x y.acceptor.records there left.0 left.1 (grew g.R.Records.failed place.2 stopped.cause))
+    app n m i (write_in c.args.draft.change) (place.0, place.1) (λ z k. k)
     (λ u due this. sym ((drafted x there).plans app u nothing due this).write)
     (stopped.crash place.2)
     (c.in-Err-Store.ensures.writes (ap Err c.in-Err-Store.field-0-is) place.2)

@@ -3,7 +3,7 @@ use Rattle.std.specs.Option.{option_copied_mut}
 use Rattle.acceptor.specs.Steps.{Acceptor}
 use Rattle.member.specs.Drafts.{write_in}
 use Rattle.world.specs.Seats.{IsAny, MayHear}
-use Rattle.world.proofs.Settling.{stays, stops_in_write, fails_in_stop}
+use Rattle.world.proofs.Settling.{failed_in, fails_in_stop, grew, stays, stops_in_write}
 use Rattle.world.proofs.seat.Seat.stop_in.Goals as goal
 
 pub returns-in-Ok-clause-moved : goal.returns-in-Ok-clause-moved
@@ -14,7 +14,7 @@ returns-in-Ok-clause-moved g c = λ app n m i nothing seat drafted.
     let place = seat x there in
     let left = c.empty.ensures.left y refl in
     stops_in_write {R = g.row.R.Denot} g.R.Records.stands g.R.Records.is_kept (MayHear i) c.args.self.now c.empty.new.self x y.acceptor.records
-    there left.0 left.1 c.cut.ensures.kept app n m i y.acceptor.kept (place.0, place.1) (λ z k. k)
+    there left.0 left.1 c.cut.ensures.kept _ app n m i y.acceptor.kept (place.0, place.1) (λ z k. k)
     (λ u due this. (c.in-Ok.ensures.wrote app i u nothing (drafted x there) due this).0)
     (c.empty.ensures.stands y refl (c.in-Ok.ensures.runs place.2))
 
@@ -36,6 +36,8 @@ returns-in-Err-Store-clause-moved g c = λ app n m i nothing seat drafted.
     let left = c.empty-in-Err-Store.ensures.left y refl in
     let stopped = c.in-Err-Store.ensures.stops (ap Err c.in-Err-Store.field-0-is) in
     fails_in_stop {R = g.row.R.Denot} g.R.Records.stands g.R.Records.is_kept (MayHear i) c.args.self.now c.empty-in-Err-Store.new.self x y.acceptor.records
-    there left.0 left.1 c.cut.ensures.kept app n m i (write_in c.args.draft.change) (place.0, place.1) (λ z k. k)
+    there left.0 left.1 c.cut.ensures.kept _
+    (failed_in {R = g.row.R.Denot} g.R.Records.failed c.args.self.now c.empty-in-Err-Store.new.self x y.acceptor.records there left.0 left.1 (grew g.R.Records.failed place.2 stopped.cause))
+    app n m i (write_in c.args.draft.change) (place.0, place.1) (λ z k. k)
     (λ u due this. sym ((drafted x there).plans app u nothing due this).write)
     (stopped.crash place.2)

@@ -3,11 +3,13 @@ use Rattle.std.specs.Vec.{with_item}
 use Rattle.std.proofs.lemmas.Option.{same_Some}
 use Rattle.paxos.proofs.WellFormed.{Sound}
 use Rattle.world.specs.Held.{shown}
-use Rattle.world.specs.Reached.{Follows, Steps}
+use Rattle.world.specs.Reached.{FailedAt, Follows, Steps}
 use Rattle.world.specs.Seats.{IsFit, MayStart}
 use Rattle.world.specs.declared.seat.Seat.{Seat}
 use Rattle.world.proofs.Given.{err_so, ok_so}
-use Rattle.world.proofs.Placing.{fit_after, read_there, held_after, same_seats, silent_after, stays_after}
+use Rattle.world.proofs.Happening.{start_if}
+use Rattle.world.proofs.Lifting.{moves_so}
+use Rattle.world.proofs.Placing.{failed_after, fit_after, read_there, held_after, same_seats, silent_after, stays_after}
 use Rattle.world.proofs.state.State.start.Goals as goal
 
 pub returns-clause-held : goal.returns-clause-held
@@ -29,12 +31,14 @@ returns-clause-started g c =
     let there = read_there self.seats.items number seat c.requires.least (subst (λ n. number ≤ n) (sym held.size) c.requires.most) c.index_mut.ensures.value in
     ok_so c.start.result _ _ (λ moved s at_s none.
     let same = same_Some seat s (sym there ∙ at_s) in
-    subst (λ (x : Seat g.row.R.Denot). Follows {R = g.row.R.Denot} g.R.Records.stands g.R.Records.is_kept (Sound self.members) (Steps (shown self) x number MayStart) (shown self) (shown (record { members = self.members; seats = with_item self.seats (number - 1) c.start.new.self; mail = self.mail; told = self.told }))) same
+    subst (λ (x : Seat g.row.R.Denot). Follows {R = g.row.R.Denot} g.R.Records.stands g.R.Records.is_kept (Sound self.members) (Steps (shown self) x number (MayStart (FailedAt g.R.Records.failed self.seats.items (with_item self.seats (number - 1) c.start.new.self).items number))) (shown self) (shown (record { members = self.members; seats = with_item self.seats (number - 1) c.start.new.self; mail = self.mail; told = self.told }))) same
     (silent_after {R = g.row.R.Denot} g.R.Records.stands g.R.Records.is_kept self (record { members = self.members; seats = with_item self.seats (number - 1) c.start.new.self; mail = self.mail; told = self.told }) number seat c.start.new.self
-    held c.requires.least there refl refl (IsFit self.members) MayStart
+    held c.requires.least there refl refl (IsFit self.members) _
     (fit_after {R = g.row.R.Denot} g.R.Records.stands g.R.Records.is_kept self (record { members = self.members; seats = with_item self.seats (number - 1) c.start.new.self; mail = self.mail; told = self.told }) number seat c.start.new.self
     held c.requires.least there refl refl) refl refl
-    (moved (ap (λ (x : Seat g.row.R.Denot). x.member) same ∙ none)))) c.start.ensures.moved
+    (moves_so {R = g.row.R.Denot} _ _ (start_if _ _ (failed_after {R = g.row.R.Denot} g.R.Records.stands g.R.Records.is_kept self (record { members = self.members; seats = with_item self.seats (number - 1) c.start.new.self; mail = self.mail; told = self.told }) number seat c.start.new.self
+    held c.requires.least there refl refl g.R.Records.failed))
+    (moved (ap (λ (x : Seat g.row.R.Denot). x.member) same ∙ none))))) c.start.ensures.moved
 
 pub returns-clause-runs : goal.returns-clause-runs
 returns-clause-runs g c = λ s at_s some.

@@ -7,4 +7,4 @@ returns-clause-happened g c = λ app nothing.
     let self = c.args.self.now in
     let number = c.args.number in
     let s = seat_there self number c.requires.held c.requires.least c.requires.most in
-    stop_happens {R = g.row.R.Denot} g.R.Records.stands g.R.Records.is_kept app self c.stop.new.self number s.0 s.1 c.requires.held (c.stop.ensures.stopped s.0 s.1) (c.stop.ensures.none s.0 s.1)
+    stop_happens {R = g.row.R.Denot} g.R.Records.stands g.R.Records.is_kept _ app self c.stop.new.self number s.0 s.1 c.requires.held (c.stop.ensures.stopped s.0 s.1) (c.stop.ensures.none s.0 s.1)

@@ -1,16 +1,16 @@
-use Rattle.std.proofs.Common.{◌≤◌, true, IfSome, Option, sym, subst, ◌∙◌}
+use Rattle.std.proofs.Common.{true, IfSome, Option, subst, ◌∙◌}
 use Rattle.member.specs.Steps.{Begins}
 use Rattle.member.specs.declared.draft.Draft.{Draft}
 use Rattle.paxos.specs.World.{StopInBegin}
 use Rattle.paxos.proofs.WellFormed.{Sound}
 use Rattle.world.specs.Held.{shown}
-use Rattle.world.specs.Reached.{Follows, Happened, Stays, Steps}
+use Rattle.world.specs.Reached.{FailedAt, HappenedIf, OneFailed, Follows, Stays, Steps}
 use Rattle.world.specs.Seats.{IsPlannedAt, MayStopIn}
 use Rattle.world.proofs.Given.{err_so, ok_so}
-use Rattle.world.proofs.Happening.{stops_in_begin}
+use Rattle.world.proofs.Happening.{happened_if, stops_in_begin}
 use Rattle.world.proofs.Lifting.{joined, so}
-use Rattle.world.proofs.Placing.{seat_there}
-use Rattle.world.proofs.Stopping.{begin_stop_happens}
+use Rattle.world.proofs.Placing.{one_failed}
+use Rattle.world.proofs.Stopping.{unbegun_stop_happens}
 use Rattle.world.proofs.state.State.stop_beginning.Goals as goal
 
 pub returns-in_default-clause-happened : goal.returns-in_default-clause-happened
@@ -19,10 +19,10 @@ returns-in_default-clause-happened g c = λ app nothing.
     let mid = c.tick.new.self in
     let end = c.stop.new.self in
     let number = c.args.number in
-    let s = seat_there mid number c.tick.ensures.held c.requires.least (subst (λ n. number ≤ n) (sym c.tick.ensures.same.0) c.requires.most) in
-    joined {R = g.row.R.Denot} {stands = g.R.Records.stands} {is_kept = g.R.Records.is_kept} {MayBe = Sound self.members} (Happened app (StopInBegin c.args.number true)) (shown self) (shown mid) (shown end) c.tick.ensures.stays
-    (subst (λ n. Follows {R = g.row.R.Denot} g.R.Records.stands g.R.Records.is_kept (Sound n) (Happened app (StopInBegin c.args.number true)) (shown mid) (shown end)) c.tick.ensures.same.0
-    (begin_stop_happens {R = g.row.R.Denot} g.R.Records.stands g.R.Records.is_kept app mid end number s.0 s.1 c.tick.ensures.held (c.stop.ensures.stopped s.0 s.1) (c.stop.ensures.none s.0 s.1) true))
+    let s = c.in_ok-draft.ensures.skipped c.in_default.is in
+    joined {R = g.row.R.Denot} {stands = g.R.Records.stands} {is_kept = g.R.Records.is_kept} {MayBe = Sound self.members} _ (shown self) (shown mid) (shown end) c.tick.ensures.stays
+    (subst (λ n. Follows {R = g.row.R.Denot} g.R.Records.stands g.R.Records.is_kept (Sound n) (HappenedIf (OneFailed g.R.Records.failed self.seats.items end.seats.items) app (StopInBegin number true)) (shown mid) (shown end)) c.tick.ensures.same.0
+    (unbegun_stop_happens {R = g.row.R.Denot} g.R.Records.stands g.R.Records.is_kept _ app mid end number s.0 s.1 c.tick.ensures.held (c.stop.ensures.stopped s.0 s.1) (c.stop.ensures.none s.0 s.1) s.2))
 
 pub returns-clause-happened : goal.returns-clause-happened
 returns-clause-happened g c =
@@ -32,10 +32,10 @@ returns-clause-happened g c =
     let number = c.args.number in
     let planned = subst (λ (o : Option Draft). IfSome o (λ x. IsPlannedAt {R = g.row.R.Denot} mid.seats.items number (Begins) x)) c.in-Some.is c.in_ok-draft.ensures.planned in
     ok_so c.stop_in.result _ _ (λ stopped app nothing.
-    joined {R = g.row.R.Denot} {stands = g.R.Records.stands} {is_kept = g.R.Records.is_kept} {MayBe = Sound self.members} (Happened app (StopInBegin c.args.number true)) (shown self) (shown mid) (shown end) c.tick.ensures.stays
-    (so (Steps (shown mid) planned.0 number (MayStopIn app self.members number (Begins) true)) (Happened app (StopInBegin c.args.number true)) (shown mid) (shown end)
-    (λ v z sound step. stops_in_begin app self.members (shown mid) planned.0 number (c.tick.ensures.held.size ∙ c.tick.ensures.same.0) true v z step)
-    (subst (λ n. Follows {R = g.row.R.Denot} g.R.Records.stands g.R.Records.is_kept (Sound n) (Steps (shown mid) planned.0 number (MayStopIn app n number (Begins) true)) (shown mid) (shown end)) c.tick.ensures.same.0
+    joined {R = g.row.R.Denot} {stands = g.R.Records.stands} {is_kept = g.R.Records.is_kept} {MayBe = Sound self.members} (HappenedIf (OneFailed g.R.Records.failed self.seats.items end.seats.items) app (StopInBegin number true)) (shown self) (shown mid) (shown end) c.tick.ensures.stays
+    (so (Steps (shown mid) planned.0 number (MayStopIn (FailedAt g.R.Records.failed mid.seats.items end.seats.items number) app self.members number (Begins) true)) (HappenedIf (OneFailed g.R.Records.failed self.seats.items end.seats.items) app (StopInBegin number true)) (shown mid) (shown end)
+    (λ v z sound step. happened_if _ _ (one_failed {R = g.row.R.Denot} g.R.Records.failed self.seats.items mid.seats.items end.seats.items number (c.tick.ensures.failures number)) app (StopInBegin number true) v z (stops_in_begin _ app self.members (shown mid) planned.0 number (c.tick.ensures.held.size ∙ c.tick.ensures.same.0) true v z step))
+    (subst (λ n. Follows {R = g.row.R.Denot} g.R.Records.stands g.R.Records.is_kept (Sound n) (Steps (shown mid) planned.0 number (MayStopIn (FailedAt g.R.Records.failed mid.seats.items end.seats.items number) app n number (Begins) true)) (shown mid) (shown end)) c.tick.ensures.same.0
     (stopped app (Begins) planned.0 nothing planned.1 planned.2 tt)))) c.stop_in.ensures.stopped
 
 pub returns-clause-refused : goal.returns-clause-refused

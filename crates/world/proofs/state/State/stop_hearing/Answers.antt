@@ -1,4 +1,4 @@
-use Rattle.std.proofs.Common.{◌≤◌, true, IfSome, Option, sym, subst, ap, ◌∙◌}
+use Rattle.std.proofs.Common.{true, IfSome, Option, subst, ap, ◌∙◌}
 use Rattle.member.specs.Steps.{Hears}
 use Rattle.member.specs.declared.draft.Draft.{Draft}
 use Rattle.paxos.specs.Lists.{at}
@@ -7,15 +7,15 @@ use Rattle.paxos.proofs.Lists.{at_has}
 use Rattle.paxos.proofs.WellFormed.{Sound}
 use Rattle.world.specs.Held.{shown}
 use Rattle.world.specs.Posts.{packet_of, sent_in}
-use Rattle.world.specs.Reached.{Follows, Happened, Stays, Steps}
+use Rattle.world.specs.Reached.{FailedAt, HappenedIf, OneFailed, Follows, Stays, Steps}
 use Rattle.world.specs.Seats.{IsPlannedAt, MayStopIn}
 use Rattle.world.specs.declared.mail.Mail.{Mail}
 use Rattle.world.proofs.Given.{err_so, ok_so}
-use Rattle.world.proofs.Happening.{stops_in_delivery}
+use Rattle.world.proofs.Happening.{happened_if, stops_in_delivery}
 use Rattle.world.proofs.Lifting.{joined, so}
-use Rattle.world.proofs.Placing.{seat_there}
+use Rattle.world.proofs.Placing.{one_failed}
 use Rattle.world.proofs.Posted.{target_of}
-use Rattle.world.proofs.Stopping.{delivery_stop_happens}
+use Rattle.world.proofs.Stopping.{unheard_stop_happens}
 use Rattle.world.proofs.state.State.stop_hearing.Goals as goal
 
 pub returns-in_default-clause-happened : goal.returns-in_default-clause-happened
@@ -28,10 +28,10 @@ returns-in_default-clause-happened g c = λ app nothing.
     let p = packet_of self.mail.messages.items d in
     let here = ap (λ (x : Mail). at (sent_in x) c.args.number) c.hear.ensures.same.1 ∙ c.requires.there.3 in
     let target = target_of self.mail.messages.items d in
-    let s = seat_there mid number c.hear.ensures.held c.requires.there.0 (subst (λ n. number ≤ n) (sym c.hear.ensures.same.0) c.requires.there.1) in
-    joined {R = g.row.R.Denot} {stands = g.R.Records.stands} {is_kept = g.R.Records.is_kept} {MayBe = Sound self.members} (Happened app (StopInDeliver c.args.number true)) (shown self) (shown mid) (shown end) c.hear.ensures.stays
-    (subst (λ n. Follows {R = g.row.R.Denot} g.R.Records.stands g.R.Records.is_kept (Sound n) (Happened app (StopInDeliver c.args.number true)) (shown mid) (shown end)) c.hear.ensures.same.0
-    (delivery_stop_happens {R = g.row.R.Denot} g.R.Records.stands g.R.Records.is_kept app mid end number s.0 s.1 c.hear.ensures.held (c.stop.ensures.stopped s.0 s.1) (c.stop.ensures.none s.0 s.1) c.args.number p true here target))
+    let s = c.in_ok-draft.ensures.skipped c.in_default.is in
+    joined {R = g.row.R.Denot} {stands = g.R.Records.stands} {is_kept = g.R.Records.is_kept} {MayBe = Sound self.members} _ (shown self) (shown mid) (shown end) c.hear.ensures.stays
+    (subst (λ n. Follows {R = g.row.R.Denot} g.R.Records.stands g.R.Records.is_kept (Sound n) (HappenedIf (OneFailed g.R.Records.failed self.seats.items end.seats.items) app (StopInDeliver c.args.number true)) (shown mid) (shown end)) c.hear.ensures.same.0
+    (unheard_stop_happens {R = g.row.R.Denot} g.R.Records.stands g.R.Records.is_kept _ app mid end number s.0 s.1 c.hear.ensures.held (c.stop.ensures.stopped s.0 s.1) (c.stop.ensures.none s.0 s.1) c.args.number p here target s.2))
 
 pub returns-clause-happened : goal.returns-clause-happened
 returns-clause-happened g c =
@@ -45,10 +45,10 @@ returns-clause-happened g c =
     let target = target_of self.mail.messages.items d in
     let planned = subst (λ (o : Option Draft). IfSome o (λ x. IsPlannedAt {R = g.row.R.Denot} mid.seats.items number (Hears p) x)) c.in-Some.is c.in_ok-draft.ensures.planned in
     ok_so c.stop_in.result _ _ (λ stopped app nothing.
-    joined {R = g.row.R.Denot} {stands = g.R.Records.stands} {is_kept = g.R.Records.is_kept} {MayBe = Sound self.members} (Happened app (StopInDeliver c.args.number true)) (shown self) (shown mid) (shown end) c.hear.ensures.stays
-    (so (Steps (shown mid) planned.0 number (MayStopIn app self.members number (Hears p) true)) (Happened app (StopInDeliver c.args.number true)) (shown mid) (shown end)
-    (λ v z sound step. stops_in_delivery app self.members (shown mid) planned.0 number (c.hear.ensures.held.size ∙ c.hear.ensures.same.0) c.args.number p true here target v z step)
-    (subst (λ n. Follows {R = g.row.R.Denot} g.R.Records.stands g.R.Records.is_kept (Sound n) (Steps (shown mid) planned.0 number (MayStopIn app n number (Hears p) true)) (shown mid) (shown end)) c.hear.ensures.same.0
+    joined {R = g.row.R.Denot} {stands = g.R.Records.stands} {is_kept = g.R.Records.is_kept} {MayBe = Sound self.members} (HappenedIf (OneFailed g.R.Records.failed self.seats.items end.seats.items) app (StopInDeliver c.args.number true)) (shown self) (shown mid) (shown end) c.hear.ensures.stays
+    (so (Steps (shown mid) planned.0 number (MayStopIn (FailedAt g.R.Records.failed mid.seats.items end.seats.items number) app self.members number (Hears p) true)) (HappenedIf (OneFailed g.R.Records.failed self.seats.items end.seats.items) app (StopInDeliver c.args.number true)) (shown mid) (shown end)
+    (λ v z sound step. happened_if _ _ (one_failed {R = g.row.R.Denot} g.R.Records.failed self.seats.items mid.seats.items end.seats.items number (c.hear.ensures.failures number)) app (StopInDeliver c.args.number true) v z (stops_in_delivery _ app self.members (shown mid) planned.0 number (c.hear.ensures.held.size ∙ c.hear.ensures.same.0) c.args.number p true here target v z step))
+    (subst (λ n. Follows {R = g.row.R.Denot} g.R.Records.stands g.R.Records.is_kept (Sound n) (Steps (shown mid) planned.0 number (MayStopIn (FailedAt g.R.Records.failed mid.seats.items end.seats.items number) app n number (Hears p) true)) (shown mid) (shown end)) c.hear.ensures.same.0
     (stopped app (Hears p) planned.0 nothing planned.1 planned.2 (at_has (sent_in mid.mail) c.args.number p here, target))))) c.stop_in.ensures.stopped
 
 pub returns-clause-refused : goal.returns-clause-refused

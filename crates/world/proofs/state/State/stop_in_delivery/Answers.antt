@@ -1,5 +1,9 @@
+use Rattle.std.proofs.Common.{sym, subst}
+use Rattle.paxos.proofs.WellFormed.{Sound}
+use Rattle.paxos.specs.World.{StopInDeliver}
 use Rattle.world.specs.Held.{shown}
 use Rattle.world.specs.Posts.{packet_of}
+use Rattle.world.specs.Reached.{HappenedIf, OneFailed, Follows}
 use Rattle.world.proofs.Delivering.{unknown_stop}
 use Rattle.world.proofs.Placing.{seat_there}
 use Rattle.world.proofs.Posted.{target_of}
@@ -9,7 +13,7 @@ use Rattle.world.proofs.state.State.stop_in_delivery.Goals as goal
 pub returns-in_default-clause-happened : goal.returns-in_default-clause-happened
 returns-in_default-clause-happened g c = λ app nothing.
     let self = c.args.self.now in
-    unknown_stop {R = g.row.R.Denot} g.R.Records.stands g.R.Records.is_kept app self.members c.requires.held.most (shown self) c.args.number c.args.kept (c.to_member.ensures.none c.in_default.is)
+    unknown_stop {R = g.row.R.Denot} g.R.Records.stands g.R.Records.is_kept _ app self.members c.requires.held.most (shown self) c.args.number c.args.kept (c.to_member.ensures.none c.in_default.is)
 
 pub returns-clause-happened : goal.returns-clause-happened
 returns-clause-happened g c = λ app nothing.
@@ -17,5 +21,6 @@ returns-clause-happened g c = λ app nothing.
     let d = c.in-Some.delivery in
     let p = packet_of self.mail.messages.items d in
     let s = seat_there self d.target c.requires.held c.in-Some.ensures.there.0 c.in-Some.ensures.there.1 in
-    delivery_stop_happens {R = g.row.R.Denot} g.R.Records.stands g.R.Records.is_kept app self c.stop.new.self d.target s.0 s.1 c.requires.held (c.stop.ensures.stopped s.0 s.1) (c.stop.ensures.none s.0 s.1)
-    c.args.number p c.args.kept c.in-Some.ensures.there.3 (target_of self.mail.messages.items d)
+    subst (λ b. Follows {R = g.row.R.Denot} g.R.Records.stands g.R.Records.is_kept (Sound self.members) (HappenedIf (OneFailed g.R.Records.failed self.seats.items c.stop.new.self.seats.items) app (StopInDeliver c.args.number b)) (shown self) (shown c.stop.new.self)) (sym c.if-kept.false)
+    (delivery_stop_happens {R = g.row.R.Denot} g.R.Records.stands g.R.Records.is_kept _ app self c.stop.new.self d.target s.0 s.1 c.requires.held (c.stop.ensures.stopped s.0 s.1) (c.stop.ensures.none s.0 s.1)
+    c.args.number p c.in-Some.ensures.there.3 (target_of self.mail.messages.items d))

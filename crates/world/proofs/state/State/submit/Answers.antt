@@ -16,7 +16,7 @@ returns-clause-happened g c =
     let self = c.args.self.now in
     let s = seat_there self c.args.number c.requires.held c.requires.least c.requires.most in
     ok_so c.ask.result _ _ (λ asked app nothing.
-    submitted {R = g.row.R.Denot} g.R.Records.stands g.R.Records.is_kept app self.members c.requires.held.most (shown self) c.args.number s.0 s.1 c.args.request.now
+    submitted {R = g.row.R.Denot} g.R.Records.stands g.R.Records.is_kept _ app self.members c.requires.held.most (shown self) c.args.number s.0 s.1 c.args.request.now
     (shown (record { members = self.members; seats = self.seats; mail = c.ask.new.self; told = self.told })) (rw asked (rw c.in_ok-request.ensures.cases refl))) c.ask.ensures.asked
 
 pub returns-clause-refused : goal.returns-clause-refused

@@ -3,7 +3,7 @@ use Rattle.member.specs.Steps.{KnowsNothing}
 use Rattle.paxos.specs.Application.{Application}
 use Rattle.paxos.proofs.WellFormed.{Sound}
 use Rattle.world.specs.Held.{shown}
-use Rattle.world.specs.Reached.{Follows, Happened, event_of}
+use Rattle.world.specs.Reached.{Follows, HappenedIf, OneFailed, event_of}
 use Rattle.world.specs.Runs.{is_for}
 use Rattle.world.specs.Shown.{World}
 use Rattle.world.proofs.Given.{ok_so}
@@ -15,7 +15,7 @@ happen-requires-clause-named g c = subst (λ (w : World g.row.R.Denot). is_for w
 pub returns-clause-happened : goal.returns-clause-happened
 returns-clause-happened g c =
     ok_so c.happen.result
-    ((app : Application) → KnowsNothing app → Follows {R = g.row.R.Denot} g.R.Records.stands g.R.Records.is_kept (Sound c.self.inside.state.members) (Happened app (event_of c.args.event.now)) (shown c.self.inside.state) (shown c.happen.new.self))
-    ((app : Application) → KnowsNothing app → Follows {R = g.row.R.Denot} g.R.Records.stands g.R.Records.is_kept (Sound c.args.self.now.members) (Happened app (event_of c.args.event.now)) c.args.self.now (shown c.happen.new.self))
-    (λ f app nothing. subst (λ (w : World g.row.R.Denot). Follows {R = g.row.R.Denot} g.R.Records.stands g.R.Records.is_kept (Sound w.members) (Happened app (event_of c.args.event.now)) w (shown c.happen.new.self)) c.self.view_is (f app nothing))
+    ((app : Application) → KnowsNothing app → Follows {R = g.row.R.Denot} g.R.Records.stands g.R.Records.is_kept (Sound c.self.inside.state.members) (HappenedIf (OneFailed g.R.Records.failed c.self.inside.state.seats.items c.happen.new.self.seats.items) app (event_of c.args.event.now)) (shown c.self.inside.state) (shown c.happen.new.self))
+    ((app : Application) → KnowsNothing app → Follows {R = g.row.R.Denot} g.R.Records.stands g.R.Records.is_kept (Sound c.args.self.now.members) (HappenedIf (OneFailed g.R.Records.failed c.args.self.now.seats c.happen.new.self.seats.items) app (event_of c.args.event.now)) c.args.self.now (shown c.happen.new.self))
+    (λ f app nothing. subst (λ (w : World g.row.R.Denot). Follows {R = g.row.R.Denot} g.R.Records.stands g.R.Records.is_kept (Sound w.members) (HappenedIf (OneFailed g.R.Records.failed w.seats c.happen.new.self.seats.items) app (event_of c.args.event.now)) w (shown c.happen.new.self)) c.self.view_is (f app nothing))
     c.happen.ensures.happened
