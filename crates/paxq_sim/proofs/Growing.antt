@@ -1,5 +1,5 @@
 -- No event takes a message back.
-use Rattle.std.proofs.Common.{◌≡◌, ℕ, ◌≤◌, arith, length, length-append, Option, Some, None, ◌∷◌, [], Bool, false}
+use Rattle.std.proofs.Common.{ℕ, ◌≤◌, arith, length, length-append, Option, Some, None, ◌∷◌, [], Bool, false}
 use Rattle.ballots.specs.Messages.{Body, Submit, Ask, Packet, packet}
 use Rattle.paxos.specs.Application.{Application}
 use Rattle.paxos.specs.Lists.{at}

@@ -1,5 +1,5 @@
 -- From a change of what code holds to the commands that lead to it.
-use Rattle.std.proofs.Common.{◌≡◌, ℕ, ◌<◌, ◌≤◌, ◌+◌, arith, refl, sym, subst, ap, ◌∙◌, inl, ◌⊎◌, Bool, true, false, ◌||◌, List, [], ◌∷◌, ◌++◌, length}
+use Rattle.std.proofs.Common.{◌≡◌, ℕ, ◌<◌, ◌≤◌, ◌+◌, refl, sym, subst, ap, ◌∙◌, inl, true, false, ◌||◌, List, [], ◌∷◌, ◌++◌, length}
 use Rattle.acceptor.specs.Script.{IsKept, Script, Stands}
 use Rattle.ballots.specs.Ballot.{most_members}
 use Rattle.ballots.specs.Messages.{up_to}
@@ -20,7 +20,7 @@ use Rattle.world.specs.Shown.{World, AreKept, Shows}
 use Rattle.world.specs.declared.event.Event.{Event}
 use Rattle.world.proofs.Reaching.{led}
 use Rattle.paxq_sim.specs.Going.{Comes, Delivers, HasCome, IsDelivering}
-use Rattle.paxq_sim.specs.Play.{Plays, Progress, is_among, named_in, opening}
+use Rattle.paxq_sim.specs.Play.{is_among, named_in}
 use Rattle.paxq_sim.proofs.Steps.{begins_delivering, delivers_next, ends_delivering, event_comes, opening_comes, passes_named}
 
 -- an application that keeps no replies

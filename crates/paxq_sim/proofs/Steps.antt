@@ -1,6 +1,5 @@
 -- One command more.
-use Rattle.std.proofs.Common.{◌≡◌, ℕ, zero, suc, ◌+◌, ◌<◌, ◌≤◌, arith, refl, sym, subst, ap, ◌∙◌, Bool, true, false, ◌&&◌, ◌||◌, not, nat_eq, nat_lt, List, [], ◌∷◌, ◌++◌, append-nil, map, filter, length, cond}
-use Rattle.std.specs.List.{list_any}
+use Rattle.std.proofs.Common.{◌≡◌, ℕ, zero, suc, ◌+◌, ◌<◌, ◌≤◌, arith, refl, sym, subst, ap, ◌∙◌, Bool, true, false, ◌&&◌, ◌||◌, not, nat_eq, nat_lt, List, [], ◌∷◌, ◌++◌, append-nil, map, length, cond}
 use Rattle.std.proofs.lemmas.Bool.{le-ltb, lt-ltb}
 use Rattle.std.proofs.lemmas.List.{map-append}
 use Rattle.std.proofs.lemmas.List.Elements.{filter-append}
@@ -10,7 +9,7 @@ use Rattle.ballots.specs.Messages.{up_to}
 use Rattle.event_files.specs.declared.command.Command.{Command}
 use Rattle.event_files.specs.declared.command.Command.TheVariants.{Happens, DeliverAll}
 use Rattle.paxos.specs.Application.{Application}
-use Rattle.paxos.specs.World.{World as Whole, Choice, Deliver, Event as HappensThere, Run, happens, start}
+use Rattle.paxos.specs.World.{World as Whole, Deliver, Run, happens, start}
 use Rattle.paxos.proofs.WellFormed.{Sound, happens_sound, start_sound}
 use Rattle.paxos.proofs.Worlds.{Run-more, Run-none}
 use Rattle.world.specs.Reached.{Happened, event_of}

@@ -1,5 +1,5 @@
 -- How far code is in a simulation.
-use Rattle.std.specs.Prelude.{◌≡◌, ◌≤◌, ℕ, List, [], map, length}
+use Rattle.std.specs.Prelude.{◌≡◌, ◌≤◌, ℕ, List, map, length}
 use Rattle.acceptor.specs.Script.{Script, Stands}
 use Rattle.event_files.specs.declared.command.Command.{Command}
 use Rattle.paxos.proofs.WellFormed.{Sound}

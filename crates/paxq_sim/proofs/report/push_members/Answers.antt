@@ -1,4 +1,4 @@
-use Rattle.std.proofs.Common.{◌≡◌, ◌++◌, ◌∙◌, ap, arith, length, subst, string_bytes}
+use Rattle.std.proofs.Common.{◌≡◌, ◌++◌, ◌∙◌, arith, length, subst, string_bytes}
 use Rattle.std.specs.Prelude.{flat_map}
 use Rattle.ballots.specs.Messages.{up_to}
 use Rattle.paxq_sim.specs.Play.{member_line}

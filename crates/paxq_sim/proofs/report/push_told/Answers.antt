@@ -1,4 +1,4 @@
-use Rattle.std.proofs.Common.{sym, subst, ap, drop, string_bytes, arith, ◌+◌}
+use Rattle.std.proofs.Common.{subst, ap, drop, string_bytes, arith, ◌+◌}
 use Rattle.paxos.specs.World.{told_to}
 use Rattle.world.specs.Tellings.{told_in}
 use Rattle.paxq_sim.proofs.Reports.{TellsOn, drop_item, tells_more}

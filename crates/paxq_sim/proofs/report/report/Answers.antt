@@ -1,6 +1,6 @@
-use Rattle.std.proofs.Common.{[], ◌++◌, sym, ap, ◌∙◌, append_assoc, string_bytes, length}
+use Rattle.std.proofs.Common.{[], ◌++◌, sym, ap, ◌∙◌, string_bytes, length}
 use Rattle.std.specs.Prelude.{flat_map}
-use Rattle.paxq_sim.specs.Play.{first_told, message_line, told_line}
+use Rattle.paxq_sim.specs.Play.{first_told, told_line}
 use Rattle.paxq_sim.proofs.Reports.{reported}
 use Rattle.paxq_sim.proofs.report.report.Goals as goal
 

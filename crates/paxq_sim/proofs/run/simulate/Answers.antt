@@ -1,6 +1,6 @@
-use Rattle.std.proofs.Common.{◌≡◌, ◌∙◌, ap, subst, sym}
+use Rattle.std.proofs.Common.{◌∙◌, ap, subst, sym}
 use Rattle.paxq_run.proofs.Turns.{ok-gives}
-use Rattle.paxq_sim.specs.Going.{Comes, HasCome}
+use Rattle.paxq_sim.specs.Going.{Comes}
 use Rattle.paxq_sim.specs.Play.{Plays, opening, report}
 use Rattle.paxq_sim.proofs.Leading.{one_of}
 use Rattle.paxq_sim.proofs.run.simulate.Goals as goal

@@ -1,4 +1,3 @@
-use Rattle.ballots.specs.Ballot.{most_members}
 use Rattle.acceptor.specs.Script.{IsKept, Stands}
 use Rattle.paxos.specs.World.{Deliver}
 use Rattle.paxos.proofs.WellFormed.{Sound}

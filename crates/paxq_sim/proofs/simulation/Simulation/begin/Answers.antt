@@ -1,4 +1,4 @@
-use Rattle.std.proofs.Common.{◌≡◌, ◌∙◌, [], ap, arith, length, subst, sym}
+use Rattle.std.proofs.Common.{◌∙◌, [], ap, arith, length, subst, sym}
 use Rattle.std.proofs.lemmas.List.{length-map}
 use Rattle.ballots.specs.Messages.{up_to}
 use Rattle.paxos.specs.Lists.{Has}

@@ -1,4 +1,4 @@
-use Rattle.std.proofs.Common.{◌≡◌, ◌∙◌, refl, arith}
+use Rattle.std.proofs.Common.{◌∙◌, refl, arith}
 use Rattle.paxq_sim.proofs.Leading.{delivering, ended}
 use Rattle.paxq_sim.proofs.simulation.Simulation.deliver_all.Goals as goal
 

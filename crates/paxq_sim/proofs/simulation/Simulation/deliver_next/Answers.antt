@@ -1,4 +1,4 @@
-use Rattle.std.proofs.Common.{◌≡◌, ◌∙◌, sym}
+use Rattle.std.proofs.Common.{◌∙◌, sym}
 use Rattle.paxos.specs.Examples.{silent}
 use Rattle.paxq_sim.proofs.Leading.{delivered, passed, silent_knows}
 use Rattle.paxq_sim.proofs.simulation.Simulation.deliver_next.Goals as goal

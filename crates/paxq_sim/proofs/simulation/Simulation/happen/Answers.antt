@@ -1,4 +1,4 @@
-use Rattle.std.proofs.Common.{◌≡◌, ◌∙◌, ◌||◌, sym}
+use Rattle.std.proofs.Common.{◌∙◌, ◌||◌}
 use Rattle.acceptor.specs.Script.{IsKept, Stands}
 use Rattle.paxos.proofs.WellFormed.{Sound}
 use Rattle.world.specs.Reached.{event_of}
