@@ -209,58 +209,65 @@ impl Code {
             _ => None,
         }
     }
+
+    /// Its name.
+    fn name(self) -> &'static str
+        ensures { result.now ≡ code_name self }
+    {
+        match self {
+            Code::XPST0003 => "XPST0003",
+            Code::XPST0008 => "XPST0008",
+            Code::XPST0017 => "XPST0017",
+            Code::XQST0090 => "XQST0090",
+            Code::XUST0001 => "XUST0001",
+            Code::XPDY0002 => "XPDY0002",
+            Code::XPTY0004 => "XPTY0004",
+            Code::XPTY0018 => "XPTY0018",
+            Code::XPTY0019 => "XPTY0019",
+            Code::XPTY0020 => "XPTY0020",
+            Code::FOAR0001 => "FOAR0001",
+            Code::FOAR0002 => "FOAR0002",
+            Code::FODC0002 => "FODC0002",
+            Code::FORG0001 => "FORG0001",
+            Code::FORG0006 => "FORG0006",
+            Code::XQTY0024 => "XQTY0024",
+            Code::XQDY0025 => "XQDY0025",
+            Code::XQDY0026 => "XQDY0026",
+            Code::XQDY0041 => "XQDY0041",
+            Code::XQDY0064 => "XQDY0064",
+            Code::XQDY0072 => "XQDY0072",
+            Code::XQDY0074 => "XQDY0074",
+            Code::XUTY0004 => "XUTY0004",
+            Code::XUTY0005 => "XUTY0005",
+            Code::XUTY0006 => "XUTY0006",
+            Code::XUTY0007 => "XUTY0007",
+            Code::XUTY0008 => "XUTY0008",
+            Code::XUTY0010 => "XUTY0010",
+            Code::XUTY0011 => "XUTY0011",
+            Code::XUTY0012 => "XUTY0012",
+            Code::XUTY0022 => "XUTY0022",
+            Code::XUDY0009 => "XUDY0009",
+            Code::XUDY0015 => "XUDY0015",
+            Code::XUDY0016 => "XUDY0016",
+            Code::XUDY0017 => "XUDY0017",
+            Code::XUDY0021 => "XUDY0021",
+            Code::XUDY0027 => "XUDY0027",
+            Code::XUDY0029 => "XUDY0029",
+            Code::XUDY0030 => "XUDY0030",
+            Code::PXQ0001 => "PXQ0001",
+            Code::PXQ0002 => "PXQ0002",
+            Code::PXQ0003 => "PXQ0003",
+            Code::PXQ0004 => "PXQ0004",
+            Code::PXQ0005 => "PXQ0005",
+            Code::XQST0089 => "XQST0089",
+        }
+    }
 }
 
 impl fmt::Display for Code {
     ghost output = { λ c. Some (code_name c) };
 
     fn fmt<W: fmt::Write>(&self, f: &mut fmt::Formatter<W>) -> fmt::Result {
-        match self {
-            Code::XPST0003 => write!(f, "XPST0003"),
-            Code::XPST0008 => write!(f, "XPST0008"),
-            Code::XPST0017 => write!(f, "XPST0017"),
-            Code::XQST0090 => write!(f, "XQST0090"),
-            Code::XUST0001 => write!(f, "XUST0001"),
-            Code::XPDY0002 => write!(f, "XPDY0002"),
-            Code::XPTY0004 => write!(f, "XPTY0004"),
-            Code::XPTY0018 => write!(f, "XPTY0018"),
-            Code::XPTY0019 => write!(f, "XPTY0019"),
-            Code::XPTY0020 => write!(f, "XPTY0020"),
-            Code::FOAR0001 => write!(f, "FOAR0001"),
-            Code::FOAR0002 => write!(f, "FOAR0002"),
-            Code::FODC0002 => write!(f, "FODC0002"),
-            Code::FORG0001 => write!(f, "FORG0001"),
-            Code::FORG0006 => write!(f, "FORG0006"),
-            Code::XQTY0024 => write!(f, "XQTY0024"),
-            Code::XQDY0025 => write!(f, "XQDY0025"),
-            Code::XQDY0026 => write!(f, "XQDY0026"),
-            Code::XQDY0041 => write!(f, "XQDY0041"),
-            Code::XQDY0064 => write!(f, "XQDY0064"),
-            Code::XQDY0072 => write!(f, "XQDY0072"),
-            Code::XQDY0074 => write!(f, "XQDY0074"),
-            Code::XUTY0004 => write!(f, "XUTY0004"),
-            Code::XUTY0005 => write!(f, "XUTY0005"),
-            Code::XUTY0006 => write!(f, "XUTY0006"),
-            Code::XUTY0007 => write!(f, "XUTY0007"),
-            Code::XUTY0008 => write!(f, "XUTY0008"),
-            Code::XUTY0010 => write!(f, "XUTY0010"),
-            Code::XUTY0011 => write!(f, "XUTY0011"),
-            Code::XUTY0012 => write!(f, "XUTY0012"),
-            Code::XUTY0022 => write!(f, "XUTY0022"),
-            Code::XUDY0009 => write!(f, "XUDY0009"),
-            Code::XUDY0015 => write!(f, "XUDY0015"),
-            Code::XUDY0016 => write!(f, "XUDY0016"),
-            Code::XUDY0017 => write!(f, "XUDY0017"),
-            Code::XUDY0021 => write!(f, "XUDY0021"),
-            Code::XUDY0027 => write!(f, "XUDY0027"),
-            Code::XUDY0029 => write!(f, "XUDY0029"),
-            Code::XUDY0030 => write!(f, "XUDY0030"),
-            Code::PXQ0001 => write!(f, "PXQ0001"),
-            Code::PXQ0002 => write!(f, "PXQ0002"),
-            Code::PXQ0003 => write!(f, "PXQ0003"),
-            Code::PXQ0004 => write!(f, "PXQ0004"),
-            Code::PXQ0005 => write!(f, "PXQ0005"),
-            Code::XQST0089 => write!(f, "XQST0089"),
-        }
+        f.write_str(self.name())
     }
 }
