@@ -9,8 +9,6 @@ mod laws;
 mod operators;
 mod print;
 mod readings;
-#[cfg(test)]
-mod tests;
 mod text;
 
 pub use atom::{Atom, Item, atomize, truth};
