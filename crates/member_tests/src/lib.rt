@@ -1,6 +1,6 @@
 //! Tests of a member, over what it makes public.
 //!
-//! `rt try --test --fail-alloc N`, with N from 1 to 76, refuses each allocation in turn: what the member shows is then as it was, and
+//! `rt try --test --fail-alloc N`, with N from 1 to 200, refuses each allocation in turn: what the member shows is then as it was, and
 //! the call is made again.
 #![tactic(auto)]
 
@@ -11,8 +11,12 @@ mod leading;
 #[cfg(test)]
 mod learning;
 #[cfg(test)]
-mod messages;
+mod node;
 #[cfg(test)]
-mod steps;
+mod same;
+#[cfg(test)]
+mod scripts;
 #[cfg(test)]
 mod stopping;
+#[cfg(test)]
+mod words;
