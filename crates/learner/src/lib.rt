@@ -6,8 +6,6 @@ mod heard;
 mod learner;
 mod poll;
 mod tallies;
-#[cfg(test)]
-mod tests;
 
 pub use draft::Draft;
 pub use heard::{Heard, run};

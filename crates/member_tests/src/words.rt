@@ -36,24 +36,32 @@ impl<'a> Words<'a> {
     }
 
     pub(super) fn number(&mut self, rt: &impl Abort) -> u64 {
-        self.next().parse::<u64>().ok().expect(rt, "a number")
+        number(rt, self.next())
     }
 
     pub(super) fn position(&mut self, rt: &impl Abort) -> u32 {
-        self.next().parse::<u32>().ok().expect(rt, "a position")
+        u32::try_from(self.number(rt)).ok().expect(rt, "a position")
     }
 
     pub(super) fn member(&mut self, rt: &impl Abort) -> u8 {
-        self.next().parse::<u8>().ok().expect(rt, "a member")
+        member(rt, self.number(rt))
     }
 
     pub(super) fn ballot(&mut self, rt: &impl Abort) -> Ballot {
-        let (round, member) = cut(self.next(), ",");
+        let (round, owner) = cut(self.next(), ",");
         Ballot {
-            round: round.parse::<u64>().ok().expect(rt, "a round"),
-            member: member.parse::<u8>().ok().expect(rt, "a member"),
+            round: number(rt, round),
+            member: member(rt, number(rt, owner)),
         }
     }
+}
+
+fn number(rt: &impl Abort, word: &str) -> u64 {
+    word.parse::<u64>().ok().expect(rt, "a number")
+}
+
+fn member(rt: &impl Abort, number: u64) -> u8 {
+    u8::try_from(number).ok().expect(rt, "a member")
 }
 
 // The request of a number.

@@ -2,4 +2,8 @@
 #![tactic(auto)]
 
 #[cfg(test)]
+mod learning;
+#[cfg(test)]
 mod proposing;
+#[cfg(test)]
+mod words;

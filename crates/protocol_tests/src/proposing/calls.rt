@@ -1,15 +1,22 @@
-// Calls of two proposers, and what they send.
+// Two proposers of member 2 of three that are called alike, and lines of their calls.
+//
+// `begin BALLOT POSITION LEARNT ..`: it begins after that promise from the position on, of which and of those above these are learnt.
+// `promise MEMBER FIRST LAST` and for each vote `vote POSITION MEMBER NUMBER`: the member promises ballot 2,2, and reports votes of ballots of
+// round 1. `learned POSITION ..`, `submit NUMBER`, `resend`. `yield BALLOT`; `leads BALLOT`, or `-` for none.
+//
+// After ` > ` stands what is sent of ballot 2,2: `ask MEMBER POSITION` for each Prepare, then `at POSITION NUMBER` for each Accept (0 is the
+// no-op). `-` stands where there are no messages to send, and a refusal stands there too.
 ghost use Rattle.std.specs.Prelude.{◌≡◌, ◌≤◌, true};
 ghost use Rattle.ballots.specs.Messages.{window_of};
 ghost use Rattle.ballots.specs.Values.{positions};
 ghost use Rattle.proposer.specs.Beginning.{IsRising};
 ghost use Rattle.proposer.specs.Hearing.{AreBetween, IsWindow};
 
-use ballots::{Ballot, Entry, Members, Request, Value, Vote, Window};
-use proposer::{Proposer, ProposerFault, Sends};
+use crate::words::{Words, cut};
+use ballots::{Ballot, Entry, Members, Pair, Request, Value, Vote, Window};
+use proposer::{Asked, Proposer, ProposerFault, Sends};
 use std::alloc::{AllocError, Global};
 use std::process::Abort;
-use std::test::Fail;
 
 // The client and the text of each request.
 const CLIENT: u32 = 7;
@@ -19,149 +26,31 @@ const TEXT: &str = "insert node element a {} into doc(\"db\")";
 // The last position.
 const POSITIONS: u32 = 1_000_000;
 
+// How many votes or positions a line has at the most.
+const MOST: usize = 8;
+
+// The ballot that is led with.
+const OWN: Ballot = Ballot {
+    round: 2,
+    member: 2,
+};
+
 // A call of a proposer.
 #[derive(Drop)]
-pub(super) enum Call<'a> {
-    // It begins after a promise, from a position on, of which and of those above these are learnt.
-    Begin(Ballot, u32, &'a [u32]),
-    // That member promises this.
-    Promise(u8, &'a Window),
-    // These positions are learnt.
-    Learned(&'a [u32]),
-    // This is requested.
-    Submit(&'a Request),
-    // It says all again.
+enum Call {
+    Begin(Ballot, u32, Vec<u32>),
+    Promise(u8, Window),
+    Learned(Vec<u32>),
+    Submit(Request),
     Resend,
 }
 
-// Two proposers of member 2 of three that are told the same. A call that is refused memory is made again.
-#[derive(Drop)]
-pub(super) struct Twins {
-    pub(super) tried: Proposer,
-    pub(super) other: Proposer,
-}
-
-impl Twins {
-    pub(super) fn new(rt: &impl Abort) -> Result<Twins, Fail> {
-        let members = Members::new(3).ok_or("no members")?;
-        assert!(rt; 2 <= members.count());
-        Ok(Twins {
-            tried: Proposer::new(members, 2),
-            other: Proposer::new(members, 2),
-        })
+// The request of a number.
+fn request(alloc: Global, number: u64) -> Result<Request, AllocError> {
+    match Request::new(alloc, CLIENT, number, 1, TEXT) {
+        Ok(request) => Ok(request),
+        Err(_) => Err(AllocError),
     }
-
-    // Makes a call. Where it is refused memory, the proposer is as the other, which was not called.
-    pub(super) fn take(
-        &mut self,
-        rt: &impl Abort,
-        alloc: Global,
-        call: &Call,
-    ) -> Result<Option<Sends>, ProposerFault> {
-        let answer = match make(rt, alloc, &mut self.tried, call) {
-            Err(ProposerFault::Memory) => {
-                self.compare(rt, alloc)?;
-                make(rt, alloc, &mut self.tried, call)
-            }
-            answer => answer,
-        };
-        let again = match make(rt, alloc, &mut self.other, call) {
-            Err(ProposerFault::Memory) => make(rt, alloc, &mut self.other, call),
-            again => again,
-        };
-        assert!(rt; answer.is_ok() == again.is_ok());
-        self.compare(rt, alloc)?;
-        answer
-    }
-
-    // Expects that both are the same to all who read them.
-    fn compare(&self, rt: &impl Abort, alloc: Global) -> Result<(), AllocError> {
-        assert_eq!(rt; self.tried.leads(), self.other.leads());
-        for number in 0..=20 {
-            assert_eq!(rt;
-                self.tried.has_open(CLIENT, number),
-                self.other.has_open(CLIENT, number)
-            );
-        }
-        let (tried, other) = (said(alloc, &self.tried)?, said(alloc, &self.other)?);
-        match (tried, other) {
-            (Some(tried), Some(other)) => assert!(rt; is_same(&tried, &other)),
-            (tried, other) => assert!(rt; tried.is_none() && other.is_none()),
-        }
-        Ok(())
-    }
-}
-
-// Makes a call of one proposer.
-fn make(
-    rt: &impl Abort,
-    alloc: Global,
-    proposer: &mut Proposer,
-    call: &Call,
-) -> Result<Option<Sends>, ProposerFault> {
-    match call {
-        Call::Begin(promise, from, learnt) => {
-            assert!(rt; 1 <= *from && *from <= POSITIONS + 1 && is_rising(*from, learnt));
-            let ballot = proposer.begin(alloc, *promise, *from, learnt)?;
-            assert_eq!(rt; proposer.leads(), Some(ballot));
-            Ok(None)
-        }
-        Call::Promise(sender, window) => {
-            assert!(rt; 1 <= *sender && *sender <= proposer.members().count());
-            assert!(rt; is_window(window));
-            Ok(proposer.on_promise(alloc, *sender, window)?)
-        }
-        Call::Learned(learnt) => {
-            assert!(rt; is_rising(1, learnt));
-            Ok(proposer.on_learned(alloc, learnt)?)
-        }
-        Call::Submit(request) => {
-            assert!(rt; !proposer.has_open(request.id().client, request.id().number));
-            Ok(Some(proposer.submit(alloc, request)?))
-        }
-        Call::Resend => Ok(proposer.resend(alloc)?),
-    }
-}
-
-// What a proposer says again; where memory is refused it is asked again.
-fn said(alloc: Global, proposer: &Proposer) -> Result<Option<Sends>, AllocError> {
-    match proposer.resend(alloc) {
-        Ok(sends) => Ok(sends),
-        Err(_) => proposer.resend(alloc),
-    }
-}
-
-// Whether the two are the same messages.
-fn is_same(sends: &Sends, other: &Sends) -> bool {
-    sends.ballot == other.ballot
-        && sends.prepares.len() == other.prepares.len()
-        && sends.accepts.len() == other.accepts.len()
-        && (sends.prepares.iter())
-            .zip(&other.prepares)
-            .all(|(a, b)| a.member == b.member && a.from == b.from)
-        && (sends.accepts.iter()).zip(&other.accepts).all(|(a, b)| a.position == b.position
-            && a.value.is_same(&b.value))
-}
-
-// Expects Prepares to these members for positions from there on, and Accepts of these requests at positions (0 is the no-op), all of
-// ballot (2,2).
-pub(super) fn expect(
-    rt: &impl Abort,
-    sends: Option<Sends>,
-    asked: &[(u8, u32)],
-    proposed: &[(u32, u64)],
-) -> Result<(), Fail> {
-    let sends = sends.ok_or("nothing is sent")?;
-    assert_eq!(rt; sends.ballot, ballot(2, 2));
-    assert_eq!(rt; sends.prepares.len(), asked.len());
-    for (prepare, want) in sends.prepares.iter().zip(asked) {
-        assert_eq!(rt; (prepare.member, prepare.from), *want);
-    }
-    assert_eq!(rt; sends.accepts.len(), proposed.len());
-    for (accept, want) in sends.accepts.iter().zip(proposed) {
-        assert_eq!(rt; (accept.position, number_of(&accept.value)), *want);
-    }
-    Ok(())
 }
 
 // The number of a value's request, 0 of the no-op.
@@ -178,51 +67,318 @@ fn number_of(value: &Value) -> u64 {
     }
 }
 
-pub(super) fn ballot(round: u64, member: u8) -> Ballot {
-    Ballot { round, member }
-}
-
-// The request of a number; where memory is refused it is made again.
-pub(super) fn request(alloc: Global, number: u64) -> Result<Request, Fail> {
-    match Request::new(alloc, CLIENT, number, 1, TEXT) {
-        Ok(request) => Ok(request),
-        Err(_) => Ok(Request::new(alloc, CLIENT, number, 1, TEXT)?),
-    }
-}
-
-// A window of ballot (2,2): at each of these positions a vote of that member's ballot of round 1 for the request of that number.
-// Where memory is refused it is made again.
-pub(super) fn window(
+fn read_positions(
+    rt: &impl Abort,
     alloc: Global,
-    from: u32,
-    covered: u32,
-    votes: &[(u32, u8, u64)],
-) -> Result<Window, Fail> {
-    let entries = match entries(alloc, votes) {
-        Ok(entries) => entries,
-        Err(_) => entries(alloc, votes)?,
-    };
+    words: &mut Words,
+) -> Result<Vec<u32>, AllocError> {
+    let mut positions = Vec::new(alloc);
+    for _position in 0..MOST {
+        if words.rest.is_empty() {
+            break;
+        }
+        positions.push(words.position(rt))?;
+    }
+    Ok(positions)
+}
+
+// A position, a member whose ballot of round 1 it is, and the number of a request.
+fn read_entry(rt: &impl Abort, alloc: Global, words: &mut Words) -> Result<Entry, AllocError> {
+    let position = words.position(rt);
+    let member = words.member(rt);
+    let ballot = Ballot { round: 1, member };
+    let value = Value::Request(request(alloc, words.number(rt))?);
+    let vote = Vote { ballot, value };
+    Ok(Entry { position, vote })
+}
+
+fn read_entries(
+    rt: &impl Abort,
+    alloc: Global,
+    words: &mut Words,
+) -> Result<Vec<Entry>, AllocError> {
+    let mut entries = Vec::new(alloc);
+    for _vote in 0..MOST {
+        if words.next() != "vote" {
+            break;
+        }
+        entries.push(read_entry(rt, alloc, words)?)?;
+    }
+    Ok(entries)
+}
+
+fn read_window(rt: &impl Abort, alloc: Global, words: &mut Words) -> Result<Window, AllocError> {
+    let from = words.position(rt);
+    let covered = words.position(rt);
     Ok(Window {
-        ballot: ballot(2, 2),
+        ballot: OWN,
         from,
         covered,
-        entries,
+        entries: read_entries(rt, alloc, words)?,
     })
 }
 
-fn entries(alloc: Global, votes: &[(u32, u8, u64)]) -> Result<Vec<Entry>, ProposerFault> {
-    let mut entries = Vec::new(alloc);
-    for (position, member, number) in votes {
-        let request = Request::new(alloc, CLIENT, *number, 1, TEXT);
-        entries.push(Entry {
-            position: *position,
-            vote: Vote {
-                ballot: ballot(1, *member),
-                value: Value::Request(request.map_err(|_| ProposerFault::Memory)?),
-            },
-        })?;
+fn read_begin(rt: &impl Abort, alloc: Global, words: &mut Words) -> Result<Call, AllocError> {
+    let promise = words.ballot(rt);
+    let from = words.position(rt);
+    Ok(Call::Begin(promise, from, read_positions(rt, alloc, words)?))
+}
+
+fn read_promise(rt: &impl Abort, alloc: Global, words: &mut Words) -> Result<Call, AllocError> {
+    let sender = words.member(rt);
+    Ok(Call::Promise(sender, read_window(rt, alloc, words)?))
+}
+
+fn read_call(rt: &impl Abort, alloc: Global, text: &str) -> Result<Call, AllocError> {
+    let mut words = Words { rest: text };
+    match words.next() {
+        "begin" => read_begin(rt, alloc, &mut words),
+        "promise" => read_promise(rt, alloc, &mut words),
+        "learned" => Ok(Call::Learned(read_positions(rt, alloc, &mut words)?)),
+        "submit" => Ok(Call::Submit(request(alloc, words.number(rt))?)),
+        "resend" => Ok(Call::Resend),
+        _ => panic!(rt; "no call: {text}"),
     }
-    Ok(entries)
+}
+
+// A call in words; where memory is refused it is read again.
+fn read_whole_call(rt: &impl Abort, alloc: Global, text: &str) -> Call {
+    match read_call(rt, alloc, text) {
+        Ok(call) => call,
+        Err(_) => read_call(rt, alloc, text).expect(rt, "memory"),
+    }
+}
+
+fn begin(
+    rt: &impl Abort,
+    alloc: Global,
+    proposer: &mut Proposer,
+    promise: Ballot,
+    from: u32,
+    learnt: &[u32],
+) -> Result<(), ProposerFault> {
+    assert!(rt; 1 <= from && from <= POSITIONS + 1 && is_rising(from, learnt));
+    let ballot = proposer.begin(alloc, promise, from, learnt)?;
+    assert_eq!(rt; proposer.leads(), Some(ballot));
+    Ok(())
+}
+
+fn promise(
+    rt: &impl Abort,
+    alloc: Global,
+    proposer: &mut Proposer,
+    sender: u8,
+    window: &Window,
+) -> Result<Option<Sends>, ProposerFault> {
+    assert!(rt; 1 <= sender && sender <= proposer.members().count());
+    assert!(rt; is_window(window));
+    Ok(proposer.on_promise(alloc, sender, window)?)
+}
+
+fn learn(
+    rt: &impl Abort,
+    alloc: Global,
+    proposer: &mut Proposer,
+    learnt: &[u32],
+) -> Result<Option<Sends>, ProposerFault> {
+    assert!(rt; is_rising(1, learnt));
+    Ok(proposer.on_learned(alloc, learnt)?)
+}
+
+fn submit(
+    rt: &impl Abort,
+    alloc: Global,
+    proposer: &mut Proposer,
+    request: &Request,
+) -> Result<Option<Sends>, ProposerFault> {
+    assert!(rt; !proposer.has_open(request.id().client, request.id().number));
+    Ok(Some(proposer.submit(alloc, request)?))
+}
+
+// Makes a call of one proposer.
+fn make(
+    rt: &impl Abort,
+    alloc: Global,
+    proposer: &mut Proposer,
+    call: &Call,
+) -> Result<Option<Sends>, ProposerFault> {
+    match call {
+        Call::Begin(promise, from, learnt) => {
+            begin(rt, alloc, proposer, *promise, *from, learnt)?;
+            Ok(None)
+        }
+        Call::Promise(sender, window) => promise(rt, alloc, proposer, *sender, window),
+        Call::Learned(learnt) => learn(rt, alloc, proposer, learnt),
+        Call::Submit(request) => submit(rt, alloc, proposer, request),
+        Call::Resend => Ok(proposer.resend(alloc)?),
+    }
+}
+
+// What a proposer says again; where memory is refused it is asked again.
+fn said(rt: &impl Abort, alloc: Global, proposer: &Proposer) -> Option<Sends> {
+    match proposer.resend(alloc) {
+        Ok(sends) => sends,
+        Err(_) => proposer.resend(alloc).expect(rt, "memory"),
+    }
+}
+
+fn are_same_prepares(prepares: &[Asked], others: &[Asked]) -> bool {
+    for (a, b) in prepares.iter().zip(others) {
+        if a.member != b.member || a.from != b.from {
+            return false;
+        }
+    }
+    prepares.len() == others.len()
+}
+
+fn are_same_accepts(accepts: &[Pair], others: &[Pair]) -> bool {
+    for (a, b) in accepts.iter().zip(others) {
+        if a.position != b.position || !a.value.is_same(&b.value) {
+            return false;
+        }
+    }
+    accepts.len() == others.len()
+}
+
+// Whether the two are the same messages.
+fn are_same(sends: &Option<Sends>, others: &Option<Sends>) -> bool {
+    match (sends, others) {
+        (Some(a), Some(b)) => {
+            a.ballot == b.ballot
+                && are_same_prepares(&a.prepares, &b.prepares)
+                && are_same_accepts(&a.accepts, &b.accepts)
+        }
+        (None, None) => true,
+        _ => false,
+    }
+}
+
+#[derive(Drop)]
+struct Twins {
+    tried: Proposer,
+    other: Proposer,
+}
+
+fn new_proposer(rt: &impl Abort) -> Proposer {
+    let members = Members::new(3).expect(rt, "members");
+    assert!(rt; 2 <= members.count());
+    Proposer::new(members, 2)
+}
+
+impl Twins {
+    // Expects that both are the same to all who read them.
+    fn compare(&self, rt: &impl Abort, alloc: Global) {
+        assert_eq!(rt; self.tried.leads(), self.other.leads());
+        for number in 0..=20 {
+            let is_open = self.other.has_open(CLIENT, number);
+            assert_eq!(rt; self.tried.has_open(CLIENT, number), is_open, "{number}");
+        }
+        assert!(rt; are_same(&said(rt, alloc, &self.tried), &said(rt, alloc, &self.other)));
+    }
+
+    // Makes a call. Where it is refused memory, the proposer is as the other, which was not called.
+    fn take(
+        &mut self,
+        rt: &impl Abort,
+        alloc: Global,
+        call: &Call,
+    ) -> Result<Option<Sends>, ProposerFault> {
+        let answer = match make(rt, alloc, &mut self.tried, call) {
+            Err(ProposerFault::Memory) => {
+                self.compare(rt, alloc);
+                make(rt, alloc, &mut self.tried, call)
+            }
+            answer => answer,
+        };
+        assert!(rt; self.follow(rt, alloc, call) == answer.is_ok());
+        self.compare(rt, alloc);
+        answer
+    }
+
+    // Makes a call of the other proposer. Says whether it was taken.
+    fn follow(&mut self, rt: &impl Abort, alloc: Global, call: &Call) -> bool {
+        match make(rt, alloc, &mut self.other, call) {
+            Err(ProposerFault::Memory) => make(rt, alloc, &mut self.other, call).is_ok(),
+            answer => answer.is_ok(),
+        }
+    }
+
+    // Both yield to a ballot.
+    fn yield_to(&mut self, ballot: Ballot) {
+        self.tried.yield_to(ballot);
+        self.other.yield_to(ballot);
+    }
+
+    // Expects the ballot that is led with.
+    fn expect_leads(&self, rt: &impl Abort, text: &str) {
+        let want = match text {
+            "-" => None,
+            _ => Some(Words { rest: text }.ballot(rt)),
+        };
+        assert_eq!(rt; self.tried.leads(), want);
+    }
+
+    fn play_line(&mut self, rt: &impl Abort, alloc: Global, line: &str) {
+        match cut(line, " ") {
+            ("leads", text) => self.expect_leads(rt, text),
+            ("yield", text) => self.yield_to(Words { rest: text }.ballot(rt)),
+            _ => self.play_call(rt, alloc, line),
+        }
+    }
+
+    fn play_call(&mut self, rt: &impl Abort, alloc: Global, line: &str) {
+        let (text, want) = cut(line, " > ");
+        match self.take(rt, alloc, &read_whole_call(rt, alloc, text)) {
+            Ok(Some(sends)) => expect(rt, &sends, want),
+            Ok(None) => assert!(rt; want == "-", "{line}"),
+            Err(fault) => assert!(rt; fault_of(want) == Some(fault), "{line}"),
+        }
+    }
+}
+
+fn fault_of(words: &str) -> Option<ProposerFault> {
+    match words {
+        "no place" => Some(ProposerFault::NoPlace),
+        "no round" => Some(ProposerFault::NoRound),
+        "not leading" => Some(ProposerFault::NotLeading),
+        _ => None,
+    }
+}
+
+fn expect_prepares(rt: &impl Abort, prepares: &[Asked], words: &mut Words) {
+    for prepare in prepares {
+        assert!(rt; words.next() == "ask");
+        assert_eq!(rt; prepare.member, words.member(rt));
+        assert_eq!(rt; prepare.from, words.position(rt));
+    }
+}
+
+fn expect_accepts(rt: &impl Abort, accepts: &[Pair], words: &mut Words) {
+    for accept in accepts {
+        assert!(rt; words.next() == "at");
+        assert_eq!(rt; accept.position, words.position(rt));
+        assert_eq!(rt; number_of(&accept.value), words.number(rt));
+    }
+}
+
+// Expects just these Prepares and Accepts, in order.
+fn expect(rt: &impl Abort, sends: &Sends, want: &str) {
+    let mut words = Words { rest: want };
+    assert_eq!(rt; sends.ballot, OWN);
+    expect_prepares(rt, &sends.prepares, &mut words);
+    expect_accepts(rt, &sends.accepts, &mut words);
+    assert!(rt; words.rest.is_empty(), "{want}");
+}
+
+// Two proposers of member 2 of three play a script.
+pub(super) fn play(rt: &impl Abort, alloc: Global, script: &str) {
+    let mut twins = Twins {
+        tried: new_proposer(rt),
+        other: new_proposer(rt),
+    };
+    for line in script.lines() {
+        twins.play_line(rt, alloc, line);
+    }
 }
 
 #[tactic(auto, unfolding(ballots::specs::Values::positions))]

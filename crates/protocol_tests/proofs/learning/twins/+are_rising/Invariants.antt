@@ -1,5 +1,5 @@
 use Rattle.std.proofs.Common.{length}
-use Rattle.learner.proofs.tests.+are_rising.Given as goal
+use Rattle.protocol_tests.proofs.learning.twins.+are_rising.Given as goal
 
 abbrev pub decreases-are_rising : goal.decreases-are_rising
 decreases-are_rising l = length l.pairs.now
