@@ -1,6 +1,6 @@
 //! Tests of a member, over what it makes public.
 //!
-//! `rt try --test --fail-alloc N`, with N from 1 to 200, refuses each allocation in turn: what the member shows is then as it was, and
+//! `rt try --test --fail-alloc N`, for each N from 1 on, refuses each allocation in turn: what the member shows is then as it was, and
 //! the call is made again.
 #![tactic(auto)]
 

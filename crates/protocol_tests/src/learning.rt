@@ -1,6 +1,6 @@
 // What a learner learns from what it hears: scripts of lines, as `twins` reads them.
 //
-// `rt try --test --fail-alloc N`, with N from 1 to 40, refuses each allocation in turn: the learner is then compared with one that was
+// `rt try --test --fail-alloc N`, for each N from 1 on, refuses each allocation in turn: the learner is then compared with one that was
 // not called, and the call is made again.
 ghost use Rattle.std.specs.Prelude.{◌≡◌, ◌≤◌};
 ghost use Rattle.learner.specs.Messages.{IsSent};

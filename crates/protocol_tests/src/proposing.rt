@@ -1,6 +1,6 @@
 // How a proposer begins, takes in promises and learnt positions, proposes, says again and yields: scripts of lines, as `calls` reads them.
 //
-// `rt try --test --fail-alloc N`, with N from 1 to 100 (of the sixteen proposals, to 700), refuses each allocation in turn: the proposer
+// `rt try --test --fail-alloc N`, for each N from 1 on, refuses each allocation in turn: the proposer
 // is then compared with one that was not called, and the call is made again.
 mod calls;
 
