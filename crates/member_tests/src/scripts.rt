@@ -40,7 +40,7 @@ fn read_target(rt: &impl Abort, words: &mut Words) -> Target {
         "others" => Target::Others,
         "client" => Target::Client,
         "to" => Target::One(words.member(rt)),
-        word => panic!(rt; "no target: {word}"),
+        _ => panic!(rt; "no target"),
     }
 }
 
@@ -70,8 +70,9 @@ fn expect_sends(rt: &impl Abort, alloc: Global, sends: &[Send], text: &str) {
 fn expect_tells(rt: &impl Abort, tells: &[Pair], text: &str) {
     let mut words = Words { rest: text };
     for pair in tells {
-        assert_eq!(rt; pair.position, words.position(rt), "{text}");
-        assert_eq!(rt; number_of(&pair.value), words.number(rt), "{text}");
+        assert!(rt;
+            pair.position == words.position(rt) && number_of(&pair.value) == words.number(rt)
+        );
     }
     assert!(rt; words.rest.is_empty(), "{text}");
 }
