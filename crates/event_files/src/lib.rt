@@ -7,8 +7,6 @@ mod first;
 pub mod laws;
 mod lines;
 mod parts;
-#[cfg(test)]
-mod tests;
 
 pub use command::Command;
 pub use file::{EventFile, EventFileFault, read_event_file};

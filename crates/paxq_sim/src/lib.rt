@@ -10,7 +10,5 @@ mod report;
 mod run;
 mod simulation;
 mod stores;
-#[cfg(test)]
-mod tests;
 
 pub use run::{run_events, simulate};

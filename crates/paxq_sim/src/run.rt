@@ -85,6 +85,3 @@ pub fn simulate(alloc: Global, file: EventFile) -> Result<String, AllocError>
     simulation.play(alloc, &commands)?;
     report(alloc, &simulation.world)
 }
-
-#[cfg(test)]
-mod tests;

@@ -1,5 +1,5 @@
-// Worlds of 1 to 63 members: straight runs, and members that there are not. What other events do, files of events show in the tests of
-// `paxq_sim`.
+// Worlds of 1 to 63 members: straight runs, and members that there are not. What other events do, files of events show in
+// `run_tests`.
 use acceptor::MemRecords;
 use ballots::{Members, Request};
 use std::alloc::Global;

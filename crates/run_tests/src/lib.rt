@@ -1,0 +1,14 @@
+//! Tests of scripts, event files and what is run of them, over what their crates make public.
+//!
+//! `rt try --test --fail-alloc N` refuses each allocation in turn: a reader or a run then says that memory was refused, and the same call
+//! again gives what the tests expect.
+#![tactic(auto)]
+
+#[cfg(test)]
+mod events;
+#[cfg(test)]
+mod groups;
+#[cfg(test)]
+mod ran;
+#[cfg(test)]
+mod texts;
