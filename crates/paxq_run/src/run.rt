@@ -268,6 +268,3 @@ pub fn no_memory<E: Write>(errors: &mut E) -> io::Result<u8>
     errors.write_all(b"paxq: no memory\n")?;
     Ok(4)
 }
-
-#[cfg(test)]
-mod tests;

@@ -1,6 +1,6 @@
 //! Event files that are read, and bytes that are none.
 
-use crate::texts::{joined, letters};
+use crate::texts::{joined, letters, request_text};
 use ballots::Request;
 use event_files::{Command, EventFile, EventFileFault, read_event_file};
 use std::alloc::{AllocError, Global};
@@ -39,10 +39,8 @@ fn event_text(alloc: Global, event: &Event) -> Result<String, AllocError> {
 }
 
 fn submit_text(alloc: Global, member: u8, request: &Request) -> Result<String, AllocError> {
-    let id = request.id();
-    let level = request.level();
-    let text = request.text();
-    format!(in alloc; "\nSubmit({member}, {id:?}, {level}, {text})")
+    let request = request_text(alloc, request)?;
+    format!(in alloc; "\nSubmit({member}, {request})")
 }
 
 // What a text is read as, if it is an event file.
@@ -136,15 +134,15 @@ fn reads_submits(rt: HostRuntime) -> Result<(), Fail> {
     for (file, want) in [
         (
             "members 3 db\nsubmit 2 7 9 doc(\"db\")/a\n",
-            "3 [\"db\"] []\nSubmit(2, RequestId { client: 7, number: 9 }, 1, doc(\"db\")/a)",
+            "3 [\"db\"] []\nSubmit(2, 7, 9, 1, doc(\"db\")/a)",
         ),
         (
             "members 3 db\nsubmit 3 4294967295 018446744073709551615  x ",
-            "3 [\"db\"] []\nSubmit(3, RequestId { client: 4294967295, number: 18446744073709551615 }, 1,  x )",
+            "3 [\"db\"] []\nSubmit(3, 4294967295, 18446744073709551615, 1,  x )",
         ),
         (
             "members 3 db\nsubmit 1 0 0 \u{e9}\r\n",
-            "3 [\"db\"] []\nSubmit(1, RequestId { client: 0, number: 0 }, 1, \u{e9}\r)",
+            "3 [\"db\"] []\nSubmit(1, 0, 0, 1, \u{e9}\r)",
         ),
     ] {
         reads(&rt, rt.alloc(), file, want)?;
@@ -229,7 +227,7 @@ fn wants_utf8(rt: HostRuntime) {
 fn bounds_the_length_of_a_text(rt: HostRuntime) -> Result<(), Fail> {
     let longest = letters(rt.alloc(), 4096)?;
     let file = joined(rt.alloc(), "members 3 db\nsubmit 1 1 1 ", &longest, "")?;
-    let before = "3 [\"db\"] []\nSubmit(1, RequestId { client: 1, number: 1 }, 1, ";
+    let before = "3 [\"db\"] []\nSubmit(1, 1, 1, 1, ";
     let want = joined(rt.alloc(), before, &longest, ")")?;
     reads(&rt, rt.alloc(), &file, &want)?;
     let longer = joined(rt.alloc(), "submit 1 1 1 ", &longest, "a")?;

@@ -11,4 +11,6 @@ mod groups;
 #[cfg(test)]
 mod ran;
 #[cfg(test)]
+mod runs;
+#[cfg(test)]
 mod texts;
