@@ -13,4 +13,6 @@ mod ran;
 #[cfg(test)]
 mod runs;
 #[cfg(test)]
+mod states;
+#[cfg(test)]
 mod texts;

@@ -8,7 +8,5 @@ mod answer;
 mod execute;
 pub mod laws;
 mod state;
-#[cfg(test)]
-mod tests;
 
 pub use state::{NoMemory, State};
