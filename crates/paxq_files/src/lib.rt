@@ -4,8 +4,6 @@
 mod line;
 mod lines;
 mod script;
-#[cfg(test)]
-mod tests;
 
 pub use line::{has_text_length, new_request, read_client, read_number};
 pub use lines::cut_at;

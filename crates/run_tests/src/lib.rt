@@ -13,6 +13,8 @@ mod ran;
 #[cfg(test)]
 mod runs;
 #[cfg(test)]
+mod scripts;
+#[cfg(test)]
 mod states;
 #[cfg(test)]
 mod texts;
