@@ -3,7 +3,5 @@
 
 mod forms;
 mod names;
-#[cfg(test)]
-mod tests;
 
 pub use forms::{ChildPath, Insertion, read_insertion, read_path};
