@@ -49,16 +49,7 @@ submit 1 2 insert node element a {} into doc(\"db\")
 ask doc(\"db\")/a
 ask doc(\"no\")/a
 ",
-            "\
-done 1
-done 1
-at 1
-fault FODC0002 2
-fault FODC0002 2
-at 2
-  element a {}
-at 2 fault FODC0002
-",
+            "done 1\ndone 1\nat 1\nfault FODC0002 2\nfault FODC0002 2\nat 2\n  element a {}\nat 2 fault FODC0002\n",
         ),
         // Answers are in document order.
         (

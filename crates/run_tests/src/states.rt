@@ -176,22 +176,35 @@ fn answers_first_element(rt: &impl Abort, alloc: Global, state: &State) -> Resul
     Ok(())
 }
 
+// A request of client 1, or nothing, gets this reply as the value of that position, and one element is there then.
+fn leaves_one_element(
+    rt: &impl Abort,
+    alloc: Global,
+    state: &mut State,
+    position: u32,
+    request: Option<(u64, &str)>,
+    want: Reply,
+) -> Result<(), Fail> {
+    gets(rt, alloc, state, request, want)?;
+    assert_eq!(rt; seen(state), (position, 4, 1, Some(3)), "after {position}");
+    Ok(())
+}
+
 #[test]
 fn applies_values_in_order(rt: HostRuntime) -> Result<(), Fail> {
     let mut state = opened(rt.alloc())?;
     assert_eq!(rt; seen(&state), (0, 2, 0, None));
-    for (request, want, after) in [
-        (Some((1, INSERT_A)), Reply::Done(1), (1, 4, 1, Some(3))),
-        (Some((1, INSERT_B)), Reply::Done(1), (2, 4, 1, Some(3))),
+    for (position, request, want) in [
+        (1, Some((1, INSERT_A)), Reply::Done(1)),
+        (2, Some((1, INSERT_B)), Reply::Done(1)),
         (
+            3,
             Some((2, INSERT_NOWHERE)),
             Reply::Fault(Code::FODC0002, 3),
-            (3, 4, 1, Some(3)),
         ),
-        (None, Reply::Done(4), (4, 4, 1, Some(3))),
+        (4, None, Reply::Done(4)),
     ] {
-        gets(&rt, rt.alloc(), &mut state, request, want)?;
-        assert_eq!(rt; seen(&state), after, "after {request:?}");
+        leaves_one_element(&rt, rt.alloc(), &mut state, position, request, want)?;
     }
     keeps_replies(&rt, &state);
     answers_first_element(&rt, rt.alloc(), &state)
@@ -213,11 +226,17 @@ fn answers_a_line_an_item(rt: HostRuntime) -> Result<(), Fail> {
     Ok(())
 }
 
+// Inserts an element `a` into `db`, when so many values are applied.
+fn inserts(rt: &impl Abort, alloc: Global, state: &mut State, applied: u32) -> Result<(), Fail> {
+    let request = Some((u64::from(applied), INSERT_A));
+    let want = Reply::Done(applied.wrapping_add(1));
+    gets(rt, alloc, state, request, want)
+}
+
 // Inserts elements `a` into `db` until so many values are applied.
 fn filled(rt: &impl Abort, alloc: Global, mut state: State, to: u32) -> Result<State, Fail> {
-    for number in state.applied()..to {
-        let request = Some((u64::from(number), INSERT_A));
-        gets(rt, alloc, &mut state, request, Reply::Done(number + 1))?;
+    for applied in state.applied()..to {
+        inserts(rt, alloc, &mut state, applied)?;
     }
     Ok(state)
 }
