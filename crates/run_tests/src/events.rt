@@ -1,6 +1,6 @@
 //! Event files that are read, and bytes that are none.
 
-use crate::texts::{joined, letters, request_text};
+use crate::texts::{joined, letters_within, request_text};
 use ballots::Request;
 use event_files::{Command, EventFile, EventFileFault, read_event_file};
 use std::alloc::{AllocError, Global};
@@ -104,27 +104,40 @@ fn reads_files(rt: HostRuntime) -> Result<(), Fail> {
 
 #[test]
 fn reads_commands(rt: HostRuntime) -> Result<(), Fail> {
-    for (line, want) in [
-        ("begin 1\n", "Tick(1, Begin)"),
-        ("resend 3", "Tick(3, Resend)"),
-        ("catchup 02\n", "Tick(2, CatchUp)"),
-        ("deliver 0\n", "Deliver(0)"),
-        ("deliver 012", "Deliver(12)"),
+    for (file, want) in [
+        ("members 3 db\nbegin 1\n", "3 [\"db\"] []\nTick(1, Begin)"),
+        ("members 3 db\nresend 3", "3 [\"db\"] []\nTick(3, Resend)"),
         (
-            "deliver 18446744073709551615\n",
-            "Deliver(18446744073709551615)",
+            "members 3 db\ncatchup 02\n",
+            "3 [\"db\"] []\nTick(2, CatchUp)",
         ),
-        ("deliver all", "DeliverAll"),
-        ("stopin deliver 5 kept\n", "StopIn(Deliver(5), true)"),
-        ("stopin deliver 0 lost\n", "StopIn(Deliver(0), false)"),
-        ("stopin begin 3 kept", "StopIn(Begin(3), true)"),
-        ("stopin begin 1 lost\n", "StopIn(Begin(1), false)"),
-        ("stop 3\n", "Stop(3)"),
-        ("start 2", "Start(2)"),
+        ("members 3 db\ndeliver 0\n", "3 [\"db\"] []\nDeliver(0)"),
+        ("members 3 db\ndeliver 012", "3 [\"db\"] []\nDeliver(12)"),
+        (
+            "members 3 db\ndeliver 18446744073709551615\n",
+            "3 [\"db\"] []\nDeliver(18446744073709551615)",
+        ),
+        ("members 3 db\ndeliver all", "3 [\"db\"] []\nDeliverAll"),
+        (
+            "members 3 db\nstopin deliver 5 kept\n",
+            "3 [\"db\"] []\nStopIn(Deliver(5), true)",
+        ),
+        (
+            "members 3 db\nstopin deliver 0 lost\n",
+            "3 [\"db\"] []\nStopIn(Deliver(0), false)",
+        ),
+        (
+            "members 3 db\nstopin begin 3 kept",
+            "3 [\"db\"] []\nStopIn(Begin(3), true)",
+        ),
+        (
+            "members 3 db\nstopin begin 1 lost\n",
+            "3 [\"db\"] []\nStopIn(Begin(1), false)",
+        ),
+        ("members 3 db\nstop 3\n", "3 [\"db\"] []\nStop(3)"),
+        ("members 3 db\nstart 2", "3 [\"db\"] []\nStart(2)"),
     ] {
-        let file = joined(rt.alloc(), "members 3 db\n", line, "")?;
-        let want = joined(rt.alloc(), "3 [\"db\"] []\n", want, "")?;
-        reads(&rt, rt.alloc(), &file, &want)?;
+        reads(&rt, rt.alloc(), file, want)?;
     }
     Ok(())
 }
@@ -224,13 +237,18 @@ fn wants_utf8(rt: HostRuntime) {
 }
 
 #[test]
-fn bounds_the_length_of_a_text(rt: HostRuntime) -> Result<(), Fail> {
-    let longest = letters(rt.alloc(), 4096)?;
-    let file = joined(rt.alloc(), "members 3 db\nsubmit 1 1 1 ", &longest, "")?;
+fn takes_the_longest_text(rt: HostRuntime) -> Result<(), Fail> {
+    let before = "members 3 db\nsubmit 1 1 1 ";
+    let file = letters_within(rt.alloc(), before, 4096, "")?;
     let before = "3 [\"db\"] []\nSubmit(1, 1, 1, 1, ";
-    let want = joined(rt.alloc(), before, &longest, ")")?;
-    reads(&rt, rt.alloc(), &file, &want)?;
-    let longer = joined(rt.alloc(), "submit 1 1 1 ", &longest, "a")?;
-    refuses_line(&rt, rt.alloc(), &longer)?;
+    let want = letters_within(rt.alloc(), before, 4096, ")")?;
+    reads(&rt, rt.alloc(), &file, &want)
+}
+
+#[test]
+fn refuses_a_longer_text(rt: HostRuntime) -> Result<(), AllocError> {
+    let before = "members 3 db\nsubmit 1 1 1 ";
+    let file = letters_within(rt.alloc(), before, 4097, "\nbegin 1\n")?;
+    refuses(&rt, rt.alloc(), &file, 2);
     Ok(())
 }

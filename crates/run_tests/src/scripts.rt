@@ -1,6 +1,6 @@
 //! Scripts that are read, and texts that are none.
 
-use crate::texts::{joined, letters, request_text};
+use crate::texts::{letters_within, request_text};
 use ballots::Request;
 use paxq_files::{Command, Script, ScriptFault, read_script};
 use std::alloc::{AllocError, Global};
@@ -104,15 +104,18 @@ fn numbers_the_first_wrong_line(rt: HostRuntime) {
     }
 }
 
-// The text of a question is at most 4,096 bytes, of which ten stand before the name of this one.
+// The text of a question is at most 4,096 bytes, of which ten stand before the name of these.
 #[test]
-fn bounds_the_length_of_a_text(rt: HostRuntime) -> Result<(), Fail> {
-    let name = letters(rt.alloc(), 4086)?;
-    let longest = joined(rt.alloc(), "ask doc(\"db\")/", &name, "")?;
+fn takes_the_longest_text(rt: HostRuntime) -> Result<(), Fail> {
+    let longest = letters_within(rt.alloc(), "ask doc(\"db\")/", 4086, "")?;
     assert_eq!(rt; longest.len(), 4100);
-    let want = joined(rt.alloc(), "[\"db\"]\nAsk(doc(\"db\")/", &name, ")")?;
-    reads(&rt, rt.alloc(), &longest, &want)?;
-    let longer = joined(rt.alloc(), &longest, "a", "")?;
+    let want = letters_within(rt.alloc(), "[\"db\"]\nAsk(doc(\"db\")/", 4086, ")")?;
+    reads(&rt, rt.alloc(), &longest, &want)
+}
+
+#[test]
+fn refuses_a_longer_text(rt: HostRuntime) -> Result<(), AllocError> {
+    let longer = letters_within(rt.alloc(), "ask doc(\"db\")/", 4087, "")?;
     refuses(&rt, rt.alloc(), &longer, 1);
     Ok(())
 }

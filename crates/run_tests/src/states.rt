@@ -1,7 +1,7 @@
 //! Short lists of values and questions, the limits, and what a refused allocation leaves: `apply` and `answer` then test that nothing has
 //! changed, and call again.
 
-use crate::texts::letters;
+use crate::texts::letters_within;
 use ballots::{Answer, Reply, Request, RequestFault, Value};
 use paxq_files::read_names;
 use query_forms::{read_insertion, read_path};
@@ -190,24 +190,37 @@ fn leaves_one_element(
     Ok(())
 }
 
+// A request, and the same one with another text.
+fn takes_it_once(rt: &impl Abort, alloc: Global, state: &mut State) -> Result<(), Fail> {
+    for (position, text) in [(1, INSERT_A), (2, INSERT_B)] {
+        let request = Some((1, text));
+        leaves_one_element(rt, alloc, state, position, request, Reply::Done(1))?;
+    }
+    Ok(())
+}
+
+// Then a request that has a fault, and nothing.
+fn takes_others(rt: &impl Abort, alloc: Global, state: &mut State) -> Result<(), Fail> {
+    let fault = Reply::Fault(Code::FODC0002, 3);
+    leaves_one_element(rt, alloc, state, 3, Some((2, INSERT_NOWHERE)), fault)?;
+    leaves_one_element(rt, alloc, state, 4, None, Reply::Done(4))
+}
+
 #[test]
 fn applies_values_in_order(rt: HostRuntime) -> Result<(), Fail> {
     let mut state = opened(rt.alloc())?;
     assert_eq!(rt; seen(&state), (0, 2, 0, None));
-    for (position, request, want) in [
-        (1, Some((1, INSERT_A)), Reply::Done(1)),
-        (2, Some((1, INSERT_B)), Reply::Done(1)),
-        (
-            3,
-            Some((2, INSERT_NOWHERE)),
-            Reply::Fault(Code::FODC0002, 3),
-        ),
-        (4, None, Reply::Done(4)),
-    ] {
-        leaves_one_element(&rt, rt.alloc(), &mut state, position, request, want)?;
-    }
+    takes_it_once(&rt, rt.alloc(), &mut state)?;
+    takes_others(&rt, rt.alloc(), &mut state)?;
     keeps_replies(&rt, &state);
     answers_first_element(&rt, rt.alloc(), &state)
+}
+
+// Two elements of that name, and a document that is not there.
+fn answers_two_lines(rt: &impl Abort, alloc: Global, state: &State) -> Result<(), Fail> {
+    let lines = Ok("element a {}\nelement a {}");
+    answers(rt, alloc, state, "doc(\"db\")/a", lines)?;
+    answers(rt, alloc, state, "doc(\"no\")/a", Err(Code::FODC0002))
 }
 
 #[test]
@@ -217,13 +230,7 @@ fn answers_a_line_an_item(rt: HostRuntime) -> Result<(), Fail> {
         let request = Some((u64::from(position), text));
         gets(&rt, rt.alloc(), &mut state, request, Reply::Done(position))?;
     }
-    for (question, want) in [
-        ("doc(\"db\")/a", Ok("element a {}\nelement a {}")),
-        ("doc(\"no\")/a", Err(Code::FODC0002)),
-    ] {
-        answers(&rt, rt.alloc(), &state, question, want)?;
-    }
-    Ok(())
+    answers_two_lines(&rt, rt.alloc(), &state)
 }
 
 // Inserts an element `a` into `db`, when so many values are applied.
@@ -292,7 +299,7 @@ fn judged(
     level: u8,
     bytes: usize,
 ) -> Result<Result<(u32, u64, u8, usize), RequestFault>, Fail> {
-    let text = letters(alloc, bytes)?;
+    let text = letters_within(alloc, "", bytes, "")?;
     Ok(match made(alloc, 2, level, &text) {
         Ok(request) => Ok(shape(&request)),
         Err(fault) => Err(fault),

@@ -20,12 +20,23 @@ pub(crate) fn joined(
     }
 }
 
-/// So many letters; where memory was refused they are made again.
-pub(crate) fn letters(alloc: Global, count: usize) -> Result<String, AllocError> {
+// So many letters; where memory was refused they are made again.
+fn letters(alloc: Global, count: usize) -> Result<String, AllocError> {
     match "a".repeat(alloc, count) {
         Ok(text) => Ok(text),
         Err(_) => "a".repeat(alloc, count),
     }
+}
+
+/// So many letters with these before and after them; where memory was refused they are made again.
+pub(crate) fn letters_within(
+    alloc: Global,
+    before: &str,
+    count: usize,
+    after: &str,
+) -> Result<String, AllocError> {
+    let text = letters(alloc, count)?;
+    joined(alloc, before, &text, after)
 }
 
 /// A request: its client, its number, its level and its text.
