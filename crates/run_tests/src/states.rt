@@ -192,11 +192,9 @@ fn leaves_one_element(
 
 // A request, and the same one with another text.
 fn takes_it_once(rt: &impl Abort, alloc: Global, state: &mut State) -> Result<(), Fail> {
-    for (position, text) in [(1, INSERT_A), (2, INSERT_B)] {
-        let request = Some((1, text));
-        leaves_one_element(rt, alloc, state, position, request, Reply::Done(1))?;
-    }
-    Ok(())
+    let done = Reply::Done(1);
+    leaves_one_element(rt, alloc, state, 1, Some((1, INSERT_A)), done)?;
+    leaves_one_element(rt, alloc, state, 2, Some((1, INSERT_B)), done)
 }
 
 // Then a request that has a fault, and nothing.
@@ -216,6 +214,13 @@ fn applies_values_in_order(rt: HostRuntime) -> Result<(), Fail> {
     answers_first_element(&rt, rt.alloc(), &state)
 }
 
+// Elements of two names.
+fn takes_three(rt: &impl Abort, alloc: Global, state: &mut State) -> Result<(), Fail> {
+    gets(rt, alloc, state, Some((1, INSERT_A)), Reply::Done(1))?;
+    gets(rt, alloc, state, Some((2, INSERT_B)), Reply::Done(2))?;
+    gets(rt, alloc, state, Some((3, INSERT_A)), Reply::Done(3))
+}
+
 // Two elements of that name, and a document that is not there.
 fn answers_two_lines(rt: &impl Abort, alloc: Global, state: &State) -> Result<(), Fail> {
     let lines = Ok("element a {}\nelement a {}");
@@ -226,10 +231,7 @@ fn answers_two_lines(rt: &impl Abort, alloc: Global, state: &State) -> Result<()
 #[test]
 fn answers_a_line_an_item(rt: HostRuntime) -> Result<(), Fail> {
     let mut state = opened(rt.alloc())?;
-    for (position, text) in [(1, INSERT_A), (2, INSERT_B), (3, INSERT_A)] {
-        let request = Some((u64::from(position), text));
-        gets(&rt, rt.alloc(), &mut state, request, Reply::Done(position))?;
-    }
+    takes_three(&rt, rt.alloc(), &mut state)?;
     answers_two_lines(&rt, rt.alloc(), &state)
 }
 
@@ -241,22 +243,21 @@ fn inserts(rt: &impl Abort, alloc: Global, state: &mut State, applied: u32) -> R
 }
 
 // Inserts elements `a` into `db` until so many values are applied.
-fn filled(rt: &impl Abort, alloc: Global, mut state: State, to: u32) -> Result<State, Fail> {
+fn inserts_to(rt: &impl Abort, alloc: Global, state: &mut State, to: u32) -> Result<(), Fail> {
     for applied in state.applied()..to {
-        inserts(rt, alloc, &mut state, applied)?;
+        inserts(rt, alloc, state, applied)?;
     }
-    Ok(state)
+    Ok(())
 }
 
-// The answer to a question is of so many bytes.
+// All elements are answered in so many bytes.
 fn answers_bytes(
     rt: &impl Abort,
     alloc: Global,
     state: &State,
-    question: &str,
     want: Result<usize, Code>,
 ) -> Result<(), Fail> {
-    let answer = answer_at_last(rt, alloc, state, question)?;
+    let answer = answer_at_last(rt, alloc, state, "doc(\"db\")/a")?;
     let bytes = match shown(&answer) {
         Ok(text) => Ok(text.len()),
         Err(code) => Err(code),
@@ -265,22 +266,34 @@ fn answers_bytes(
     Ok(())
 }
 
+// The longest answer, and one more element.
+fn bounds_answers(rt: &impl Abort, alloc: Global, state: &mut State) -> Result<(), Fail> {
+    inserts_to(rt, alloc, state, 2_520)?;
+    answers_bytes(rt, alloc, state, Ok(32_759))?;
+    inserts_to(rt, alloc, state, 2_521)?;
+    answers_bytes(rt, alloc, state, Err(Code::PXQ0005))
+}
+
+// `db` has as many children as there may be, when so many values were applied.
+fn expect_full(rt: &impl Abort, state: &State, applied: u32) {
+    assert_eq!(rt; seen(state), (applied, 20_002, 10_000, Some(20_001)));
+}
+
+// The most children, and one more.
+fn bounds_stores(rt: &impl Abort, alloc: Global, state: &mut State) -> Result<(), Fail> {
+    inserts_to(rt, alloc, state, 10_000)?;
+    expect_full(rt, state, 10_000);
+    let fault = Reply::Fault(Code::PXQ0003, 10_001);
+    gets(rt, alloc, state, Some((10_000, INSERT_A)), fault)?;
+    expect_full(rt, state, 10_001);
+    Ok(())
+}
+
 #[test]
 fn bounds_answers_and_stores(rt: HostRuntime) -> Result<(), Fail> {
     let mut state = opened(rt.alloc())?;
-    for (children, want) in [
-        (2_520, Ok(32_759)),
-        (2_521, Err(Code::PXQ0005)),
-        (10_000, Err(Code::PXQ0005)),
-    ] {
-        state = filled(&rt, rt.alloc(), state, children)?;
-        answers_bytes(&rt, rt.alloc(), &state, "doc(\"db\")/a", want)?;
-    }
-    assert_eq!(rt; seen(&state), (10_000, 20_002, 10_000, Some(20_001)));
-    let want = Reply::Fault(Code::PXQ0003, 10_001);
-    gets(&rt, rt.alloc(), &mut state, Some((10_000, INSERT_A)), want)?;
-    assert_eq!(rt; seen(&state), (10_001, 20_002, 10_000, Some(20_001)));
-    Ok(())
+    bounds_answers(&rt, rt.alloc(), &mut state)?;
+    bounds_stores(&rt, rt.alloc(), &mut state)
 }
 
 // What is shown of a request: the client, the number, the level and the length of the text.
