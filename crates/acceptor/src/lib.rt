@@ -8,8 +8,6 @@ mod memory;
 mod records;
 mod script;
 mod slots;
-#[cfg(test)]
-mod tests;
 
 pub use acceptor::Acceptor;
 pub use draft::Draft;

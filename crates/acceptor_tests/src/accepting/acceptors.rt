@@ -1,0 +1,213 @@
+// Calls of an acceptor, and lines of them.
+//
+// `begin BALLOT`, `prepare BALLOT POSITION` and `accept POSITION BALLOT` (of the no-op). After ` > ` stands the answer: `nothing`, or `window BALLOT FIRST
+// LAST` and for each vote `vote POSITION BALLOT`; `yes` or `no`; `store`, where the store fails. `promised BALLOT` says what shows.
+ghost use Rattle.std.specs.Prelude.{◌≡◌, ◌≤◌, true};
+ghost use Rattle.ballots.specs.Ballot.{IsBallot};
+ghost use Rattle.ballots.specs.Values.{positions};
+
+use crate::words::{Words, cut};
+use acceptor::{Acceptor, Records, RecordsFault, ScriptRecords};
+use ballots::{Ballot, Entry, Value, Vote, Window};
+use std::alloc::Global;
+use std::process::Abort;
+
+// What an acceptor answers.
+#[derive(Drop)]
+enum Answer {
+    Begun,
+    Promised(Option<Window>),
+    Accepted(bool),
+}
+
+#[tactic(auto, unfolding(ballots::specs::Ballot::last_round))]
+// Whether this is a ballot of a low round.
+pub(super) fn is_ballot(ballot: Ballot) -> bool
+    ensures { result ≡ true → IsBallot ballot }
+{
+    1 <= ballot.round && ballot.round <= 9 && 1 <= ballot.member && ballot.member <= 63
+}
+
+#[tactic(auto, unfolding(ballots::specs::Values::positions))]
+// Whether there is such a position.
+pub(super) fn is_position(position: u32) -> bool
+    ensures { result ≡ true → (1 ≤ position) × (position ≤ positions) }
+{
+    1 <= position && position <= 1_000_000
+}
+
+// A vote for the no-op.
+pub(super) fn vote(ballot: Ballot) -> Vote
+    ensures { result.ballot ≡ ballot }
+{
+    let value = Value::NoOp;
+    Vote { ballot, value }
+}
+
+fn begin<R: Records + Drop>(
+    rt: &impl Abort,
+    alloc: Global,
+    acceptor: &mut Acceptor<R>,
+    words: &mut Words,
+) -> Result<Answer, RecordsFault> {
+    let ballot = words.ballot(rt);
+    assert!(rt; is_ballot(ballot) && acceptor.promised().is_below(ballot));
+    acceptor.on_begin(alloc, ballot)?;
+    Ok(Answer::Begun)
+}
+
+fn prepare<R: Records + Drop>(
+    rt: &impl Abort,
+    alloc: Global,
+    acceptor: &mut Acceptor<R>,
+    words: &mut Words,
+) -> Result<Answer, RecordsFault> {
+    let ballot = words.ballot(rt);
+    let from = words.position(rt);
+    assert!(rt; is_ballot(ballot));
+    Ok(Answer::Promised(acceptor.on_prepare(alloc, ballot, from)?))
+}
+
+fn accept<R: Records + Drop>(
+    rt: &impl Abort,
+    alloc: Global,
+    acceptor: &mut Acceptor<R>,
+    words: &mut Words,
+) -> Result<Answer, RecordsFault> {
+    let position = words.position(rt);
+    let ballot = words.ballot(rt);
+    assert!(rt; is_ballot(ballot) && is_position(position));
+    Ok(Answer::Accepted(acceptor.on_accept(alloc, position, &vote(ballot))?))
+}
+
+// Makes the call of a line.
+fn make<R: Records + Drop>(
+    rt: &impl Abort,
+    alloc: Global,
+    acceptor: &mut Acceptor<R>,
+    text: &str,
+) -> Result<Answer, RecordsFault> {
+    let mut words = Words { rest: text };
+    match words.next() {
+        "begin" => begin(rt, alloc, acceptor, &mut words),
+        "prepare" => prepare(rt, alloc, acceptor, &mut words),
+        "accept" => accept(rt, alloc, acceptor, &mut words),
+        _ => panic!(rt; "no call: {text}"),
+    }
+}
+
+// Makes the call of a line. Where memory is refused nothing has changed, and it is made again.
+fn take<R: Records + Drop>(
+    rt: &impl Abort,
+    alloc: Global,
+    acceptor: &mut Acceptor<R>,
+    text: &str,
+) -> Result<Answer, RecordsFault> {
+    let before = acceptor.promised();
+    match make(rt, alloc, acceptor, text) {
+        Err(RecordsFault::Memory) => {
+            assert_eq!(rt; acceptor.promised(), before);
+            make(rt, alloc, acceptor, text)
+        }
+        answer => answer,
+    }
+}
+
+fn expect_votes(rt: &impl Abort, entries: &[Entry], words: &mut Words) {
+    for entry in entries {
+        assert!(rt; words.next() == "vote");
+        assert_eq!(rt; entry.position, words.position(rt));
+        assert_eq!(rt; entry.vote.ballot, words.ballot(rt));
+    }
+}
+
+// Expects a window with just these votes.
+fn expect_window(rt: &impl Abort, window: &Window, want: &str) {
+    let mut words = Words { rest: want };
+    assert!(rt; words.next() == "window", "{want}");
+    assert_eq!(rt; window.ballot, words.ballot(rt), "{want}");
+    assert_eq!(rt; window.from, words.position(rt), "{want}");
+    assert_eq!(rt; window.covered, words.position(rt), "{want}");
+    expect_votes(rt, &window.entries, &mut words);
+    assert!(rt; words.rest.is_empty(), "{want}");
+}
+
+fn expect(rt: &impl Abort, answer: &Answer, want: &str) {
+    match answer {
+        Answer::Begun => assert!(rt; want.is_empty(), "{want}"),
+        Answer::Promised(None) => assert!(rt; want == "nothing", "{want}"),
+        Answer::Promised(Some(window)) => expect_window(rt, window, want),
+        Answer::Accepted(yes) => assert!(rt; want == if *yes { "yes" } else { "no" }, "{want}"),
+    }
+}
+
+// Plays the line of a call.
+fn play_call<R: Records + Drop>(
+    rt: &impl Abort,
+    alloc: Global,
+    acceptor: &mut Acceptor<R>,
+    line: &str,
+) {
+    let (text, want) = cut(line, " > ");
+    match take(rt, alloc, acceptor, text) {
+        Ok(answer) => expect(rt, &answer, want),
+        Err(fault) => assert!(rt; fault == RecordsFault::Store && want == "store", "{line}"),
+    }
+}
+
+fn play_line<R: Records + Drop>(
+    rt: &impl Abort,
+    alloc: Global,
+    acceptor: &mut Acceptor<R>,
+    line: &str,
+) {
+    match line.strip_prefix("promised ") {
+        Some(text) => assert_eq!(rt; acceptor.promised(), Words { rest: text }.ballot(rt)),
+        None => play_call(rt, alloc, acceptor, line),
+    }
+}
+
+// Plays a script.
+pub(super) fn play<R: Records + Drop>(
+    rt: &impl Abort,
+    alloc: Global,
+    acceptor: &mut Acceptor<R>,
+    script: &str,
+) {
+    for line in script.lines() {
+        play_line(rt, alloc, acceptor, line);
+    }
+}
+
+fn open_once<R: Records + Drop>(
+    rt: &impl Abort,
+    alloc: Global,
+    records: R,
+) -> Result<Acceptor<R>, R> {
+    match Acceptor::open(alloc, records) {
+        Ok(acceptor) => Ok(acceptor),
+        Err((fault, records)) => {
+            assert_eq!(rt; fault, RecordsFault::Memory);
+            Err(records)
+        }
+    }
+}
+
+// Opens records; where memory is refused they are opened again.
+pub(super) fn open<R: Records + Drop>(rt: &impl Abort, alloc: Global, records: R) -> Acceptor<R> {
+    match open_once(rt, alloc, records) {
+        Ok(acceptor) => acceptor,
+        Err(records) => match open_once(rt, alloc, records) {
+            Ok(acceptor) => acceptor,
+            Err(_records) => panic!(rt; "memory is refused twice"),
+        },
+    }
+}
+
+// A store whose writes fail by a plan; where memory is refused it is made again.
+pub(super) fn store(rt: &impl Abort, alloc: Global, plan: &[(u64, bool)]) -> ScriptRecords {
+    match ScriptRecords::new(alloc, plan) {
+        Ok(records) => records,
+        Err(_) => ScriptRecords::new(alloc, plan).expect(rt, "records"),
+    }
+}

@@ -1,0 +1,7 @@
+//! Tests of an acceptor and of its records, over what they make public.
+#![tactic(auto)]
+
+#[cfg(test)]
+mod accepting;
+#[cfg(test)]
+mod words;
