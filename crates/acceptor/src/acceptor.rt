@@ -1,12 +1,12 @@
 //! One acceptor ("Paxos Made Simple", sections 2.2 and 2.5) over any records.
 
-ghost use Rattle.std.specs.Prelude.{◌≡◌, ◌⊎◌, ◌≤◌, ◌↔◌, true, false, IfOk, IfErr, IsOk, OnOk, OnErr, IsErrOf, option_map};
+ghost use Rattle.std.specs.Prelude.{◌≡◌, ◌⊎◌, ◌≤◌, ◌↔◌, ℕ, true, false, IfOk, IfErr, IsOk, OnOk, OnErr, IsErrOf, option_map};
 ghost use Rattle.ballots.specs.Ballot.{IsBallot, below};
 ghost use Rattle.ballots.specs.Values.{positions};
 ghost use Rattle.ballots.specs.Messages.{window_of};
 ghost use Rattle.paxos.specs.Records.{Record as RecordTerm, NewPromise, writes, written};
 ghost use Rattle.acceptor.specs.Kept.{IsRising};
-ghost use Rattle.acceptor.specs.Law.{Counts, Puts};
+ghost use Rattle.acceptor.specs.Law.{Counts, Puts, Went};
 ghost use Rattle.acceptor.specs.Drafts.{IsDue, IsRefused, write_of};
 ghost use Rattle.acceptor.specs.Steps.{Took, Stopped, IsAsWas, on_prepare_writes, on_prepare_answers, on_accept_writes, on_accept_answers};
 
@@ -36,7 +36,7 @@ impl<R: Records + Drop> Model for Acceptor<R> {
 
     ghost view = { λ a. record { records = a.records; kept = a.kept; is_stopped = a.is_stopped } };
 
-    ghost invariant = { λ a. a.is_stopped ≡ false → R.is_kept a.records → R.stands a.records a.kept a.kept };
+    ghost invariant = { λ a. (R.passes a.records ≡ false) × (a.is_stopped ≡ false → R.is_kept a.records → R.stands a.records a.kept a.kept) };
 }
 
 impl<R: Records + Drop> Acceptor<R> {
@@ -47,7 +47,8 @@ impl<R: Records + Drop> Acceptor<R> {
         ensures stands { IfOk result (λ a. R.is_kept a.records → R.stands a.records a.kept a.kept) }
         ensures kept { IfOk result (λ a. R.is_kept a.records → R.is_kept records) }
         ensures counts { IfOk result (λ a. R.failed a.records ≡ R.failed records) }
-        ensures refused { IfErr result (λ e. IsRefused R.stands R.is_kept R.failed records e.1 e.0) }
+        ensures fates { IfOk result (λ a. (k : ℕ) → R.fates a.records k ≡ R.fates records k) }
+        ensures refused { IfErr result (λ e. IsRefused R.stands R.is_kept R.failed R.fates records e.1 e.0) }
     {
         match records.load(alloc) {
             Ok(kept) => Ok(Acceptor {
@@ -253,14 +254,49 @@ impl<R: Records + Drop> Acceptor<R> {
         ensures store { IsErrOf result RecordsFault.Store → Stopped R.stands R.is_kept R.failed self.old self.new draft.write }
         ensures stopped { self.old.is_stopped ≡ true → IsErrOf result RecordsFault.Store }
         ensures quiet { writes draft.write ≡ false → (self.new ≡ self.old) × (self.old.is_stopped ≡ false → IsOk result) }
+        ensures went { self.old.is_stopped ≡ false → R.is_kept self.new.records → Went (R.stands self.new.records) (R.fates self.old.records) (R.fates self.new.records) false self.old.kept draft.write result }
+        ensures kept { R.is_kept self.new.records → R.is_kept self.old.records }
+    {
+        let Draft { answer, write } = draft;
+        match self.write(alloc, write, false) {
+            Ok(()) => Ok(answer),
+            Err(fault) => Err(fault),
+        }
+    }
+
+    /// Makes the write of what was drafted for this very acceptor, which has not changed since. Its member stops in this write, so a
+    /// store that would fail by a plan makes it.
+    ///
+    /// It takes no memory but what its records take. Faults: as of `on_begin`.
+    pub fn cut<A: Drop>(&mut self, alloc: Global, draft: Draft<A>) -> Result<(), RecordsFault>
+        requires due { IsDue self.old.kept draft.write }
+        ensures took { OnOk result (Took self.old self.new draft.write) }
+        ensures memory { IsErrOf result RecordsFault.Memory → IsAsWas R.failed self.old self.new }
+        ensures store { IsErrOf result RecordsFault.Store → Stopped R.stands R.is_kept R.failed self.old self.new draft.write }
+        ensures stopped { self.old.is_stopped ≡ true → IsErrOf result RecordsFault.Store }
+        ensures quiet { writes draft.write ≡ false → (self.new ≡ self.old) × (self.old.is_stopped ≡ false → IsOk result) }
+        ensures went { self.old.is_stopped ≡ false → R.is_kept self.new.records → Went (R.stands self.new.records) (R.fates self.old.records) (R.fates self.new.records) true self.old.kept draft.write result }
+        ensures kept { R.is_kept self.new.records → R.is_kept self.old.records }
+    {
+        self.write(alloc, draft.write, true)
+    }
+
+    /// Makes a write. One that is cut is let pass.
+    fn write(&mut self, alloc: Global, write: Write, is_cut: bool) -> Result<(), RecordsFault>
+        requires due { IsDue self.old.kept (write_of write) }
+        ensures took { OnOk result (Took self.old self.new (write_of write)) }
+        ensures memory { IsErrOf result RecordsFault.Memory → IsAsWas R.failed self.old self.new }
+        ensures store { IsErrOf result RecordsFault.Store → Stopped R.stands R.is_kept R.failed self.old self.new (write_of write) }
+        ensures stopped { self.old.is_stopped ≡ true → IsErrOf result RecordsFault.Store }
+        ensures quiet { writes (write_of write) ≡ false → (self.new ≡ self.old) × (self.old.is_stopped ≡ false → IsOk result) }
+        ensures went { self.old.is_stopped ≡ false → R.is_kept self.new.records → Went (R.stands self.new.records) (R.fates self.old.records) (R.fates self.new.records) is_cut self.old.kept (write_of write) result }
         ensures kept { R.is_kept self.new.records → R.is_kept self.old.records }
     {
         if self.is_stopped {
             return Err(RecordsFault::Store);
         }
-        let Draft { answer, write } = draft;
-        match make(alloc, &mut self.records, &mut self.kept, write) {
-            Ok(()) => Ok(answer),
+        match make(alloc, &mut self.records, &mut self.kept, write, is_cut) {
+            Ok(()) => Ok(()),
             Err(RecordsFault::Memory) => Err(RecordsFault::Memory),
             Err(RecordsFault::Store) => {
                 self.is_stopped = true;
@@ -277,25 +313,29 @@ impl<R: Records + Drop> Acceptor<R> {
     }
 }
 
-/// Makes a write, and then the same change of the record.
+/// Makes a write, and then the same change of the record. A write that is cut is let pass.
 fn make<R: Records>(
     alloc: Global,
     records: &mut R,
     kept: &mut Record,
     write: Write,
+    is_cut: bool,
 ) -> Result<(), RecordsFault>
     requires due { IsDue kept.old (write_of write) }
     requires stands { R.is_kept records.old → R.stands records.old kept.old kept.old }
+    requires passes { R.passes records.old ≡ false }
     ensures made { OnOk result (kept.new ≡ written (write_of write) kept.old) }
     ensures refused { OnErr result (kept.new ≡ kept.old) }
     ensures law { R.is_kept records.new → Puts (R.stands records.new) kept.old (written (write_of write) kept.old) result }
+    ensures went { R.is_kept records.new → Went (R.stands records.new) (R.fates records.old) (R.fates records.new) is_cut kept.old (write_of write) result }
     ensures kept { R.is_kept records.new → R.is_kept records.old }
     ensures counts { Counts (R.failed records.old) (R.failed records.new) result }
     ensures quiet { writes (write_of write) ≡ false → IsOk result × (records.new ≡ records.old) }
+    ensures passes { R.passes records.new ≡ false }
 {
     match write {
         Write::Nothing => Ok(()),
-        Write::Promise(ballot) => kept.put_promise(alloc, records, ballot),
-        Write::Vote(position, vote) => kept.put_vote(alloc, records, position, vote),
+        Write::Promise(ballot) => kept.put_promise(alloc, records, ballot, is_cut),
+        Write::Vote(position, vote) => kept.put_vote(alloc, records, position, vote, is_cut),
     }
 }

@@ -6,7 +6,7 @@ ghost use Rattle.ballots.specs.Values.{positions};
 ghost use Rattle.ballots.specs.Messages.{window_of};
 ghost use Rattle.paxos.specs.Records.{NewPromise, NewVote, has_vote, vote_at, window, written};
 ghost use Rattle.acceptor.specs.Kept.{IsRising};
-ghost use Rattle.acceptor.specs.Law.{Counts, Puts};
+ghost use Rattle.acceptor.specs.Law.{Counts, Goes, Puts};
 
 use super::records::{Records, RecordsFault};
 use super::slots::Slots;
@@ -105,22 +105,29 @@ impl Record {
         Ok(())
     }
 
-    /// Promises a ballot once records have acknowledged it. Where they refuse, the record stays the same.
+    /// Promises a ballot once records have acknowledged it. Where they refuse, the record stays the same. A write that is cut is let pass.
     pub(super) fn put_promise<R: Records>(
         &mut self,
         alloc: Global,
         records: &mut R,
         ballot: Ballot,
+        is_cut: bool,
     ) -> Result<(), RecordsFault>
         requires ballot { IsBallot ballot }
         requires not_below { below ballot self.old.promise ≡ false }
         requires stands { R.is_kept records.old → R.stands records.old self.old self.old }
+        requires passes { R.passes records.old ≡ false }
         ensures made { OnOk result (self.new ≡ written (NewPromise ballot) self.old) }
         ensures refused { OnErr result (self.new ≡ self.old) }
         ensures law { R.is_kept records.new → Puts (R.stands records.new) self.old (written (NewPromise ballot) self.old) result }
+        ensures goes { R.is_kept records.new → Goes (R.stands records.new) (R.fates records.old) (R.fates records.new) is_cut self.old (written (NewPromise ballot) self.old) result }
         ensures kept { R.is_kept records.new → R.is_kept records.old }
         ensures counts { Counts (R.failed records.old) (R.failed records.new) result }
+        ensures passes { R.passes records.new ≡ false }
     {
+        if is_cut {
+            records.let_pass();
+        }
         records.put_promise(alloc, ballot)?;
         self.set_promise(ballot);
         Ok(())
@@ -129,28 +136,35 @@ impl Record {
     /// Records a vote, and its ballot as the promise, once records have acknowledged it. Where they refuse, the record stays the
     /// same.
     ///
-    /// It takes no memory of its own where there is a vote, or where room was made last.
+    /// It takes no memory of its own where there is a vote, or where room was made last. A write that is cut is let pass.
     pub(super) fn put_vote<R: Records>(
         &mut self,
         alloc: Global,
         records: &mut R,
         position: u32,
         vote: Vote,
+        is_cut: bool,
     ) -> Result<(), RecordsFault>
         requires ballot { IsBallot vote.ballot }
         requires least { 1 ≤ position }
         requires most { position ≤ positions }
         requires not_below { below vote.ballot self.old.promise ≡ false }
         requires stands { R.is_kept records.old → R.stands records.old self.old self.old }
+        requires passes { R.passes records.old ≡ false }
         ensures made { OnOk result (self.new ≡ written (NewVote position vote) self.old) }
         ensures refused { OnErr result (self.new ≡ self.old) }
         ensures law { R.is_kept records.new → Puts (R.stands records.new) self.old (written (NewVote position vote) self.old) result }
+        ensures goes { R.is_kept records.new → Goes (R.stands records.new) (R.fates records.old) (R.fates records.new) is_cut self.old (written (NewVote position vote) self.old) result }
         ensures kept { R.is_kept records.new → R.is_kept records.old }
         ensures counts { Counts (R.failed records.old) (R.failed records.new) result }
+        ensures passes { R.passes records.new ≡ false }
     {
         // The room comes first, so that nothing fails once the records have acknowledged the vote.
         if self.votes.reserve(position).is_err() {
             return Err(RecordsFault::Memory);
+        }
+        if is_cut {
+            records.let_pass();
         }
         records.put_vote(alloc, vote.ballot, position, &vote.value)?;
         self.promise = vote.ballot;

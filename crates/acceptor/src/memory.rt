@@ -1,6 +1,6 @@
 //! A record in memory.
 
-ghost use Rattle.std.specs.Prelude.{◌≡◌, ◌⊎◌, ◌≤◌, [], IfErr, OnErr, OnOk};
+ghost use Rattle.std.specs.Prelude.{◌≡◌, ◌⊎◌, ◌≤◌, [], None, Some, false, IfErr, OnErr, OnOk};
 ghost use Rattle.ballots.specs.Ballot.{no_ballot};
 ghost use Rattle.paxos.specs.Records.{NewVote, written};
 
@@ -45,6 +45,10 @@ impl Records for MemRecords {
 
     ghost failed = { λ s. 0 };
 
+    ghost fates = { λ s k. Some None };
+
+    ghost passes = { λ s. false };
+
     fn load(&mut self, alloc: Global) -> Result<Record, RecordsFault> {
         match self.kept.clone() {
             Ok(kept) => Ok(kept),
@@ -66,6 +70,8 @@ impl Records for MemRecords {
     ) -> Result<(), RecordsFault> {
         copy_vote(&mut self.kept, ballot, position, value)
     }
+
+    fn let_pass(&mut self) {}
 
     fn failures(&self) -> u64 {
         0

@@ -1,10 +1,10 @@
 //! Where an acceptor keeps its record, so that it outlives stops.
 
-ghost use Rattle.std.specs.Prelude.{◌≡◌, ◌⊎◌, ◌≤◌, ℕ, false, IfOk};
+ghost use Rattle.std.specs.Prelude.{◌≡◌, ◌⊎◌, ◌≤◌, ℕ, Bool, None, Some, false, true, IfOk, IsErrOf};
 ghost use Rattle.ballots.specs.Ballot.{IsBallot, below};
 ghost use Rattle.ballots.specs.Values.{positions};
 ghost use Rattle.paxos.specs.Records.{Record as RecordTerm, NewPromise, NewVote, written};
-ghost use Rattle.acceptor.specs.Law.{Puts, Counts};
+ghost use Rattle.acceptor.specs.Law.{Counts, Fate, Goes, Puts};
 
 use super::kept::Record;
 use ballots::{Ballot, Value};
@@ -35,13 +35,22 @@ pub trait Records {
     /// In how many calls the store has failed.
     ghost failed: { Self → ℕ };
 
-    /// The record that was left.
+    /// What is known of the writes to come, the next one first.
+    ghost fates: { Self → ℕ → Fate };
+
+    /// The next write is let pass.
+    ghost passes: { Self → Bool };
+
+    /// The record that was left. A store of which it is known what it does with writes gives it.
     fn load(&mut self, alloc: Global) -> Result<Record, RecordsFault>
         ensures found { is_kept self.new
             → IfOk result (λ r. stands self.new r r × ((a b : RecordTerm) → stands self.old a b → (r ≡ a) ⊎ (r ≡ b))) }
         ensures crash { is_kept self.new → (a b : RecordTerm) → stands self.old a b → stands self.new a b }
         ensures kept { is_kept self.new → is_kept self.old }
-        ensures counts { Counts (failed self.old) (failed self.new) result };
+        ensures counts { Counts (failed self.old) (failed self.new) result }
+        ensures fates { (k : ℕ) → fates self.new k ≡ fates self.old k }
+        ensures passes { passes self.new ≡ false }
+        ensures sure { IsErrOf result RecordsFault.Store → fates self.old 0 ≡ None };
 
     /// Acknowledges a promise, which is not below the one that stands.
     fn put_promise(&mut self, alloc: Global, ballot: Ballot) -> Result<(), RecordsFault>
@@ -49,8 +58,11 @@ pub trait Records {
         requires not_below { is_kept self.old → (last : RecordTerm) × stands self.old last last × (below ballot last.promise ≡ false) }
         ensures law { is_kept self.new → (last : RecordTerm) → stands self.old last last
             → Puts (stands self.new) last (written (NewPromise ballot) last) result }
+        ensures goes { is_kept self.new → (last : RecordTerm) → stands self.old last last
+            → Goes (stands self.new) (fates self.old) (fates self.new) (passes self.old) last (written (NewPromise ballot) last) result }
         ensures kept { is_kept self.new → is_kept self.old }
-        ensures counts { Counts (failed self.old) (failed self.new) result };
+        ensures counts { Counts (failed self.old) (failed self.new) result }
+        ensures passes { passes self.new ≡ false };
 
     /// Acknowledges a vote, and its ballot as the promise, in one write. Its ballot is not below the promise that stands.
     fn put_vote(
@@ -66,8 +78,20 @@ pub trait Records {
         requires not_below { is_kept self.old → (last : RecordTerm) × stands self.old last last × (below ballot last.promise ≡ false) }
         ensures law { is_kept self.new → (last : RecordTerm) → stands self.old last last
             → Puts (stands self.new) last (written (NewVote position (record { ballot = ballot; value = value.now })) last) result }
+        ensures goes { is_kept self.new → (last : RecordTerm) → stands self.old last last
+            → Goes (stands self.new) (fates self.old) (fates self.new) (passes self.old) last (written (NewVote position (record { ballot = ballot; value = value.now })) last) result }
         ensures kept { is_kept self.new → is_kept self.old }
-        ensures counts { Counts (failed self.old) (failed self.new) result };
+        ensures counts { Counts (failed self.old) (failed self.new) result }
+        ensures passes { passes self.new ≡ false };
+
+    /// Lets the next write pass, if it is one that fails by a plan: the member stops in it, and what is left of it is said elsewhere. It
+    /// ends with the next call. A store that has no plans does nothing.
+    fn let_pass(&mut self)
+        ensures crash { is_kept self.new → (a b : RecordTerm) → stands self.old a b → stands self.new a b }
+        ensures kept { is_kept self.new → is_kept self.old }
+        ensures failed { failed self.new ≡ failed self.old }
+        ensures fates { (k : ℕ) → fates self.new k ≡ fates self.old k }
+        ensures passes { (left : Bool) → fates self.old 0 ≡ Some (Some left) → passes self.new ≡ true };
 
     /// In how many calls the store answered an error other than want of memory; at 2^64 - 1 it stays.
     fn failures(&self) -> u64

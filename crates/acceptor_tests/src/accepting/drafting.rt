@@ -1,5 +1,5 @@
 // Drafts of an acceptor, and a record by itself.
-ghost use Rattle.std.specs.Prelude.{◌≡◌, IfOk};
+ghost use Rattle.std.specs.Prelude.{◌≡◌, None, false, IfOk};
 ghost use Rattle.acceptor.specs.Drafts.{IsDue};
 
 use super::acceptors::{is_ballot, is_position, open, play, vote};
@@ -160,6 +160,10 @@ impl Records for Counting {
 
     ghost failed = { λ s. 0 };
 
+    ghost fates = { λ s k. None };
+
+    ghost passes = { λ s. false };
+
     fn load(&mut self, alloc: Global) -> Result<Record, RecordsFault> {
         Ok(Record::new(alloc))
     }
@@ -179,6 +183,8 @@ impl Records for Counting {
         self.writes = self.writes.saturating_add(1);
         Ok(())
     }
+
+    fn let_pass(&mut self) {}
 
     fn failures(&self) -> u64 {
         0
