@@ -1,6 +1,6 @@
 //! A member.
 
-ghost use Rattle.std.specs.Prelude.{◌≡◌, ◌<◌, ◌≤◌, ◌⊎◌, ◌↔◌, false, true, IfOk, IfErr, OnOk, OnErr, IsErrOf};
+ghost use Rattle.std.specs.Prelude.{◌≡◌, ◌<◌, ◌≤◌, ◌⊎◌, ◌↔◌, ℕ, false, true, IfOk, IfErr, OnOk, OnErr, IsErrOf};
 ghost use Rattle.paxos.specs.Records.{Record as RecordTerm};
 ghost use Rattle.paxos.specs.Knowledge.{learnt as learnt_at, news, prefix};
 ghost use Rattle.paxos.specs.Step.{Running, may_begin};
@@ -9,6 +9,7 @@ ghost use Rattle.paxos.specs.WellFormed.{ArePairs, IsRecord};
 ghost use Rattle.paxos.specs.World.{started};
 ghost use Rattle.std.specs.Option.{option_copied};
 ghost use Rattle.acceptor.specs.Drafts.{IsRefused};
+ghost use Rattle.acceptor.specs.Law.{Went};
 ghost use Rattle.acceptor.specs.Steps.{IsAsWas, Stopped};
 ghost use Rattle.ballots.specs.Messages.{Accept, Accepted, CatchUp, Chosen, Prepare, Promise, Submit, body_of, packet, window_of};
 ghost use Rattle.paxos.specs.Application.{Application};
@@ -82,7 +83,8 @@ impl<R: Records + Drop> Member<R> {
         ensures stands { IfOk result (λ x. R.is_kept x.acceptor.records → R.stands x.acceptor.records x.acceptor.kept x.acceptor.kept) }
         ensures kept { IfOk result (λ x. R.is_kept x.acceptor.records → R.is_kept records) }
         ensures counts { IfOk result (λ x. R.failed x.acceptor.records ≡ R.failed records) }
-        ensures refused { IfErr result (λ e. IsRefused R.stands R.is_kept R.failed records e.1 e.0) }
+        ensures fates { IfOk result (λ x. (k : ℕ) → R.fates x.acceptor.records k ≡ R.fates records k) }
+        ensures refused { IfErr result (λ e. IsRefused R.stands R.is_kept R.failed R.fates records e.1 e.0) }
     {
         let acceptor = Acceptor::open(alloc, records)?;
         // Members are at most 63, as their count says.
@@ -515,6 +517,7 @@ impl<R: Records + Drop> Member<R> {
             → IsThis u self.old → Stopped R.stands R.is_kept R.failed self.old.acceptor self.new.acceptor (effect_of app self.old.members self.old.number self.old.acceptor.kept u i).write }
         ensures stops { IsErrOf result RecordsFault.Store → Stopped R.stands R.is_kept R.failed self.old.acceptor self.new.acceptor (write_in draft.change) }
         ensures writes { IsErrOf result RecordsFault.Store → self.old.acceptor.is_stopped ≡ false → writes (write_in draft.change) ≡ true }
+        ensures went { self.old.acceptor.is_stopped ≡ false → R.is_kept self.new.acceptor.records → Went (R.stands self.new.acceptor.records) (R.fates self.old.acceptor.records) (R.fates self.new.acceptor.records) false self.old.acceptor.kept (write_in draft.change) result }
         ensures kept { R.is_kept self.new.acceptor.records → R.is_kept self.old.acceptor.records }
         ensures place { (self.new.members ≡ self.old.members) × (self.new.number ≡ self.old.number) }
     {
@@ -535,6 +538,7 @@ impl<R: Records + Drop> Member<R> {
         ensures memory { IsErrOf result RecordsFault.Memory → IsAsWas R.failed self.old.acceptor self.new.acceptor }
         ensures store { IsErrOf result RecordsFault.Store → Stopped R.stands R.is_kept R.failed self.old.acceptor self.new.acceptor (write_in change) }
         ensures writes { IsErrOf result RecordsFault.Store → self.old.acceptor.is_stopped ≡ false → writes (write_in change) ≡ true }
+        ensures went { self.old.acceptor.is_stopped ≡ false → R.is_kept self.new.acceptor.records → Went (R.stands self.new.acceptor.records) (R.fates self.old.acceptor.records) (R.fates self.new.acceptor.records) false self.old.acceptor.kept (write_in change) result }
         ensures refused { OnErr result ((self.new.proposer ≡ self.old.proposer) × (self.new.learner ≡ self.old.learner)) }
         ensures kept { R.is_kept self.new.acceptor.records → R.is_kept self.old.acceptor.records }
         ensures place { (self.new.members ≡ self.old.members) × (self.new.number ≡ self.old.number) }
@@ -564,7 +568,7 @@ impl<R: Records + Drop> Member<R> {
     }
 
     /// Makes the write of what was drafted for this very member, which has not changed since, and nothing else: a member that stops
-    /// inside its write. What follows is `into_records`.
+    /// inside its write. What follows is `into_records`. A store that would fail in this write by a plan makes it.
     ///
     /// It takes no memory but what its records take. Faults: as of `commit`.
     pub fn cut(&mut self, alloc: Global, draft: Draft) -> Result<(), RecordsFault>
@@ -577,25 +581,29 @@ impl<R: Records + Drop> Member<R> {
             → IsThis u self.old → Stopped R.stands R.is_kept R.failed self.old.acceptor self.new.acceptor (effect_of app self.old.members self.old.number self.old.acceptor.kept u i).write }
         ensures stops { IsErrOf result RecordsFault.Store → Stopped R.stands R.is_kept R.failed self.old.acceptor self.new.acceptor (write_in draft.change) }
         ensures same { (self.new.proposer ≡ self.old.proposer) × (self.new.learner ≡ self.old.learner) }
+        ensures writes { IsErrOf result RecordsFault.Store → self.old.acceptor.is_stopped ≡ false → writes (write_in draft.change) ≡ true }
+        ensures went { self.old.acceptor.is_stopped ≡ false → R.is_kept self.new.acceptor.records → Went (R.stands self.new.acceptor.records) (R.fates self.old.acceptor.records) (R.fates self.new.acceptor.records) true self.old.acceptor.kept (write_in draft.change) result }
         ensures kept { R.is_kept self.new.acceptor.records → R.is_kept self.old.acceptor.records }
         ensures place { (self.new.members ≡ self.old.members) × (self.new.number ≡ self.old.number) }
     {
         self.write(alloc, draft.change)
     }
 
-    /// Makes what the acceptor writes in a change.
+    /// Makes what the acceptor writes in a change, in which the member stops.
     fn write(&mut self, alloc: Global, change: Change) -> Result<(), RecordsFault>
         requires ready { MayBeMade self.old change }
         ensures wrote { OnOk result (self.old.acceptor.is_stopped ≡ false → (self.new.acceptor.kept ≡ written (write_in change) self.old.acceptor.kept) × (self.new.acceptor.is_stopped ≡ false)) }
         ensures memory { IsErrOf result RecordsFault.Memory → IsAsWas R.failed self.old.acceptor self.new.acceptor }
         ensures store { IsErrOf result RecordsFault.Store → Stopped R.stands R.is_kept R.failed self.old.acceptor self.new.acceptor (write_in change) }
         ensures same { (self.new.proposer ≡ self.old.proposer) × (self.new.learner ≡ self.old.learner) }
+        ensures writes { IsErrOf result RecordsFault.Store → self.old.acceptor.is_stopped ≡ false → writes (write_in change) ≡ true }
+        ensures went { self.old.acceptor.is_stopped ≡ false → R.is_kept self.new.acceptor.records → Went (R.stands self.new.acceptor.records) (R.fates self.old.acceptor.records) (R.fates self.new.acceptor.records) true self.old.acceptor.kept (write_in change) result }
         ensures kept { R.is_kept self.new.acceptor.records → R.is_kept self.old.acceptor.records }
         ensures place { (self.new.members ≡ self.old.members) × (self.new.number ≡ self.old.number) }
     {
         match change {
-            Change::Answer(draft, _) => self.acceptor.commit(alloc, draft),
-            Change::Begin(draft, _) => self.acceptor.commit(alloc, draft),
+            Change::Answer(draft, _) => self.acceptor.cut(alloc, draft),
+            Change::Begin(draft, _) => self.acceptor.cut(alloc, draft),
             Change::Nothing => Ok(()),
             Change::Promise(_) => Ok(()),
             Change::News(_, _) => Ok(()),
