@@ -2,6 +2,7 @@
 use Rattle.std.proofs.Common.{◌≡◌, ◌⊎◌, ℕ, zero, suc, false, refl, sym, subst, ap, ◌∙◌, inl, inr, ⊎_elim, Some, None, IsSome, List, [], ◌∷◌, ◌++◌, length}
 use Rattle.std.proofs.lemmas.List.{length-replicate}
 use Rattle.std.proofs.lemmas.Option.{none-some, same_Some}
+use Rattle.acceptor.specs.Law.{Fate}
 use Rattle.member.specs.Steps.{IsThis, Member}
 use Rattle.paxos.specs.Application.{Application}
 use Rattle.paxos.specs.Lists.{at, Has}
@@ -11,7 +12,7 @@ use Rattle.paxos.specs.World.{World as Whole, Run, fresh, start, started}
 use Rattle.paxos.proofs.Lists.{at_replicate}
 use Rattle.straight_runs.specs.Straight.{SmoothRun}
 use Rattle.straight_runs.proofs.Smooth.{smooth_none, smooth_run}
-use Rattle.world.specs.Placed.{ArePlaced, IsPlaced}
+use Rattle.world.specs.Placed.{AreOf, ArePlaced, IsOf, IsPlaced}
 use Rattle.world.specs.Reached.{Reached, ReachedBy, ReachedSmoothly}
 use Rattle.world.specs.Runs.{AllRun}
 use Rattle.world.specs.Seats.{IsPart}
@@ -53,6 +54,23 @@ module _ {R : Type 0} (is_kept : R → Type 0) (n : ℕ) where
       (λ (o : at seats m ≡ Some t). all m t o)
       (λ (p : (m ≡ suc (length seats)) × (s ≡ t)). subst (λ k. IsPlaced is_kept n k t) (sym p.0) (subst (IsPlaced is_kept n (suc (length seats))) p.1 one))
       (at_cases seats s t m h)
+
+-- a store more
+pub of_more : {R : Type 0} (fates : R → ℕ → Fate) (ss : List (Seat R)) (rs : List R) (s : Seat R) (r : R) → AreOf fates ss rs → IsOf fates s r → AreOf fates (ss ++ s ∷ []) (rs ++ r ∷ [])
+of_more fates [] [] s r all one = (one, tt)
+of_more fates [] (q ∷ rs) s r all one = absurd all
+of_more fates (t ∷ ss) [] s r all one = absurd all
+of_more fates (t ∷ ss) (q ∷ rs) s r all one = (all.0, of_more fates ss rs s r all.1 one)
+
+-- what is known of the store at a seat
+pub of_at : {R : Type 0} (fates : R → ℕ → Fate) (ss : List (Seat R)) (rs : List R) → AreOf fates ss rs → (m : ℕ) (s : Seat R) → at ss m ≡ Some s → (r : R) × (at rs m ≡ Some r) × IsOf fates s r
+of_at fates [] [] all zero s h = absurd (none-some s h)
+of_at fates [] [] all (suc m) s h = absurd (none-some s h)
+of_at fates [] (q ∷ rs) all m s h = absurd all
+of_at fates (t ∷ ss) [] all m s h = absurd all
+of_at fates (t ∷ ss) (q ∷ rs) all zero s h = absurd (none-some s h)
+of_at fates (t ∷ ss) (q ∷ rs) all (suc zero) s h = (q, refl, subst (λ x. IsOf fates x q) (same_Some t s h) all.0)
+of_at fates (t ∷ ss) (q ∷ rs) all (suc (suc i)) s h = of_at fates ss rs all.1 (suc i) s h
 
 module _ {R : Type 0} (stands : R → Record → Record → Type 0) (is_kept : R → Type 0) (w : World R) (size : length w.seats ≡ w.members) (placed : ArePlaced is_kept w.members w.seats)
     (sent : w.sent ≡ []) (told : w.told ≡ []) where

@@ -10,7 +10,7 @@ use Rattle.member.specs.declared.outcome.Target.{Target}
 use Rattle.member.specs.declared.outcome.Target.TheVariants as target
 use Rattle.paxos.specs.Lists.{at, Has}
 use Rattle.paxos.specs.Application.{Application}
-use Rattle.paxos.specs.Records.{Record, writes}
+use Rattle.paxos.specs.Records.{Record, Write, writes}
 use Rattle.paxos.specs.Step.{Running, Effect}
 use Rattle.paxos.specs.WellFormed.{IsMessage, IsSender, IsCalledFor, IsState, IsStep}
 use Rattle.paxos.specs.World.{World as Whole, Member as Part, Choice, acts, may_fail, settles, stops_in, takes}
@@ -19,7 +19,7 @@ use Rattle.paxos.proofs.Steps.{message_is_step, begin_is_step, resend_is_step, c
 use Rattle.paxos.proofs.WellFormed.{Sound, at_number}
 use Rattle.world.specs.Seats.{IsFit, IsPart, MayHear, MayStep}
 use Rattle.world.specs.Shown.{World, Shows}
-use Rattle.world.specs.Reached.{IsDue}
+use Rattle.world.specs.Reached.{IsDue, write_at}
 use Rattle.world.specs.declared.seat.Seat.{Seat}
 use Rattle.world.proofs.Lifting.{some_at}
 
@@ -96,9 +96,9 @@ module _ {R : Type 0} (n : ℕ) (few : n ≤ most_members) (old : World R) (m : 
       (sound.sent p (subst (λ xs. Has xs p) (sym shows.sent) d.0), subst (λ j. IsExpected y.kept j) q (may_hear i due y h))
 
   -- a step upon what is due asks nothing
-  pub asks_nothing : (Failed : Type 0) (app : Application) (i : Input) → IsDue old m i → (y : Part) (e : Effect) (sends : List Send) → at v.members m ≡ Some y → MayStep Failed app n m i y e
+  pub asks_nothing : (Does : Write → Option Bool → Type 0) (app : Application) (i : Input) → IsDue old m i → (y : Part) (e : Effect) (sends : List Send) → at v.members m ≡ Some y → MayStep Does app n m i y e
       → e.sends ≡ all_packets n m sends → (k : Packet) → Has (all_packets n m sends) k → IsNoQuestion k.body
-  asks_nothing Failed app i due y e sends h may q k o =
+  asks_nothing Does app i due y e sends h may q k o =
       let number = at_number v.members m y h in
       let step = step_is app n m i y.kept may.0 number.0 (subst (λ j. m ≤ j) sound.size number.1) few (may_come i due y h) (sound.runs m y may.0 h may.1) in
       no_question_of n m k number.0 (sent_by_self n m sends k o)
@@ -108,16 +108,26 @@ module _ {R : Type 0} (n : ℕ) (few : n ≤ most_members) (old : World R) (m : 
   pub part_of : (s : Seat R) → at old.seats m ≡ Some s → (y : Part) × (at v.members m ≡ Some y) × IsPart s (before m) y
   part_of s h = let y = some_at old.seats v.members m s shows.size h in (y.0, y.1, shows.parts m s y.0 h y.1)
 
-  -- a stopped member takes no step
+  -- a stopped member takes no step, and writes nothing
+  stopped_there : (s : Seat R) (h : at old.seats m ≡ Some s) → s.member ≡ None → at v.members m ≡ Some (record { kept = (part_of s h).0.kept; running = None })
+  stopped_there s h none = let y = part_of s h in y.1 ∙ ap (λ o. Some (record { kept = y.0.kept; running = o })) (y.2.stopped none)
+
   pub stopped_still : (s : Seat R) → at old.seats m ≡ Some s → s.member ≡ None → (step : Record → Running → Effect) → acts v m step ≡ v
-  stopped_still s h none step =
-      let y = part_of s h in
-      ap (takes v m step) (y.1 ∙ ap (λ o. Some (record { kept = y.0.kept; running = o })) (y.2.stopped none))
+  stopped_still s h none step = ap (takes v m step) (stopped_there s h none)
+
+  pub stopped_silent : (s : Seat R) → at old.seats m ≡ Some s → s.member ≡ None → (step : Record → Running → Effect) → writes (write_at step (at v.members m)) ≡ false
+  stopped_silent s h none step = ap (λ o. writes (write_at step o)) (stopped_there s h none)
 
   -- nor does one that isn't there
-  pub nobody_still : at old.seats m ≡ None → (step : Record → Running → Effect) → acts v m step ≡ v
-  nobody_still none step = ap (takes v m step) (no_part (at v.members m) refl)
+  nobody_there : at old.seats m ≡ None → at v.members m ≡ None
+  nobody_there none = no_part (at v.members m) refl
     where
       no_part : (o : Option Part) → at v.members m ≡ o → at v.members m ≡ None
       no_part None q = q
       no_part (Some y) q = let s = some_at v.members old.seats m y (sym shows.size) q in absurd (none-some s.0 (sym none ∙ s.1))
+
+  pub nobody_still : at old.seats m ≡ None → (step : Record → Running → Effect) → acts v m step ≡ v
+  nobody_still none step = ap (takes v m step) (nobody_there none)
+
+  pub nobody_silent : at old.seats m ≡ None → (step : Record → Running → Effect) → writes (write_at step (at v.members m)) ≡ false
+  nobody_silent none step = ap (λ o. writes (write_at step o)) (nobody_there none)

@@ -1,11 +1,11 @@
 -- Lists of events, led by one after the other.
-use Rattle.std.proofs.Common.{◌≡◌, ◌≤◌, refl, sym, subst, ◌∙◌, List, [], ◌∷◌, ◌++◌, append-nil, length}
+use Rattle.std.proofs.Common.{◌≡◌, ◌≤◌, ℕ, Bool, Option, None, refl, sym, subst, ◌∙◌, List, [], ◌∷◌, ◌++◌, append-nil, length}
 use Rattle.std.proofs.lemmas.List.{append_assoc}
 use Rattle.ballots.specs.Ballot.{most_members}
 use Rattle.member.specs.Steps.{KnowsNothing}
 use Rattle.paxos.specs.Application.{Application}
 use Rattle.paxos.specs.Examples.{silent}
-use Rattle.paxos.specs.Records.{Record}
+use Rattle.paxos.specs.Records.{Record, Write}
 use Rattle.paxos.specs.World.{World as Whole, Event as Happens}
 use Rattle.paxos.proofs.WellFormed.{Sound}
 use Rattle.world.specs.Reached.{Follows, Happened, HappenedIf, Reached, ReachedSmoothly, Stays}
@@ -20,9 +20,9 @@ silent_knows : KnowsNothing silent
 silent_knows values client number = refl
 
 -- an event has happened in any case
-pub in_any_case : {R : Type 0} (stands : R → Record → Record → Type 0) (is_kept : R → Type 0) (MayBe : Whole → Type 0) (Failed : Type 0) (app : Application) (e : Happens) (old new : World R)
-    → Follows stands is_kept MayBe (HappenedIf Failed app e) old new → Follows stands is_kept MayBe (Happened app e) old new
-in_any_case stands is_kept MayBe Failed app e old new f = so (HappenedIf Failed app e) (Happened app e) old new (λ v z sound h. happened Failed app e v z h) f
+pub in_any_case : {R : Type 0} (stands : R → Record → Record → Type 0) (is_kept : R → Type 0) (MayBe : Whole → Type 0) (Does : ℕ → Write → Option Bool → Type 0) (app : Application) (e : Happens) (old new : World R)
+    → Follows stands is_kept MayBe (HappenedIf Does app e) old new → Follows stands is_kept MayBe (Happened app e) old new
+in_any_case stands is_kept MayBe Does app e old new f = so (HappenedIf Does app e) (Happened app e) old new (λ v z sound h. happened Does app e v z h) f
 
 module _ {R : Type 0} (stands : R → Record → Record → Type 0) (is_kept : R → Type 0) where
   -- no event
@@ -42,26 +42,26 @@ module _ {R : Type 0} (stands : R → Record → Record → Type 0) (is_kept : R
     }
 
     -- one event
-    pub leads_one : {Failed : Type 0} (e : Happens) → ((app : Application) → KnowsNothing app → Follows stands is_kept (Sound old.members) (HappenedIf Failed app e) old new) → LeadsTo stands is_kept old new (e ∷ [])
-    leads_one {Failed} e f = record {
+    pub leads_one : (Does : ℕ → Write → Option Bool → Type 0) (e : Happens) → ((app : Application) → KnowsNothing app → Follows stands is_kept (Sound old.members) (HappenedIf Does app e) old new) → LeadsTo stands is_kept old new (e ∷ [])
+    leads_one Does e f = record {
       members = (f silent silent_knows).members;
       kept = (f silent silent_knows).kept;
-      reached = λ app nothing k before r. reaches stands is_kept old new k app few before e (in_any_case stands is_kept (Sound old.members) Failed app e old new (f app nothing)) r;
+      reached = λ app nothing k before r. reaches stands is_kept old new k app few before e (in_any_case stands is_kept (Sound old.members) Does app e old new (f app nothing)) r;
     }
 
-    pub smoothly_one : {Failed : Type 0} (e : Happens) → length new.seats ≡ new.members → AreSeats new.members new.seats → AllRun new
-        → ((app : Application) → KnowsNothing app → Follows stands is_kept (Sound old.members) (HappenedIf Failed app e) old new) → LeadsSmoothly stands is_kept old new (e ∷ [])
-    smoothly_one {Failed} e size seats run f = record {
-      leads = leads_one e f;
-      reached = λ app nothing k before r. reaches_smoothly stands is_kept old new k app few before size seats e run (in_any_case stands is_kept (Sound old.members) Failed app e old new (f app nothing)) r;
+    pub smoothly_one : (Does : ℕ → Write → Option Bool → Type 0) (e : Happens) → length new.seats ≡ new.members → AreSeats new.members new.seats → AllRun new
+        → ((app : Application) → KnowsNothing app → Follows stands is_kept (Sound old.members) (HappenedIf Does app e) old new) → LeadsSmoothly stands is_kept old new (e ∷ [])
+    smoothly_one Does e size seats run f = record {
+      leads = leads_one Does e f;
+      reached = λ app nothing k before r. reaches_smoothly stands is_kept old new k app few before size seats e run (in_any_case stands is_kept (Sound old.members) Does app e old new (f app nothing)) r;
     }
 
     -- one event in which no store can have failed
-    pub surely_one : {Failed : Type 0} (e : Happens) → length new.seats ≡ new.members → AreSeats new.members new.seats → (Failed → ⊥)
-        → ((app : Application) → KnowsNothing app → Follows stands is_kept (Sound old.members) (HappenedIf Failed app e) old new) → LeadsSmoothly stands is_kept old new (e ∷ [])
-    surely_one {Failed} e size seats never f = record {
-      leads = leads_one e f;
-      reached = λ app nothing k before r. reaches_surely stands is_kept old new k app few before size seats Failed never e (f app nothing) r;
+    pub surely_one : (Does : ℕ → Write → Option Bool → Type 0) (e : Happens) → length new.seats ≡ new.members → AreSeats new.members new.seats → ((m : ℕ) (w : Write) (f : Option Bool) → Does m w f → f ≡ None)
+        → ((app : Application) → KnowsNothing app → Follows stands is_kept (Sound old.members) (HappenedIf Does app e) old new) → LeadsSmoothly stands is_kept old new (e ∷ [])
+    surely_one Does e size seats never f = record {
+      leads = leads_one Does e f;
+      reached = λ app nothing k before r. reaches_surely stands is_kept old new k app few before size seats Does never e (f app nothing) r;
     }
 
   module _ (old mid new : World R) (first second : List Happens) where

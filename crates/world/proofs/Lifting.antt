@@ -29,10 +29,10 @@ some_at (a ∷ xs) (b ∷ ys) (suc zero) x q h = (b, refl)
 some_at (a ∷ xs) (b ∷ ys) (suc (suc i)) x q h = some_at xs ys (suc i) x (omega arith) h
 
 -- numbers compared
-eq_self : (n : ℕ) → (n == n) ≡ true
+pub eq_self : (n : ℕ) → (n == n) ≡ true
 eq_self n = search rules
 
-eq_other : (j m : ℕ) → (j ≡ m → ⊥) → (j == m) ≡ false
+pub eq_other : (j m : ℕ) → (j ≡ m → ⊥) → (j == m) ≡ false
 eq_other j m d = bool_cases (j == m) (λ h. absurd (d (eqb-true j m h))) (λ h. h)
   where
     bool_cases : (b : Bool) → (b ≡ true → b ≡ false) → (b ≡ false → b ≡ false) → b ≡ false

@@ -1,10 +1,11 @@
 -- A change at one place of what code holds.
-use Rattle.std.proofs.Common.{◌≡◌, ◌-◌, ◌<◌, ◌≤◌, ℕ, zero, suc, arith, refl, sym, subst, ap, ◌∙◌, Result, Option, None, Some, IfOk, IfSome, ⊎_elim, List, [], ◌∷◌, ◌++◌, map, length, append-nil, slice_get, slice_set}
-use Rattle.std.specs.Option.{option_map_or}
+use Rattle.std.proofs.Common.{◌≡◌, ◌-◌, ◌<◌, ◌≤◌, ℕ, zero, suc, Bool, false, arith, refl, inl, sym, subst, ap, ◌∙◌, Result, Option, None, Some, IfOk, IfSome, ⊎_elim, List, [], ◌∷◌, ◌++◌, map, length, append-nil, slice_get, slice_set}
+use Rattle.std.specs.Option.{option_and_then}
+use Rattle.std.specs.Prelude.{if◌then◌else◌}
 use Rattle.std.proofs.Math.ListN.{get_or}
 use Rattle.std.proofs.lemmas.Bool.{cases_eq}
 use Rattle.std.proofs.lemmas.Option.{same_Some, slice_get_read}
-use Rattle.acceptor.specs.Law.{Grew}
+use Rattle.acceptor.specs.Law.{Fate, Grew, passing}
 use Rattle.ballots.specs.Messages.{CatchUp, Packet, packet, body_of}
 use Rattle.member.specs.Steps.{Input, Hears, IsNoQuestion, Member}
 use Rattle.member.specs.declared.outcome.Outcome.{Outcome}
@@ -13,7 +14,7 @@ use Rattle.member.specs.declared.draft.Draft.{Draft}
 use Rattle.member.specs.declared.outcome.Send.{Send}
 use Rattle.ballots.specs.declared.value.Pair.{Pair}
 use Rattle.paxos.specs.Lists.{at, put, Has}
-use Rattle.paxos.specs.Records.{Record}
+use Rattle.paxos.specs.Records.{Record, Write, writes}
 use Rattle.paxos.specs.Step.{Effect}
 use Rattle.paxos.specs.World.{Member as Part, World as Whole, told_to}
 use Rattle.paxos.proofs.Lists.{at_put, at_put_other, length_put}
@@ -25,15 +26,14 @@ use Rattle.world.specs.declared.mail.Mail.{Mail}
 use Rattle.world.proofs.Given.{if_none, if_some}
 use Rattle.world.specs.Tellings.{told_in}
 use Rattle.world.specs.Held.{IsHeld, shown}
-use Rattle.world.specs.Reached.{FailedAt, failures_at, Follows, IsDue, NeverFails, OneFailed, Stays, Steps}
-use Rattle.world.specs.Seats.{FailedIn, failures_in, IsAny, IsPlanned, IsPlannedAt, IsFit, IsSeat, MayHear, MayStay, MayStep, Moves, Skips, SkipsAt, sent_by, told_by}
+use Rattle.world.specs.Reached.{Follows, HaveDone, IsDue, NeverFails, Stays, Steps, store_at}
+use Rattle.world.specs.Seats.{Did, HasFailed, IsAny, IsPlanned, IsPlannedAt, IsFit, IsSeat, MayHear, MayStay, MayStep, Moves, Skips, SkipsAt, failures_of, fates_of, sent_by, store_in, told_by}
 use Rattle.world.specs.Shown.{AreSeats, Shows}
 use Rattle.world.specs.declared.seat.Seat.{Seat}
 use Rattle.world.specs.declared.state.State.{State}
 use Rattle.world.proofs.Happening.{stayed}
 use Rattle.world.proofs.Idling.{asks_nothing, is_fit, may_hear}
 use Rattle.world.proofs.Lifting.{follows, idle, moved, so}
-use Rattle.world.proofs.Settling.{failures_running, failures_stopped}
 
 -- a number and its index
 pub at_index : {A : Type 0} (xs : List A) (m : ℕ) → 1 ≤ m → slice_get xs (m - 1) ≡ at xs m
@@ -77,22 +77,27 @@ module _ {R : Type 0} (stands : R → Record → Record → Type 0) (is_kept : R
       → shown new ≡ moved (shown old) m t sends tells
   shown_after sends tells sent told = rw members (rw seats_are (rw sent (rw told refl)))
 
-  -- how often it failed before and after
-  is_old : (failed : R → ℕ) → failures_at failed old.seats.items m ≡ failures_in failed s
-  is_old failed = ap (λ o. option_map_or (failures_in failed) o 0) there
+  -- its store before and after
+  store_old : store_at old.seats.items m ≡ store_in s
+  store_old = ap (option_and_then (λ (x : Seat R). store_in x)) there
 
-  is_new : (failed : R → ℕ) → failures_at failed new.seats.items m ≡ failures_in failed t
-  is_new failed = ap (λ xs. failures_at failed xs m) seats_are ∙ ap (λ o. option_map_or (failures_in failed) o 0) (at_put old.seats.items m s t there)
+  store_new : store_at new.seats.items m ≡ store_in t
+  store_new = ap (λ xs. store_at xs m) seats_are ∙ ap (option_and_then (λ (x : Seat R). store_in x)) (at_put old.seats.items m s t there)
 
-  -- where the store failed from seat to seat, it failed from state to state
-  pub failed_after : (failed : R → ℕ) → FailedIn failed s t → FailedAt failed old.seats.items new.seats.items m
-  failed_after failed f = subst (λ k. Grew (failures_at failed old.seats.items m) k) (sym (is_new failed)) (subst (λ k. Grew k (failures_in failed t)) (sym (is_old failed)) f)
+  -- what the store did from seat to seat, it did from state to state
+  pub did_after : (failed : R → ℕ) (fates : R → ℕ → Fate) (is_cut : Bool) (w : Write) (f : Option Bool) → Did failed fates is_cut (store_in s) (store_in t) w f
+      → Did failed fates is_cut (store_at old.seats.items m) (store_at new.seats.items m) w f
+  did_after failed fates is_cut w f d = subst (λ x. Did failed fates is_cut x (store_at new.seats.items m) w f) (sym store_old) (subst (λ x. Did failed fates is_cut (store_in s) x w f) (sym store_new) d)
 
-  -- where it did not, none of the stores did
-  pub failures_after : (failed : R → ℕ) → failures_in failed t ≡ failures_in failed s → (j : ℕ) → failures_at failed new.seats.items j ≡ failures_at failed old.seats.items j
-  failures_after failed same j = ⊎_elim
-      (λ (q : j ≡ m). subst (λ i. failures_at failed new.seats.items i ≡ failures_at failed old.seats.items i) (sym q) (is_new failed ∙ same ∙ sym (is_old failed)))
-      (λ (d : j ≡ m → ⊥). ap (λ xs. failures_at failed xs j) seats_are ∙ ap (λ o. option_map_or (failures_in failed) o 0) (at_put_other old.seats.items m j t d))
+  -- the other stores are as they were
+  pub others_after : (j : ℕ) → (j ≡ m → ⊥) → store_at new.seats.items j ≡ store_at old.seats.items j
+  others_after j d = ap (λ xs. store_at xs j) seats_are ∙ ap (option_and_then (λ (x : Seat R). store_in x)) (at_put_other old.seats.items m j t d)
+
+  -- so are all, where its own is
+  pub stores_after : store_in t ≡ store_in s → (j : ℕ) → store_at new.seats.items j ≡ store_at old.seats.items j
+  stores_after same j = ⊎_elim
+      (λ (q : j ≡ m). subst (λ i. store_at new.seats.items i ≡ store_at old.seats.items i) (sym q) (store_new ∙ same ∙ sym store_old))
+      (λ (d : j ≡ m → ⊥). others_after j d)
       (cases_eq j m)
 
   -- nothing happened
@@ -123,20 +128,20 @@ module _ {R : Type 0} (stands : R → Record → Record → Type 0) (is_kept : R
   )) h
 
   -- a member took a step upon what was due
-  pub took_after : (Failed : Type 0) (app : Application) (i : Input) (made : Option Outcome) → IsDue (shown old) m i
+  pub took_after : (Does : Write → Option Bool → Type 0) (app : Application) (i : Input) (made : Option Outcome) → IsDue (shown old) m i
       → sent_in new.mail ≡ sent_in old.mail ++ sent_by old.members m made → told_in new.told.items ≡ told_in old.told.items ++ map (told_to m) (told_by made)
-      → Moves stands is_kept (MayHear i) (MayStep Failed app old.members m i) s t (sent_by old.members m made) (told_by made)
-      → Follows stands is_kept (Sound old.members) (Steps (shown old) s m (MayStep Failed app old.members m i)) (shown old) (shown new)
-  took_after Failed app i made due sent told moves =
-      subst (λ w. Follows stands is_kept (Sound old.members) (Steps (shown old) s m (MayStep Failed app old.members m i)) (shown old) w) (sym (shown_after (sent_by old.members m made) (told_by made) sent told))
-      (follows stands is_kept (Sound old.members) (MayHear i) (MayStep Failed app old.members m i) (shown old) m s t (sent_by old.members m made) (told_by made) there moves
+      → Moves stands is_kept (MayHear i) (MayStep Does app old.members m i) s t (sent_by old.members m made) (told_by made)
+      → Follows stands is_kept (Sound old.members) (Steps (shown old) s m (MayStep Does app old.members m i)) (shown old) (shown new)
+  took_after Does app i made due sent told moves =
+      subst (λ w. Follows stands is_kept (Sound old.members) (Steps (shown old) s m (MayStep Does app old.members m i)) (shown old) w) (sym (shown_after (sent_by old.members m made) (told_by made) sent told))
+      (follows stands is_kept (Sound old.members) (MayHear i) (MayStep Does app old.members m i) (shown old) m s t (sent_by old.members m made) (told_by made) there moves
       (λ before v y sound shows h. may_hear old.members held.most (shown old) m before v sound shows i due y h)
       (λ before v y e sound shows h may q k o. quiet_of before v y e sound shows h may made q k o))
     where
-      quiet_of : (before : ℕ → Record) (v : Whole) (y : Part) (e : Effect) → Sound old.members v → Shows (shown old) before v → at v.members m ≡ Some y → MayStep Failed app old.members m i y e
+      quiet_of : (before : ℕ → Record) (v : Whole) (y : Part) (e : Effect) → Sound old.members v → Shows (shown old) before v → at v.members m ≡ Some y → MayStep Does app old.members m i y e
           → (o : Option Outcome) → e.sends ≡ sent_by old.members m o → (k : Packet) → Has (sent_by old.members m o) k → IsNoQuestion k.body
       quiet_of before v y e sound shows h may None q k o = absurd o
-      quiet_of before v y e sound shows h may (Some x) q k o = asks_nothing old.members held.most (shown old) m before v sound shows Failed app i due y e x.sends.items h may q k o
+      quiet_of before v y e sound shows h may (Some x) q k o = asks_nothing old.members held.most (shown old) m before v sound shows Does app i due y e x.sends.items h may q k o
 
   -- a member took a step that sends and tells nothing
   pub silent_after : (Given : Part → Type 0) (May : Part → Effect → Type 0) → ((before : ℕ → Record) (v : Whole) (y : Part) → Sound old.members v → Shows (shown old) before v → at v.members m ≡ Some y → Given y)
@@ -155,28 +160,37 @@ module _ {R : Type 0} (stands : R → Record → Record → Type 0) (is_kept : R
   pub fit_after : (before : ℕ → Record) (v : Whole) (y : Part) → Sound old.members v → Shows (shown old) before v → at v.members m ≡ Some y → IsFit old.members y
   fit_after before v y sound shows h = is_fit old.members held.most (shown old) m before v sound shows y h
 
--- where the store of a member failed after nothing had failed, one of the stores failed
-pub one_failed : {R : Type 0} (failed : R → ℕ) (old mid end : List (Seat R)) (m : ℕ) → failures_at failed mid m ≡ failures_at failed old m → FailedAt failed mid end m → OneFailed failed old end
-one_failed failed old mid end m same f = (m, subst (λ k. Grew k (failures_at failed end m)) same f)
+module _ {R : Type 0} (failed : R → ℕ) (fates : R → ℕ → Fate) (is_cut : Bool) where
+  -- what the store of a member did after nothing had changed, the stores have done
+  pub have_done : (old mid end : List (Seat R)) (m : ℕ) → ((j : ℕ) → store_at mid j ≡ store_at old j) → ((j : ℕ) → (j ≡ m → ⊥) → store_at end j ≡ store_at mid j)
+      → (w : Write) (f : Option Bool) → Did failed fates is_cut (store_at mid m) (store_at end m) w f → HaveDone failed fates is_cut old end m w f
+  have_done old mid end m same others w f d = record {
+    own = subst (λ x. Did failed fates is_cut x (store_at end m) w f) (same m) d;
+    others = λ j n k. ap (λ x. fates_of fates x k) (others j n ∙ same j);
+  }
 
--- where stores never fail, none has failed
-pub never_failed : {R : Type 0} (failed : R → ℕ) (old new : List (Seat R)) → NeverFails failed → OneFailed failed old new → ⊥
-never_failed {R} failed old new never f = one (failures_at failed old f.0) (failures_at failed new f.0) (none old f.0) (none new f.0) f.1
-  where
-    one : (a b : ℕ) → a ≡ 0 → b ≡ 0 → Grew a b → ⊥
-    one a b p q g = omega (arith, p, q, g)
+  -- where nothing is written they have done nothing
+  pub nothing_done : (old new : List (Seat R)) → ((j : ℕ) → store_at new j ≡ store_at old j) → (m : ℕ) (w : Write) → writes w ≡ false → HaveDone failed fates is_cut old new m w None
+  nothing_done old new same m w is = record {
+    own = record {
+      counted = inl refl;
+      known = λ f h. sym (ap (λ b. if b then passing is_cut f else None) is);
+      rest = λ k. ap (λ x. fates_of fates x k) (same m) ∙ sym (ap (λ b. fates_of fates (store_at old m) (if b then suc k else k)) is);
+    };
+    others = λ j n k. ap (λ x. fates_of fates x k) (same j);
+  }
 
-    of_seat : (s : Seat R) (o : Option (Member R)) (r : Option R) → s.member ≡ o → s.records ≡ r → failures_in failed s ≡ 0
-    of_seat s (Some x) r p q = failures_running failed s x p ∙ never x.acceptor.records
-    of_seat s None (Some r) p q = failures_stopped failed s r p q ∙ never r
-    of_seat s None None p q = rw p (rw q refl)
+  -- stores that never fail have not
+  pub never_failed : NeverFails failed → (old new : List (Seat R)) (m : ℕ) (w : Write) (f : Option Bool) → HaveDone failed fates is_cut old new m w f → f ≡ None
+  never_failed never old new m w f h =
+      ⊎_elim (λ (q : f ≡ None). q) (λ (g : HasFailed failed (store_at old m) (store_at new m)). absurd (one _ _ (none (store_at old m)) (none (store_at new m)) g)) h.own.counted
+    where
+      one : (a b : ℕ) → a ≡ 0 → b ≡ 0 → Grew a b → ⊥
+      one a b p q g = omega (arith, p, q, g)
 
-    of_place : (o : Option (Seat R)) → option_map_or (failures_in failed) o 0 ≡ 0
-    of_place None = refl
-    of_place (Some s) = of_seat s s.member s.records refl refl
-
-    none : (seats : List (Seat R)) (m : ℕ) → failures_at failed seats m ≡ 0
-    none seats m = of_place (at seats m)
+      none : (o : Option R) → failures_of failed o ≡ 0
+      none None = refl
+      none (Some r) = never r
 
 -- nothing that shows has changed
 pub unchanged : {R : Type 0} (stands : R → Record → Record → Type 0) (is_kept : R → Type 0) (MayBe : Whole → Type 0) (old new : State R) → new.members ≡ old.members → new.seats.items ≡ old.seats.items

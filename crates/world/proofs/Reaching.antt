@@ -1,12 +1,12 @@
 -- From a change of what code holds to the lists of events that lead to it.
-use Rattle.std.proofs.Common.{◌≡◌, ℕ, ◌≤◌, refl, sym, subst, ◌∙◌, inl, inr, ⊎_elim, List, [], ◌∷◌, ◌++◌, length, IsSome, Some, None, Option}
+use Rattle.std.proofs.Common.{◌≡◌, ℕ, Bool, ◌≤◌, refl, sym, subst, ◌∙◌, inl, inr, ⊎_elim, List, [], ◌∷◌, ◌++◌, length, IsSome, Some, None, Option}
 use Rattle.std.proofs.lemmas.Option.{none-some, same_Some}
 use Rattle.ballots.specs.Ballot.{most_members}
 use Rattle.member.specs.Steps.{Member}
 use Rattle.paxos.specs.Application.{Application}
 use Rattle.paxos.specs.Knowledge.{news, prefix}
 use Rattle.paxos.specs.Lists.{at}
-use Rattle.paxos.specs.Records.{Record}
+use Rattle.paxos.specs.Records.{Record, Write}
 use Rattle.paxos.specs.Step.{Running}
 use Rattle.paxos.specs.World.{World as Whole, Member as Part, Event as Happens, Run, happens, start}
 use Rattle.paxos.proofs.WellFormed.{Sound, run_sound, start_sound}
@@ -17,7 +17,7 @@ use Rattle.straight_runs.proofs.Smooth.{smooth_more, smooth_run}
 use Rattle.world.specs.Runs.{AllRun}
 use Rattle.world.specs.Seats.{IsPart, IsSeat}
 use Rattle.world.specs.Shown.{World, AreKept, AreSeats, Shows}
-use Rattle.world.specs.Reached.{Follows, Happened, HappenedIf, Reached, ReachedBy, ReachedSmoothly, Stays}
+use Rattle.world.specs.Reached.{Follows, Happened, HappenedIf, Reached, ReachedBy, ReachedSmoothly, Stays, actor, write_in}
 use Rattle.world.specs.declared.seat.Seat.{Seat}
 use Rattle.world.proofs.Given.{some_there}
 use Rattle.world.proofs.Lifting.{some_at}
@@ -43,6 +43,22 @@ module _ {R : Type 0} where
       let x = some_there s.member some in
       let p = part.running x.0 x.1 in
       (p.0, p.1)
+
+-- each member that is shown has applied all that it has learnt without a gap
+module _ {R : Type 0} (new : World R) (size : length new.seats ≡ new.members) (seats : AreSeats new.members new.seats) where
+  -- the seat of a member of the protocol's world, which it shows
+  seat_of : (now : ℕ → Record) (z : Whole) (m : ℕ) (y : Part) → Shows new now z → at z.members m ≡ Some y → (s : Seat R) × (at new.seats m ≡ Some s) × IsPart s (now m) y
+  seat_of now z m y s h = let there = some_at z.members new.seats m y (sym s.size) h in (there.0, there.1, s.parts m there.0 y there.1 h)
+
+  pub all_applied : (now : ℕ → Record) (z : Whole) → Shows new now z → straight.AllApplied z
+  all_applied now z s m y u h r =
+      let t = seat_of now z m y s h in
+      subst (λ n. u.applied ≡ prefix n (news u.heard)) (sym (s.size ∙ size)) (applied_at t.0 (now m) y u new.members m (seats m t.0 t.1) t.2 r)
+
+  all_run : AllRun new → (now : ℕ → Record) (z : Whole) → Shows new now z → straight.AllRun z
+  all_run run now z s m y h =
+      let t = seat_of now z m y s h in
+      runs_at t.0 (now m) y (run m t.0 t.1) t.2
 
 module _ {R : Type 0} (stands : R → Record → Record → Type 0) (is_kept : R → Type 0) (old new : World R) (kept : AreKept is_kept new) where
   -- What leads to the world that was shown, and the change, lead to the one that is.
@@ -76,31 +92,17 @@ module _ {R : Type 0} (stands : R → Record → Record → Type 0) (is_kept : R
         was f
 
     module _ (size : length new.seats ≡ new.members) (seats : AreSeats new.members new.seats) where
-      -- the seat of a member of the protocol's world, which it shows
-      seat_of : (now : ℕ → Record) (z : Whole) (m : ℕ) (y : Part) → Shows new now z → at z.members m ≡ Some y → (s : Seat R) × (at new.seats m ≡ Some s) × IsPart s (now m) y
-      seat_of now z m y s h = let there = some_at z.members new.seats m y (sym s.size) h in (there.0, there.1, s.parts m there.0 y there.1 h)
-
-      all_applied : (now : ℕ → Record) (z : Whole) → Shows new now z → straight.AllApplied z
-      all_applied now z s m y u h r =
-          let t = seat_of now z m y s h in
-          subst (λ n. u.applied ≡ prefix n (news u.heard)) (sym (s.size ∙ size)) (applied_at t.0 (now m) y u new.members m (seats m t.0 t.1) t.2 r)
-
-      all_run : AllRun new → (now : ℕ → Record) (z : Whole) → Shows new now z → straight.AllRun z
-      all_run run now z s m y h =
-          let t = seat_of now z m y s h in
-          runs_at t.0 (now m) y (run m t.0 t.1) t.2
-
       -- An event more leads smoothly to what follows it, where no store can have failed.
-      pub reaches_surely : (Failed : Type 0) → (Failed → ⊥) → (e : Happens) → Follows stands is_kept (Sound old.members) (HappenedIf Failed app e) old new
+      pub reaches_surely : (Does : ℕ → Write → Option Bool → Type 0) → ((m : ℕ) (w : Write) (f : Option Bool) → Does m w f → f ≡ None) → (e : Happens) → Follows stands is_kept (Sound old.members) (HappenedIf Does app e) old new
           → ReachedSmoothly stands app old events → ReachedSmoothly stands app new (events ++ e ∷ [])
-      reaches_surely Failed never e f was = led (SmoothRun app old.members events) (SmoothRun app new.members (events ++ e ∷ [])) (HappenedIf Failed app e)
+      reaches_surely Does never e f was = led (SmoothRun app old.members events) (SmoothRun app new.members (events ++ e ∷ [])) (HappenedIf Does app e)
           (λ v r. reached_sound app old.members few events v (smooth_run app old.members events v r))
           (λ v z now r h s.
           let shown : Shows new now (happens app v h.0 e) = subst (Shows new now) h.2 s in
-          let none : h.0.fails ≡ None = ⊎_elim (λ (q : h.0.fails ≡ None). q) (λ (q : Failed). absurd (never q)) h.1 in
+          let none : h.0.fails ≡ None = never (actor v e) (write_in app v e) h.0.fails h.1 in
           subst (λ n. SmoothRun app n (events ++ e ∷ []) z) (sym f.members)
           (subst (SmoothRun app old.members (events ++ e ∷ [])) (sym h.2)
-          (smooth_more app old.members events v e h.0 r (inl none) (all_applied now (happens app v h.0 e) shown))))
+          (smooth_more app old.members events v e h.0 r (inl none) (all_applied new size seats now (happens app v h.0 e) shown))))
           was f
 
       -- So it does where each member runs then.
@@ -111,5 +113,5 @@ module _ {R : Type 0} (stands : R → Record → Record → Type 0) (is_kept : R
           let shown : Shows new now (happens app v h.0 e) = subst (Shows new now) h.1 s in
           subst (λ n. SmoothRun app n (events ++ e ∷ []) z) (sym f.members)
           (subst (SmoothRun app old.members (events ++ e ∷ [])) (sym h.1)
-          (smooth_more app old.members events v e h.0 r (inr (all_run run now (happens app v h.0 e) shown)) (all_applied now (happens app v h.0 e) shown))))
+          (smooth_more app old.members events v e h.0 r (inr (all_run new size seats run now (happens app v h.0 e) shown)) (all_applied new size seats now (happens app v h.0 e) shown))))
           was f

@@ -1,6 +1,7 @@
 -- How a seat moves: each of the facts that a member's calls give makes a move.
-use Rattle.std.proofs.Common.{◌≡◌, ℕ, Bool, true, false, refl, ◌⊎◌, inl, inr, sym, subst, ap, ap₂, ◌∙◌, Some, None, ⊎_elim, []}
-use Rattle.acceptor.specs.Law.{Grew}
+use Rattle.std.proofs.Common.{◌≡◌, ℕ, suc, Bool, true, false, cond, refl, ◌⊎◌, inl, inr, sym, subst, ap, ap₂, ◌∙◌, Option, Some, None, Ok, Err, ⊎_elim, []}
+use Rattle.acceptor.specs.Law.{Fate, Grew, Went, passing}
+use Rattle.acceptor.specs.declared.records.RecordsFault.TheVariants.{Store}
 use Rattle.acceptor.specs.Steps.{Acceptor}
 use Rattle.std.specs.Prelude.{option_map, if◌then◌else◌}
 use Rattle.std.proofs.lemmas.Bool.{false≢true}
@@ -11,12 +12,23 @@ use Rattle.member.specs.declared.draft.Draft.{Draft}
 use Rattle.member.specs.declared.outcome.Outcome.{Outcome}
 use Rattle.paxos.specs.Application.{Application}
 use Rattle.paxos.specs.Knowledge.{news, prefix}
-use Rattle.paxos.specs.Records.{Record, Write, Nothing, writes, written}
+use Rattle.paxos.specs.Records.{Record, Write, Nothing, NewPromise, NewVote, writes, written}
 use Rattle.paxos.specs.Step.{Running, Effect, quiet}
 use Rattle.paxos.specs.WellFormed.{IsRecord}
 use Rattle.paxos.specs.World.{Member as Part, Choice, applies, applies_to, settles, started, stops_in}
-use Rattle.world.specs.Seats.{FailedIn, failures_in, IsKeptAt, IsPart, IsPlanned, MayStart, MayStay, MayStep, MayStop, MayStopIn, Moves, Skips, Stands, part_after}
+use Rattle.world.specs.Seats.{Did, IsKeptAt, IsPart, IsPlanned, MayStart, MayStay, MayStep, MayStop, MayStopIn, Moves, Skips, Stands, part_after, store_in}
 use Rattle.world.specs.declared.seat.Seat.{Seat}
+
+-- what a stop leaves, that keeps a write or loses it
+abbrev left_of : Write → Record → Bool → Record
+left_of write r left = written (if left then write else Nothing) r
+
+-- A store has failed: of the records that may stand then, each was left with the write or without it, and the store does that.
+pub record Failure (stands : Record → Record → Type 0) (Does : Option Bool → Type 0) (last : Record) (write : Write) : Type 0 where
+  pub first : Record
+  pub second : Record
+  pub stand : stands first second
+  pub leaves : (r : Record) → (r ≡ first) ⊎ (r ≡ second) → (left : Bool) × (r ≡ left_of write last left) × Does (Some left)
 
 module _ {R : Type 0} (stands : R → Record → Record → Type 0) (is_kept : R → Type 0) (Given : Part → Type 0) (old new : Seat R) where
   -- a member that runs on
@@ -68,11 +80,13 @@ module _ {R : Type 0} (stands : R → Record → Record → Type 0) (is_kept : R
     }
 
     -- it takes a step
-    pub steps : (Failed : Type 0) (app : Application) (n m : ℕ) (i : Input) (outcome : Outcome) → (x.members ≡ n) × (x.number ≡ m)
+    pub steps : (Does : Write → Option Bool → Type 0) (app : Application) (n m : ℕ) (i : Input) (outcome : Outcome) (write : Write) → (x.members ≡ n) × (x.number ≡ m)
         → ((z : Part) → Given z → IsExpected z.kept i)
         → ((u : Running) → IsExpected x.acceptor.kept i → IsThis u x → Took (effect_of app x.members x.number x.acceptor.kept u i) x y outcome)
-        → Moves stands is_kept Given (MayStep Failed app n m i) old new (all_packets n m outcome.sends.items) outcome.tells.items
-    steps Failed app n m i outcome place expected took = record {
+        → ((u : Running) → IsExpected x.acceptor.kept i → IsThis u x → write ≡ (effect_of app x.members x.number x.acceptor.kept u i).write)
+        → (is_kept y.acceptor.records → Does write None)
+        → Moves stands is_kept Given (MayStep Does app n m i) old new (all_packets n m outcome.sends.items) outcome.tells.items
+    steps Does app n m i outcome write place expected took same_write does = record {
       kept = kept_still;
       changes = λ k a b s. (
         y.acceptor.kept,
@@ -84,17 +98,18 @@ module _ {R : Type 0} (stands : R → Record → Record → Type 0) (is_kept : R
           λ z given p.
               let u = p.running x there in
               let c_is : c ≡ y.acceptor.kept = ⊎_elim (λ (e : c ≡ y.acceptor.kept). e) (λ (e : c ≡ y.acceptor.kept). e) q in
-              moved c c_is z p.kept_is u.0 u.1 (took u.0 (subst (λ r. IsExpected r i) p.kept_is (expected z given)) u.2),
+              let due = subst (λ r. IsExpected r i) p.kept_is (expected z given) in
+              moved c c_is z p.kept_is u.0 u.1 (took u.0 due u.2) (same_write u.0 due u.2) (does (k.running y here)),
         ),
       );
     }
       where
         moved : (c : Record) → c ≡ y.acceptor.kept → (z : Part) → z.kept ≡ x.acceptor.kept → (u : Running) → z.running ≡ Some u
-            → Took (effect_of app x.members x.number x.acceptor.kept u i) x y outcome
-            → (e : Effect) × MayStep Failed app n m i z e × (e.sends ≡ all_packets n m outcome.sends.items) × (e.tells ≡ outcome.tells.items) × IsPart new c (part_after z e)
-        moved c c_is z z_is u r t = (
+            → Took (effect_of app x.members x.number x.acceptor.kept u i) x y outcome → write ≡ (effect_of app x.members x.number x.acceptor.kept u i).write → Does write None
+            → (e : Effect) × MayStep Does app n m i z e × (e.sends ≡ all_packets n m outcome.sends.items) × (e.tells ≡ outcome.tells.items) × IsPart new c (part_after z e)
+        moved c c_is z z_is u r t w d = (
           settles n choice (effect_of app n m z.kept u i),
-          (u, r, choice, inl refl, refl),
+          (u, r, choice, subst (λ v. Does v None) (w ∙ sym (ap (λ (e : Effect). e.write) same)) d, refl),
           ap (λ (e : Effect). e.sends) same ∙ t.sends ∙ (rw place.0 (rw place.1 refl)),
           ap (λ (e : Effect). e.tells) same ∙ t.tells,
           part_new c (part_after z (settles n choice (effect_of app n m z.kept u i))) c_is
@@ -147,12 +162,13 @@ module _ {R : Type 0} (stands : R → Record → Record → Type 0) (is_kept : R
     }
 
     -- it stops in a write that is kept
-    pub stops_in_write : (Failed : Type 0) (app : Application) (n m : ℕ) (i : Input) (now : Record) → (x.members ≡ n) × (x.number ≡ m)
+    pub stops_in_write : (Does : Write → Option Bool → Type 0) (app : Application) (n m : ℕ) (i : Input) (now : Record) (write : Write) → (x.members ≡ n) × (x.number ≡ m)
         → ((z : Part) → Given z → IsExpected z.kept i)
         → ((u : Running) → IsExpected x.acceptor.kept i → IsThis u x → now ≡ written (effect_of app x.members x.number x.acceptor.kept u i).write x.acceptor.kept)
-        → (is_kept r → stands r now now)
-        → Moves stands is_kept Given (MayStopIn Failed app n m i true) old new [] []
-    stops_in_write Failed app n m i now place expected wrote law = record {
+        → ((u : Running) → IsExpected x.acceptor.kept i → IsThis u x → write ≡ (effect_of app x.members x.number x.acceptor.kept u i).write)
+        → (is_kept r → stands r now now) → (is_kept r → Does write None)
+        → Moves stands is_kept Given (MayStopIn Does app n m i true) old new [] []
+    stops_in_write Does app n m i now write place expected wrote same_write law does = record {
       kept = kept_before;
       changes = λ k a b s. (
         now,
@@ -164,30 +180,34 @@ module _ {R : Type 0} (stands : R → Record → Record → Type 0) (is_kept : R
           λ z given p.
               let u = p.running x there in
               let c_is : c ≡ now = ⊎_elim (λ (e : c ≡ now). e) (λ (e : c ≡ now). e) q in
+              let due = subst (λ w. IsExpected w i) p.kept_is (expected z given) in
               let effect = effect_of app n m z.kept u.0 i in (
                 stops_in true effect,
-                (u.0, u.1, None, inl refl, refl),
+                (u.0, u.1, None, subst (λ v. Does v None) (same_write u.0 due u.2 ∙ sym (ap (λ (e : Effect). e.write) (alike z p.kept_is u.0))) (does (k.stopped r empty left)), refl),
                 refl,
                 refl,
                 part_left c (part_after z (stops_in true effect))
-                    (same z p.kept_is u.0 ∙ sym (wrote u.0 (subst (λ w. IsExpected w i) p.kept_is (expected z given)) u.2) ∙ sym c_is) refl,
+                    (same z p.kept_is u.0 ∙ sym (wrote u.0 due u.2) ∙ sym c_is) refl,
               ),
         ),
       );
     }
       where
+        alike : (z : Part) → z.kept ≡ x.acceptor.kept → (u : Running) → effect_of app n m z.kept u i ≡ effect_of app x.members x.number x.acceptor.kept u i
+        alike z z_is u = rw (sym place.0) (rw (sym place.1) (rw z_is refl))
+
         same : (z : Part) → z.kept ≡ x.acceptor.kept → (u : Running)
             → written (effect_of app n m z.kept u i).write z.kept ≡ written (effect_of app x.members x.number x.acceptor.kept u i).write x.acceptor.kept
         same z z_is u = rw (sym place.0) (rw (sym place.1) (rw z_is refl))
 
     -- its store fails, in a step or in a stop that keeps its write
-    module _ (Failed : Type 0) (has_failed : Failed) (app : Application) (n m : ℕ) (i : Input) (write : Write) (place : (x.members ≡ n) × (x.number ≡ m))
+    module _ (Does : Write → Option Bool → Type 0) (app : Application) (n m : ℕ) (i : Input) (write : Write) (place : (x.members ≡ n) × (x.number ≡ m))
         (expected : (z : Part) → Given z → IsExpected z.kept i)
         (same_write : (u : Running) → IsExpected x.acceptor.kept i → IsThis u x → write ≡ (effect_of app x.members x.number x.acceptor.kept u i).write)
-        (law : is_kept r → stands r x.acceptor.kept (written write x.acceptor.kept)) where
+        (failure : is_kept r → Failure (stands r) (Does write) x.acceptor.kept write) where
       -- one of the two records
       abbrev left_by : Bool → Record
-      left_by left = written (if left then write else Nothing) x.acceptor.kept
+      left_by left = left_of write x.acceptor.kept left
 
       same_effect : (z : Part) → z.kept ≡ x.acceptor.kept → (u : Running) → effect_of app n m z.kept u i ≡ effect_of app x.members x.number x.acceptor.kept u i
       same_effect z z_is u = rw (sym place.0) (rw (sym place.1) (rw z_is refl))
@@ -199,61 +219,63 @@ module _ {R : Type 0} (stands : R → Record → Record → Type 0) (is_kept : R
           (ap₂ written (ap (λ (e : Effect). e.write) (same_effect z z_is u) ∙ sym (same_write u due this)) z_is ∙ sym q) refl
       left_in false c q z z_is u due this = part_left c (part_after z (stops_in false (effect_of app n m z.kept u i))) (z_is ∙ sym q) refl
 
-      -- which of the two it is
-      which : (c : Record) → (c ≡ x.acceptor.kept) ⊎ (c ≡ written write x.acceptor.kept) → (left : Bool) × (c ≡ left_by left)
-      which c (inl e) = (false, e)
-      which c (inr e) = (true, e)
+      -- what its store does with what is written
+      does_so : (left : Bool) → Does write (Some left) → (z : Part) → z.kept ≡ x.acceptor.kept → (u : Running) → IsExpected x.acceptor.kept i → IsThis u x → Does (effect_of app n m z.kept u i).write (Some left)
+      does_so left d z z_is u due this = subst (λ v. Does v (Some left)) (same_write u due this ∙ sym (ap (λ (e : Effect). e.write) (same_effect z z_is u))) d
 
       -- in a step that writes
-      pub fails_in_step : writes write ≡ true → Moves stands is_kept Given (MayStep Failed app n m i) old new [] []
+      pub fails_in_step : writes write ≡ true → Moves stands is_kept Given (MayStep Does app n m i) old new [] []
       fails_in_step w = record {
         kept = kept_before;
-        changes = λ k a b s. (
-          x.acceptor.kept,
-          written write x.acceptor.kept,
-          stands_left x.acceptor.kept (written write x.acceptor.kept) (law (k.stopped r empty left)),
-          λ c q. (
-            x.acceptor.kept,
-            inl (sym (s.running x there).0),
-            λ z given p.
-                let u = p.running x there in
-                let l = which c q in
-                failed c z p.kept_is u.0 u.1 (subst (λ w. IsExpected w i) p.kept_is (expected z given)) u.2 l.0 l.1,
-          ),
-        );
+        changes = λ k a b s.
+            let f = failure (k.stopped r empty left) in (
+              f.first,
+              f.second,
+              stands_left f.first f.second f.stand,
+              λ c q. (
+                x.acceptor.kept,
+                inl (sym (s.running x there).0),
+                λ z given p.
+                    let u = p.running x there in
+                    let l = f.leaves c q in
+                    failed c z p.kept_is u.0 u.1 (subst (λ w. IsExpected w i) p.kept_is (expected z given)) u.2 l.0 l.1 l.2,
+              ),
+            );
       }
         where
-          failed : (c : Record) (z : Part) → z.kept ≡ x.acceptor.kept → (u : Running) → z.running ≡ Some u → IsExpected x.acceptor.kept i → IsThis u x → (left : Bool) → c ≡ left_by left
-              → (e : Effect) × MayStep Failed app n m i z e × (e.sends ≡ []) × (e.tells ≡ []) × IsPart new c (part_after z e)
-          failed c z z_is u runs due this left q =
+          failed : (c : Record) (z : Part) → z.kept ≡ x.acceptor.kept → (u : Running) → z.running ≡ Some u → IsExpected x.acceptor.kept i → IsThis u x → (left : Bool) → c ≡ left_by left → Does write (Some left)
+              → (e : Effect) × MayStep Does app n m i z e × (e.sends ≡ []) × (e.tells ≡ []) × IsPart new c (part_after z e)
+          failed c z z_is u runs due this left q d =
               let choice : Choice = record { fails = Some left; applied = 0 } in
               let effect = effect_of app n m z.kept u i in
               let does : writes effect.write ≡ true = ap (λ (e : Effect). writes e.write) (same_effect z z_is u) ∙ ap writes (sym (same_write u due this)) ∙ w in
               let stopped : settles n choice effect ≡ stops_in left effect = ap (λ t. applies n 0 (if t then stops_in left effect else effect)) does in (
                 settles n choice effect,
-                (u, runs, choice, inr has_failed, refl),
+                (u, runs, choice, does_so left d z z_is u due this, refl),
                 ap (λ (e : Effect). e.sends) stopped,
                 ap (λ (e : Effect). e.tells) stopped,
                 subst (λ (e : Effect). IsPart new c (part_after z e)) (sym stopped) (left_in left c q z z_is u due this),
               )
 
       -- in a stop that was to keep its write
-      pub fails_in_stop : Moves stands is_kept Given (MayStopIn Failed app n m i true) old new [] []
+      pub fails_in_stop : Moves stands is_kept Given (MayStopIn Does app n m i true) old new [] []
       fails_in_stop = record {
         kept = kept_before;
-        changes = λ k a b s. (
-          x.acceptor.kept,
-          written write x.acceptor.kept,
-          stands_left x.acceptor.kept (written write x.acceptor.kept) (law (k.stopped r empty left)),
-          λ c q. (
-            x.acceptor.kept,
-            inl (sym (s.running x there).0),
-            λ z given p.
-                let u = p.running x there in
-                let l = which c q in
-                (stops_in l.0 (effect_of app n m z.kept u.0 i), (u.0, u.1, Some l.0, inr has_failed, refl), refl, refl, left_in l.0 c l.1 z p.kept_is u.0 (subst (λ w. IsExpected w i) p.kept_is (expected z given)) u.2),
-          ),
-        );
+        changes = λ k a b s.
+            let f = failure (k.stopped r empty left) in (
+              f.first,
+              f.second,
+              stands_left f.first f.second f.stand,
+              λ c q. (
+                x.acceptor.kept,
+                inl (sym (s.running x there).0),
+                λ z given p.
+                    let u = p.running x there in
+                    let l = f.leaves c q in
+                    let due = subst (λ w. IsExpected w i) p.kept_is (expected z given) in
+                    (stops_in l.0 (effect_of app n m z.kept u.0 i), (u.0, u.1, Some l.0, does_so l.0 l.2 z p.kept_is u.0 due u.2, refl), refl, refl, left_in l.0 c l.1 z p.kept_is u.0 due u.2),
+              ),
+            );
       }
 
   -- a member that starts from the records that were left
@@ -266,10 +288,10 @@ module _ {R : Type 0} (stands : R → Record → Record → Type 0) (is_kept : R
     }
 
     -- it starts
-    pub starts : (Failed : Type 0) (n : ℕ) → x.members ≡ n → ((z : Part) → Given z → IsRecord n z.kept) → (IsRecord x.members x.acceptor.kept → IsThis started x)
+    pub starts : (Does : Write → Option Bool → Type 0) (n : ℕ) → Does Nothing None → x.members ≡ n → ((z : Part) → Given z → IsRecord n z.kept) → (IsRecord x.members x.acceptor.kept → IsThis started x)
         → (is_kept x.acceptor.records → (a b : Record) → stands r a b → (x.acceptor.kept ≡ a) ⊎ (x.acceptor.kept ≡ b))
-        → Moves stands is_kept Given (MayStart Failed) old new [] []
-    starts Failed n place fits is_started loaded = record {
+        → Moves stands is_kept Given (MayStart Does) old new [] []
+    starts Does n does place fits is_started loaded = record {
       kept = kept_then;
       changes = λ k a b s.
           let t = s.stopped empty in
@@ -283,7 +305,7 @@ module _ {R : Type 0} (stands : R → Record → Record → Type 0) (is_kept : R
               λ z given p.
                   let c_is : c ≡ x.acceptor.kept = ⊎_elim (λ (e : c ≡ x.acceptor.kept). e) (λ (e : c ≡ x.acceptor.kept). e) q in (
                     quiet started,
-                    (p.stopped empty, inl refl),
+                    (p.stopped empty, inl (does, refl)),
                     refl,
                     refl,
                     record {
@@ -350,8 +372,8 @@ module _ {R : Type 0} (stands : R → Record → Record → Type 0) (is_kept : R
     idle_stays = idle MayStay (λ z h. refl)
 
     -- the store failed to give the record
-    pub idle_starts : (Failed : Type 0) → Failed → Moves stands is_kept Given (MayStart Failed) old new [] []
-    idle_starts Failed has_failed = idle (MayStart Failed) (λ z h. (h, inr (has_failed, refl)))
+    pub idle_starts : (Does : Write → Option Bool → Type 0) → Does Nothing (Some false) → Moves stands is_kept Given (MayStart Does) old new [] []
+    idle_starts Does does = idle (MayStart Does) (λ z h. (h, inr (does, refl)))
 
 -- Where nobody sits nothing is shown.
 pub nobody : {R : Type 0} (stands : R → Record → Record → Type 0) (is_kept : R → Type 0) (Given : Part → Type 0) (May : Part → Effect → Type 0) (old new : Seat R)
@@ -379,25 +401,88 @@ pub skipped : {R : Type 0} (y : Member R) (i j : Input) (s : Seat R) → s.membe
 skipped {R} y i j s there q h = λ x here. subst (λ (z : Member R). (IsHeard z.members j → ⊥) ⊎ ((u : Running) → IsThis u z → IsSpent z u j)) (same_Some y x (sym there ∙ here))
     (subst (λ k. (IsHeard y.members k → ⊥) ⊎ ((u : Running) → IsThis u y → IsSpent y u k)) q h)
 
--- how often the store of a running member has failed
-pub failures_running : {R : Type 0} (failed : R → ℕ) (s : Seat R) (x : Member R) → s.member ≡ Some x → failures_in failed s ≡ failed x.acceptor.records
-failures_running failed s x is = rw is refl
+-- the store of a running member, and of a stopped one
+pub store_running : {R : Type 0} (s : Seat R) (x : Member R) → s.member ≡ Some x → store_in s ≡ Some x.acceptor.records
+store_running s x is = rw is refl
 
--- and of a stopped one
-pub failures_stopped : {R : Type 0} (failed : R → ℕ) (s : Seat R) (r : R) → s.member ≡ None → s.records ≡ Some r → failures_in failed s ≡ failed r
-failures_stopped failed s r none left = rw none (rw left refl)
+pub store_stopped : {R : Type 0} (s : Seat R) (r : R) → s.member ≡ None → s.records ≡ Some r → store_in s ≡ Some r
+store_stopped s r none left = rw none left
 
--- the store failed of a member that stopped
-pub failed_in : {R : Type 0} (failed : R → ℕ) (old new : Seat R) (x : Member R) (r : R) → old.member ≡ Some x → new.member ≡ None → new.records ≡ Some r
-    → Grew (failed x.acceptor.records) (failed r) → FailedIn failed old new
-failed_in failed old new x r there none left g =
-    subst (λ k. Grew k (failures_in failed new)) (sym (failures_running failed old x there)) (subst (λ k. Grew (failed x.acceptor.records) k) (sym (failures_stopped failed new r none left)) g)
+module _ {R : Type 0} (failed : R → ℕ) (fates : R → ℕ → Fate) where
+  -- what one store did, seats have done that hold it
+  pub did_in : (is_cut : Bool) (a b : Option R) (q r : R) (w : Write) (f : Option Bool) → a ≡ Some q → b ≡ Some r → Did failed fates is_cut (Some q) (Some r) w f → Did failed fates is_cut a b w f
+  did_in is_cut a b q r w f p s d = subst (λ x. Did failed fates is_cut x b w f) (sym p) (subst (λ x. Did failed fates is_cut (Some q) x w f) (sym s) d)
 
--- and of one that was stopped before
-pub failed_still : {R : Type 0} (failed : R → ℕ) (old new : Seat R) (r s : R) → old.member ≡ None → old.records ≡ Some r → new.member ≡ None → new.records ≡ Some s
-    → Grew (failed r) (failed s) → FailedIn failed old new
-failed_still failed old new r s empty left still back g =
-    subst (λ k. Grew k (failures_in failed new)) (sym (failures_stopped failed old r empty left)) (subst (λ k. Grew (failed r) k) (sym (failures_stopped failed new s still back)) g)
+  module _ (is_cut : Bool) (q r : R) where
+    -- a write that was made
+    pub did_write : (stands : Record → Record → Type 0) (last : Record) {T : Type 0} (t : T) (w : Write) → Went stands (fates q) (fates r) is_cut last w (Ok t) → Did failed fates is_cut (Some q) (Some r) w None
+    did_write stands last t Nothing g = record { counted = inl refl; known = λ f h. refl; rest = g }
+    did_write stands last t (NewPromise b) g = record { counted = inl refl; known = λ f h. sym (g.0 f (h q refl)); rest = g.1 }
+    did_write stands last t (NewVote p vote) g = record { counted = inl refl; known = λ f h. sym (g.0 f (h q refl)); rest = g.1 }
+
+    -- a start, and one where the store fails to give the record
+    pub did_start : ((k : ℕ) → fates r k ≡ fates q k) → Did failed fates is_cut (Some q) (Some r) Nothing None
+    did_start same = record { counted = inl refl; known = λ f h. refl; rest = same }
+
+    pub did_not_start : Grew (failed q) (failed r) → fates q 0 ≡ None → ((k : ℕ) → fates r k ≡ fates q k) → Did failed fates is_cut (Some q) (Some r) Nothing (Some false)
+    did_not_start grown none same = record { counted = inr grown; known = λ f h. absurd (none-some f (sym none ∙ h q refl)); rest = same }
+
+    -- a write that failed
+    module _ (stands : Record → Record → Type 0) (last : Record) (w : Write) (is : writes w ≡ true) (grown : Grew (failed q) (failed r)) (law : stands last (written w last)) where
+      left_as : (left : Bool) → cond left (written w last) last ≡ left_of w last left
+      left_as true = refl
+      left_as false = refl
+
+      failing_write : ((f : Option Bool) → fates q 0 ≡ Some f → (left : Bool) × (passing is_cut f ≡ Some left) × stands (cond left (written w last) last) (cond left (written w last) last))
+          → ((k : ℕ) → fates r k ≡ fates q (suc k)) → Failure stands (Did failed fates is_cut (Some q) (Some r) w) last w
+      failing_write known rest = by (fates q 0) refl
+        where
+          did : (left : Bool) → ((f : Option Bool) → fates q 0 ≡ Some f → Some left ≡ passing is_cut f) → Did failed fates is_cut (Some q) (Some r) w (Some left)
+          did left is_known = record {
+            counted = inr grown;
+            known = λ f h. is_known f (h q refl) ∙ sym (ap (λ b. if b then passing is_cut f else None) is);
+            rest = λ k. rest k ∙ ap (λ b. fates q (if b then suc k else k)) (sym is);
+          }
+
+          by : (o : Fate) → fates q 0 ≡ o → Failure stands (Did failed fates is_cut (Some q) (Some r) w) last w
+          by None h = record {
+            first = last;
+            second = written w last;
+            stand = law;
+            leaves = λ s e. ⊎_elim
+                (λ (p : s ≡ last). (false, p, did false (λ f o. absurd (none-some f (sym h ∙ o)))))
+                (λ (p : s ≡ written w last). (true, p, did true (λ f o. absurd (none-some f (sym h ∙ o)))))
+                e;
+          }
+          by (Some f) h =
+              let one = known f h in
+              let now = left_of w last one.0 in
+              record {
+                first = now;
+                second = now;
+                stand = subst (λ s. stands s s) (left_as one.0) one.2;
+                leaves = λ s e. (
+                  one.0,
+                  ⊎_elim (λ (p : s ≡ now). p) (λ (p : s ≡ now). p) e,
+                  did one.0 (λ g o. sym one.1 ∙ ap (passing is_cut) (same_Some f g (sym h ∙ o))),
+                );
+              }
+
+    pub did_fail : (stands : Record → Record → Type 0) (last : Record) (T : Type 0) (w : Write) → writes w ≡ true → Grew (failed q) (failed r) → stands last (written w last)
+        → Went {T = T} stands (fates q) (fates r) is_cut last w (Err Store) → Failure stands (Did failed fates is_cut (Some q) (Some r) w) last w
+    did_fail stands last T Nothing is grown law g = absurd (false≢true is)
+    did_fail stands last T (NewPromise b) is grown law g = failing_write stands last (NewPromise b) is grown law g.0 g.1
+    did_fail stands last T (NewVote p vote) is grown law g = failing_write stands last (NewVote p vote) is grown law g.0 g.1
+
+  -- seats have done so that hold these stores
+  pub failure_in : (stands : Record → Record → Type 0) (is_cut : Bool) (a b : Option R) (q r : R) (last : Record) (w : Write) → a ≡ Some q → b ≡ Some r
+      → Failure stands (Did failed fates is_cut (Some q) (Some r) w) last w → Failure stands (Did failed fates is_cut a b w) last w
+  failure_in stands is_cut a b q r last w p s f = record {
+    first = f.first;
+    second = f.second;
+    stand = f.stand;
+    leaves = λ x e. let l = f.leaves x e in (l.0, l.1, did_in is_cut a b q r w (Some l.0) p s l.2);
+  }
 
 -- an acceptor that ran stopped because its store failed
 pub grew : {R : Type 0} (failed : R → ℕ) {old new : Acceptor R} → old.is_stopped ≡ false

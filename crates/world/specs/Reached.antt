@@ -1,12 +1,13 @@
 -- Which lists of events lead to what code holds.
-use Rattle.std.specs.Prelude.{◌≡◌, ℕ, List, Some, length}
-use Rattle.std.specs.Option.{option_map_or}
-use Rattle.acceptor.specs.Law.{Grew}
+use Rattle.std.specs.Prelude.{◌≡◌, ℕ, Bool, true, false, List, Option, Some, None, length}
+use Rattle.std.specs.Option.{option_and_then}
+use Rattle.acceptor.specs.Law.{Fate}
+use Rattle.ballots.specs.Messages.{Packet}
 use Rattle.member.specs.Steps.{Input, Hears}
 use Rattle.paxos.specs.Lists.{at, Has}
-use Rattle.paxos.specs.Step.{Effect}
+use Rattle.paxos.specs.Step.{Running, Effect, on_begin, on_message}
 use Rattle.paxos.specs.Application.{Application}
-use Rattle.paxos.specs.Records.{Record}
+use Rattle.paxos.specs.Records.{Record, Write, Nothing}
 use Rattle.paxos.specs.World as protocol
 use Rattle.paxos.specs.World.{World as Whole, Member as Part, Event as Happens, Run, after, start}
 use Rattle.straight_runs.specs.Straight.{SmoothRun}
@@ -14,7 +15,7 @@ use Rattle.world.specs.declared.event.Event.{Event}
 use Rattle.world.specs.declared.event.Event.TheVariants as event
 use Rattle.world.specs.declared.event.Step.TheVariants as step
 use Rattle.world.specs.declared.event.Tick.TheVariants as tick
-use Rattle.world.specs.Seats.{FailsOnlyIf, IsPart, failures_in}
+use Rattle.world.specs.Seats.{Did, IsPart, fates_of, store_in}
 use Rattle.world.specs.declared.seat.Seat.{Seat}
 use Rattle.world.specs.Shown.{World, AllStand, AreKept, Picks, Shows}
 
@@ -64,25 +65,71 @@ Stays v z = z ≡ v
 abbrev pub Happened : Application → Happens → Whole → Whole → Type 0
 Happened app e v z = (c : protocol.Choice) × (z ≡ protocol.happens app v c e)
 
--- how often the store of a member has failed
-abbrev pub failures_at : {R : Type 0} → (failed : R → ℕ) → List (Seat R) → (m : ℕ) → ℕ
-failures_at {R} failed seats m = option_map_or (failures_in failed) (at seats m) 0
-
--- it has failed from some seats to others
-abbrev pub FailedAt : {R : Type 0} → (failed : R → ℕ) → (old new : List (Seat R)) → (m : ℕ) → Type 0
-FailedAt failed old new m = Grew (failures_at failed old m) (failures_at failed new m)
-
--- one of the stores has failed
-abbrev pub OneFailed : {R : Type 0} → (failed : R → ℕ) → (old new : List (Seat R)) → Type 0
-OneFailed failed old new = (m : ℕ) × FailedAt failed old new m
-
 -- no store fails, ever
 abbrev pub NeverFails : {R : Type 0} → (failed : R → ℕ) → Type 0
 NeverFails {R} failed = (r : R) → failed r ≡ 0
 
--- the event happens, and a store fails in it only if one has failed
-abbrev pub HappenedIf : (Failed : Type 0) → Application → Happens → Whole → Whole → Type 0
-HappenedIf Failed app e v z = (c : protocol.Choice) × FailsOnlyIf Failed c.fails × (z ≡ protocol.happens app v c e)
+-- what a step writes, of a member that is there and runs
+abbrev pub write_if : (Record → Running → Effect) → Record → Option Running → Write
+write_if step r None = Nothing
+write_if step r (Some u) = (step r u).write
+
+abbrev pub write_at : (Record → Running → Effect) → Option Part → Write
+write_at step None = Nothing
+write_at step (Some x) = write_if step x.kept x.running
+
+-- what is written where a message comes, and who writes it
+abbrev pub write_upon : Application → Whole → Option Packet → Write
+write_upon app w None = Nothing
+write_upon app w (Some k) = write_at (on_message app (length w.members) k.target k) (at w.members k.target)
+
+abbrev pub reader : Option Packet → ℕ
+reader None = 0
+reader (Some k) = k.target
+
+-- the member that an event comes to
+abbrev pub actor : Whole → Happens → ℕ
+actor w (protocol.Deliver k) = reader (at w.sent k)
+actor w (protocol.Begin m) = m
+actor w (protocol.Resend m) = m
+actor w (protocol.CatchUp m) = m
+actor w (protocol.Submits m q) = m
+actor w (protocol.Asks m q) = m
+actor w (protocol.StopInDeliver k kept) = reader (at w.sent k)
+actor w (protocol.StopInBegin m kept) = m
+actor w (protocol.Stop m) = m
+actor w (protocol.Start m) = m
+
+-- what it is to write then
+abbrev pub write_in : Application → Whole → Happens → Write
+write_in app w (protocol.Deliver k) = write_upon app w (at w.sent k)
+write_in app w (protocol.Begin m) = write_at (on_begin (length w.members) m) (at w.members m)
+write_in app w (protocol.StopInDeliver k true) = write_upon app w (at w.sent k)
+write_in app w (protocol.StopInBegin m true) = write_at (on_begin (length w.members) m) (at w.members m)
+write_in app w e = Nothing
+
+-- whether it stops in what it writes
+abbrev pub is_cut : Happens → Bool
+is_cut (protocol.StopInDeliver k kept) = true
+is_cut (protocol.StopInBegin m kept) = true
+is_cut e = false
+
+-- the event happens, where the store of the member that it comes to does so with what is written
+abbrev pub HappenedIf : (Does : (member : ℕ) → Write → Option Bool → Type 0) → Application → Happens → Whole → Whole → Type 0
+HappenedIf Does app e v z = (c : protocol.Choice) × Does (actor v e) (write_in app v e) c.fails × (z ≡ protocol.happens app v c e)
+
+-- the store of a member
+abbrev pub store_at : {R : Type 0} → List (Seat R) → (member : ℕ) → Option R
+store_at {R} seats m = option_and_then (λ (s : Seat R). store_in s) (at seats m)
+
+-- What the stores have done in an event that comes to this member: its own did so, and of the others the same is known.
+pub record HaveDone {R : Type 0} (failed : R → ℕ) (fates : R → ℕ → Fate) (cut : Bool) (old new : List (Seat R)) (m : ℕ) (w : Write) (fails : Option Bool) : Type 0 where
+  pub own : Did failed fates cut (store_at old m) (store_at new m) w fails
+  pub others : (j : ℕ) → (j ≡ m → ⊥) → (k : ℕ) → fates_of fates (store_at new j) k ≡ fates_of fates (store_at old j) k
+
+-- the event happens, and the stores have done what they did
+abbrev pub HappenedOver : {R : Type 0} → (failed : R → ℕ) → (fates : R → ℕ → Fate) → (old new : List (Seat R)) → Application → Happens → Whole → Whole → Type 0
+HappenedOver failed fates old new app e v z = HappenedIf (HaveDone failed fates (is_cut e) old new) app e v z
 
 -- The member that sits there takes a step with an effect that may be, in a world that is shown.
 pub record Steps {R : Type 0} (old : World R) (s : Seat R) (m : ℕ) (May : Part → Effect → Type 0) (v z : Whole) : Type 0 where

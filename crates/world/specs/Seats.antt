@@ -1,15 +1,16 @@
 -- What sits at a member's place, and how it moves.
-use Rattle.std.specs.Prelude.{◌≡◌, ◌⊎◌, ℕ, zero, Bool, false, List, [], Option, Some, None, IsSome}
+use Rattle.std.specs.Prelude.{◌≡◌, ◌⊎◌, ℕ, suc, Bool, false, if◌then◌else◌, List, [], Option, Some, None, IsSome}
+use Rattle.std.specs.Option.{option_and_then, option_map_or}
 use Rattle.ballots.specs.Messages.{Packet}
 use Rattle.ballots.specs.declared.value.Pair.{Pair}
-use Rattle.acceptor.specs.Law.{Grew}
+use Rattle.acceptor.specs.Law.{Fate, Grew, passing}
 use Rattle.member.specs.Drafts.{IsDrafted, IsReady, IsSpent}
 use Rattle.member.specs.Steps.{Input, Begins, Resends, CatchesUp, Member, IsExpected, IsHeard, IsThis, all_packets, effect_of}
 use Rattle.member.specs.declared.draft.Draft.{Draft}
 use Rattle.member.specs.declared.outcome.Outcome.{Outcome}
 use Rattle.paxos.specs.Lists.{at}
 use Rattle.paxos.specs.Application.{Application}
-use Rattle.paxos.specs.Records.{Record, Nothing, written}
+use Rattle.paxos.specs.Records.{Record, Write, Nothing, writes, written}
 use Rattle.paxos.specs.Step.{Running, Effect, quiet}
 use Rattle.paxos.specs.WellFormed.{IsRecord}
 use Rattle.paxos.specs.World.{Member as Part, Choice, keeps_in, settles, started, stops_in}
@@ -37,23 +38,35 @@ pub record IsPart {R : Type 0} (s : Seat R) (kept : Record) (y : Part) : Type 0 
   pub running : (x : Member R) → s.member ≡ Some x → (u : Running) × (y.running ≡ Some u) × IsThis u x × (kept ≡ x.acceptor.kept)
   pub stopped : s.member ≡ None → y.running ≡ None
 
--- how often the store at a seat has failed
-abbrev pub failures_in : {R : Type 0} → (failed : R → ℕ) → Seat R → ℕ
-failures_in {R} failed s = elim s.member as (λ o. ℕ) [
-  | Some x ↦ failed x.acceptor.records
-  | None ↦ elim s.records as (λ o. ℕ) [
-    | Some r ↦ failed r
-    | None ↦ zero
-  ]
+-- the store at a seat: that of the member that runs there, or the one that was left
+abbrev pub store_in : {R : Type 0} → Seat R → Option R
+store_in {R} s = elim s.member as (λ o. Option R) [
+  | Some x ↦ Some x.acceptor.records
+  | None ↦ s.records
 ]
 
--- it has failed while the seat moved
-abbrev pub FailedIn : {R : Type 0} → (failed : R → ℕ) → (old new : Seat R) → Type 0
-FailedIn failed old new = Grew (failures_in failed old) (failures_in failed new)
+-- how often a store has failed, and what is known of its writes to come
+abbrev pub failures_of : {R : Type 0} → (failed : R → ℕ) → Option R → ℕ
+failures_of failed o = option_map_or failed o 0
 
--- in a choice a store fails only if one has failed
-abbrev pub FailsOnlyIf : (Failed : Type 0) → (fails : Option Bool) → Type 0
-FailsOnlyIf Failed fails = (fails ≡ None) ⊎ Failed
+abbrev pub fates_of : {R : Type 0} → (fates : R → ℕ → Fate) → Option R → ℕ → Fate
+fates_of {R} fates o k = option_and_then (λ (r : R). fates r k) o
+
+-- it has failed since
+abbrev pub HasFailed : {R : Type 0} → (failed : R → ℕ) → (old new : Option R) → Type 0
+HasFailed failed old new = Grew (failures_of failed old) (failures_of failed new)
+
+-- which of the writes to come is the next but k then
+abbrev pub later : Write → ℕ → ℕ
+later w k = if writes w then suc k else k
+
+-- What a store has done in a step that would write this, and in which it fails or not: it fails only if it has failed; where it is known
+-- what comes of its next write, so it does; and what is known of the writes after it is the same. A write in which the member stops is
+-- cut, and let pass.
+pub record Did {R : Type 0} (failed : R → ℕ) (fates : R → ℕ → Fate) (is_cut : Bool) (old new : Option R) (w : Write) (fails : Option Bool) : Type 0 where
+  pub counted : (fails ≡ None) ⊎ HasFailed failed old new
+  pub known : (f : Option Bool) → ((r : R) → old ≡ Some r → fates r 0 ≡ Some f) → fails ≡ (if writes w then passing is_cut f else None)
+  pub rest : (k : ℕ) → fates_of fates new k ≡ fates_of fates old (later w k)
 
 -- a member after a step with this effect
 abbrev pub part_after : Part → Effect → Part
@@ -115,21 +128,22 @@ IsFit n y = IsRecord n y.kept
 abbrev pub MayStay : Part → Effect → Type 0
 MayStay y e = e ≡ record { write = Nothing; running = y.running; sends = []; tells = [] }
 
--- a step of one of n members, whatever it leaves open; its store fails only if one has failed
-abbrev pub MayStep : (Failed : Type 0) → Application → (members self : ℕ) → Input → Part → Effect → Type 0
-MayStep Failed app n m i y e = (u : Running) × (y.running ≡ Some u) × (c : Choice) × FailsOnlyIf Failed c.fails × (e ≡ settles n c (effect_of app n m y.kept u i))
+-- a step of one of n members, whatever it leaves open, where its store does so with what it writes
+abbrev pub MayStep : (Does : Write → Option Bool → Type 0) → Application → (members self : ℕ) → Input → Part → Effect → Type 0
+MayStep Does app n m i y e = (u : Running) × (y.running ≡ Some u) × (c : Choice) × Does (effect_of app n m y.kept u i).write c.fails × (e ≡ settles n c (effect_of app n m y.kept u i))
 
 -- a stop in the write of a step
-abbrev pub MayStopIn : (Failed : Type 0) → Application → (members self : ℕ) → Input → (kept : Bool) → Part → Effect → Type 0
-MayStopIn Failed app n m i kept y e = (u : Running) × (y.running ≡ Some u) × (fails : Option Bool) × FailsOnlyIf Failed fails × (e ≡ stops_in (keeps_in fails kept) (effect_of app n m y.kept u i))
+abbrev pub MayStopIn : (Does : Write → Option Bool → Type 0) → Application → (members self : ℕ) → Input → (kept : Bool) → Part → Effect → Type 0
+MayStopIn Does app n m i kept y e =
+    (u : Running) × (y.running ≡ Some u) × (fails : Option Bool) × Does (effect_of app n m y.kept u i).write fails × (e ≡ stops_in (keeps_in fails kept) (effect_of app n m y.kept u i))
 
 -- a stop
 abbrev pub MayStop : Part → Effect → Type 0
 MayStop y e = (u : Running) × (y.running ≡ Some u) × (e ≡ stops_in false (quiet u))
 
 -- a start, or the store has failed to give the record
-abbrev pub MayStart : (Failed : Type 0) → Part → Effect → Type 0
-MayStart Failed y e = (y.running ≡ None) × ((e ≡ quiet started) ⊎ Failed × MayStay y e)
+abbrev pub MayStart : (Does : Write → Option Bool → Type 0) → Part → Effect → Type 0
+MayStart Does y e = (y.running ≡ None) × (Does Nothing None × (e ≡ quiet started) ⊎ Does Nothing (Some false) × MayStay y e)
 
 -- what is sent where a step was made
 abbrev pub sent_by : (members self : ℕ) → Option Outcome → List Packet

@@ -9,7 +9,7 @@ ghost use Rattle.paxos.proofs.WellFormed.{Sound};
 ghost use Rattle.paxos.specs.Lists.{at};
 ghost use Rattle.world.specs.Posts.{sent_in};
 ghost use Rattle.world.specs.Held.{IsDeliveryOf, IsHeld, shown};
-ghost use Rattle.world.specs.Reached.{Follows, HappenedIf, OneFailed, Stays, event_of};
+ghost use Rattle.world.specs.Reached.{Follows, HappenedOver, Stays, event_of};
 ghost use Rattle.world.specs.Runs.{is_for};
 ghost use Rattle.world.specs.declared.event.Event.TheVariants as event;
 
@@ -41,7 +41,7 @@ impl<R: Records + Drop> State<R> {
     pub(super) fn deliver(&mut self, alloc: Global, number: u64) -> Result<(), AllocError>
         requires held { IsHeld self.old }
         ensures held { IsHeld self.new }
-        ensures happened { OnOk result ((app : Application) → KnowsNothing app → Follows R.stands R.is_kept (Sound self.old.members) (HappenedIf (OneFailed R.failed self.old.seats.items self.new.seats.items) app (Deliver number)) (shown self.old) (shown self.new)) }
+        ensures happened { OnOk result ((app : Application) → KnowsNothing app → Follows R.stands R.is_kept (Sound self.old.members) (HappenedOver R.failed R.fates self.old.seats.items self.new.seats.items app (Deliver number)) (shown self.old) (shown self.new)) }
         ensures refused { OnErr result (Follows R.stands R.is_kept (Sound self.old.members) Stays (shown self.old) (shown self.new)) }
     {
         let Some(delivery) = self.to_member(number) else {
@@ -66,7 +66,7 @@ impl<R: Records + Drop> State<R> {
         requires least { 1 ≤ number }
         requires most { number ≤ self.old.members }
         ensures held { IsHeld self.new }
-        ensures happened { OnOk result ((app : Application) → KnowsNothing app → Follows R.stands R.is_kept (Sound self.old.members) (HappenedIf (OneFailed R.failed self.old.seats.items self.new.seats.items) app (event_of (event.Tick number tick))) (shown self.old) (shown self.new)) }
+        ensures happened { OnOk result ((app : Application) → KnowsNothing app → Follows R.stands R.is_kept (Sound self.old.members) (HappenedOver R.failed R.fates self.old.seats.items self.new.seats.items app (event_of (event.Tick number tick))) (shown self.old) (shown self.new)) }
         ensures refused { OnErr result (Follows R.stands R.is_kept (Sound self.old.members) Stays (shown self.old) (shown self.new)) }
     {
         let Some(draft) = self.tick(alloc, number, tick)? else {
@@ -81,7 +81,7 @@ impl<R: Records + Drop> State<R> {
         requires least { 1 ≤ number }
         requires most { number ≤ self.old.members }
         ensures held { IsHeld self.new }
-        ensures happened { (app : Application) → KnowsNothing app → Follows R.stands R.is_kept (Sound self.old.members) (HappenedIf (OneFailed R.failed self.old.seats.items self.new.seats.items) app (Stop number)) (shown self.old) (shown self.new) }
+        ensures happened { (app : Application) → KnowsNothing app → Follows R.stands R.is_kept (Sound self.old.members) (HappenedOver R.failed R.fates self.old.seats.items self.new.seats.items app (Stop number)) (shown self.old) (shown self.new) }
     {
         self.stop(number);
     }
@@ -94,7 +94,7 @@ impl<R: Records + Drop> State<R> {
         requires least { 1 ≤ number }
         requires most { number ≤ self.old.members }
         ensures held { IsHeld self.new }
-        ensures happened { OnOk result ((app : Application) → KnowsNothing app → Follows R.stands R.is_kept (Sound self.old.members) (HappenedIf (OneFailed R.failed self.old.seats.items self.new.seats.items) app (StopInBegin number true)) (shown self.old) (shown self.new)) }
+        ensures happened { OnOk result ((app : Application) → KnowsNothing app → Follows R.stands R.is_kept (Sound self.old.members) (HappenedOver R.failed R.fates self.old.seats.items self.new.seats.items app (StopInBegin number true)) (shown self.old) (shown self.new)) }
         ensures refused { OnErr result (Follows R.stands R.is_kept (Sound self.old.members) Stays (shown self.old) (shown self.new)) }
     {
         let Some(draft) = self.tick(alloc, number, Tick::Begin)? else {
@@ -117,7 +117,7 @@ impl<R: Records + Drop> State<R> {
         requires least { 1 ≤ number }
         requires most { number ≤ self.old.members }
         ensures held { IsHeld self.new }
-        ensures happened { OnOk result ((app : Application) → KnowsNothing app → Follows R.stands R.is_kept (Sound self.old.members) (HappenedIf (OneFailed R.failed self.old.seats.items self.new.seats.items) app (StopInBegin number kept)) (shown self.old) (shown self.new)) }
+        ensures happened { OnOk result ((app : Application) → KnowsNothing app → Follows R.stands R.is_kept (Sound self.old.members) (HappenedOver R.failed R.fates self.old.seats.items self.new.seats.items app (StopInBegin number kept)) (shown self.old) (shown self.new)) }
         ensures refused { OnErr result (Follows R.stands R.is_kept (Sound self.old.members) Stays (shown self.old) (shown self.new)) }
     {
         if kept {
@@ -139,7 +139,7 @@ impl<R: Records + Drop> State<R> {
         requires held { IsHeld self.old }
         requires there { IsDeliveryOf (shown self.old) number self.old.mail delivery }
         ensures held { IsHeld self.new }
-        ensures happened { OnOk result ((app : Application) → KnowsNothing app → Follows R.stands R.is_kept (Sound self.old.members) (HappenedIf (OneFailed R.failed self.old.seats.items self.new.seats.items) app (StopInDeliver number true)) (shown self.old) (shown self.new)) }
+        ensures happened { OnOk result ((app : Application) → KnowsNothing app → Follows R.stands R.is_kept (Sound self.old.members) (HappenedOver R.failed R.fates self.old.seats.items self.new.seats.items app (StopInDeliver number true)) (shown self.old) (shown self.new)) }
         ensures refused { OnErr result (Follows R.stands R.is_kept (Sound self.old.members) Stays (shown self.old) (shown self.new)) }
     {
         let Some(draft) = self.hear(alloc, delivery)? else {
@@ -160,7 +160,7 @@ impl<R: Records + Drop> State<R> {
     ) -> Result<(), AllocError>
         requires held { IsHeld self.old }
         ensures held { IsHeld self.new }
-        ensures happened { OnOk result ((app : Application) → KnowsNothing app → Follows R.stands R.is_kept (Sound self.old.members) (HappenedIf (OneFailed R.failed self.old.seats.items self.new.seats.items) app (StopInDeliver number kept)) (shown self.old) (shown self.new)) }
+        ensures happened { OnOk result ((app : Application) → KnowsNothing app → Follows R.stands R.is_kept (Sound self.old.members) (HappenedOver R.failed R.fates self.old.seats.items self.new.seats.items app (StopInDeliver number kept)) (shown self.old) (shown self.new)) }
         ensures refused { OnErr result (Follows R.stands R.is_kept (Sound self.old.members) Stays (shown self.old) (shown self.new)) }
     {
         let Some(delivery) = self.to_member(number) else {
@@ -181,7 +181,7 @@ impl<R: Records + Drop> State<R> {
         requires least { 1 ≤ number }
         requires most { number ≤ self.old.members }
         ensures held { IsHeld self.new }
-        ensures happened { OnOk result ((app : Application) → KnowsNothing app → Follows R.stands R.is_kept (Sound self.old.members) (HappenedIf (OneFailed R.failed self.old.seats.items self.new.seats.items) app (Start number)) (shown self.old) (shown self.new)) }
+        ensures happened { OnOk result ((app : Application) → KnowsNothing app → Follows R.stands R.is_kept (Sound self.old.members) (HappenedOver R.failed R.fates self.old.seats.items self.new.seats.items app (Start number)) (shown self.old) (shown self.new)) }
         ensures refused { OnErr result (Follows R.stands R.is_kept (Sound self.old.members) Stays (shown self.old) (shown self.new)) }
     {
         self.start(alloc, number)
@@ -195,7 +195,7 @@ impl<R: Records + Drop> State<R> {
         requires least { 1 ≤ number }
         requires most { number ≤ self.old.members }
         ensures held { IsHeld self.new }
-        ensures happened { OnOk result ((app : Application) → KnowsNothing app → Follows R.stands R.is_kept (Sound self.old.members) (HappenedIf (OneFailed R.failed self.old.seats.items self.new.seats.items) app (Submits number request.now)) (shown self.old) (shown self.new)) }
+        ensures happened { OnOk result ((app : Application) → KnowsNothing app → Follows R.stands R.is_kept (Sound self.old.members) (HappenedOver R.failed R.fates self.old.seats.items self.new.seats.items app (Submits number request.now)) (shown self.old) (shown self.new)) }
         ensures refused { OnErr result (Follows R.stands R.is_kept (Sound self.old.members) Stays (shown self.old) (shown self.new)) }
     {
         let request = request.clone()?;
@@ -209,7 +209,7 @@ impl<R: Records + Drop> State<R> {
         requires held { IsHeld self.old }
         requires named { is_for self.old.members event.now ≡ true }
         ensures held { IsHeld self.new }
-        ensures happened { OnOk result ((app : Application) → KnowsNothing app → Follows R.stands R.is_kept (Sound self.old.members) (HappenedIf (OneFailed R.failed self.old.seats.items self.new.seats.items) app (event_of event.now)) (shown self.old) (shown self.new)) }
+        ensures happened { OnOk result ((app : Application) → KnowsNothing app → Follows R.stands R.is_kept (Sound self.old.members) (HappenedOver R.failed R.fates self.old.seats.items self.new.seats.items app (event_of event.now)) (shown self.old) (shown self.new)) }
         ensures refused { OnErr result (Follows R.stands R.is_kept (Sound self.old.members) Stays (shown self.old) (shown self.new)) }
     {
         match event {

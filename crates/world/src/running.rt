@@ -5,7 +5,7 @@ ghost use Rattle.std.specs.List.{list_all};
 ghost use Rattle.paxos.specs.Application.{Application};
 ghost use Rattle.paxos.specs.Lists.{Has};
 ghost use Rattle.world.specs.Held.{IsHeld, shown};
-ghost use Rattle.world.specs.Placed.{ArePlaced, IsPlaced};
+ghost use Rattle.world.specs.Placed.{AreOf, ArePlaced, IsOf, IsPlaced};
 ghost use Rattle.world.specs.Reached.{NeverFails, Reached, ReachedSmoothly, event_of};
 ghost use Rattle.world.specs.Runs.{AllRun, HasDone, IsUnwritten, LeadsSmoothly, LeadsTo, is_for};
 ghost use Rattle.world.specs.Shown.{AreKept};
@@ -30,7 +30,8 @@ fn place<R: Records + Drop>(
     requires least { 1 ≤ number }
     requires most { number ≤ members }
     requires unwritten { IsUnwritten R.stands R.is_kept records }
-    ensures { IfOk result (λ s. IsPlaced R.is_kept members number s) }
+    ensures placed { IfOk result (λ s. IsPlaced R.is_kept members number s) }
+    ensures store { IfOk result (λ s. IsOf R.fates s records) }
 {
     match Member::open(alloc, members, number, records) {
         Ok(member) => Ok(Seat {
@@ -52,6 +53,7 @@ fn place_all<R: Records + Drop>(
     requires unwritten { (r : R) → Has stores.items r → IsUnwritten R.stands R.is_kept r }
     ensures placed { IfOk result (λ seats. ArePlaced R.is_kept members seats.items) }
     ensures many { IfOk result (λ seats. length seats.items ≡ length stores.items) }
+    ensures stores { IfOk result (λ seats. AreOf R.fates seats.items stores.items) }
 {
     let mut seats = Vec::new(alloc);
     let Ok(()) = seats.reserve(stores.len()) else {
@@ -81,6 +83,7 @@ impl<R: Records + Drop> State<R> {
         ensures reached { IfOk result (λ x. (app : Application) → AreKept R.is_kept (shown x) → Reached R.stands app (shown x) []) }
         ensures smoothly { IfOk result (λ x. (app : Application) → AreKept R.is_kept (shown x) → ReachedSmoothly R.stands app (shown x) []) }
         ensures run { IfOk result (λ x. AllRun (shown x)) }
+        ensures stores { IfOk result (λ x. AreOf R.fates x.seats.items stores.items) }
     {
         // Members are at most 63, as their count says.
         let _count = members.count();

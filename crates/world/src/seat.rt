@@ -7,7 +7,7 @@ ghost use Rattle.paxos.specs.Application.{Application};
 ghost use Rattle.paxos.specs.Step.{Running};
 ghost use Rattle.paxos.specs.WellFormed.{IsRecord};
 ghost use Rattle.paxos.specs.World.{Member as Part};
-ghost use Rattle.world.specs.Seats.{FailedIn, failures_in, IsAny, IsFit, IsPlanned, IsSeat, MayHear, MayStart, MayStay, MayStep, MayStop, MayStopIn, Moves, Skips, sent_by, told_by};
+ghost use Rattle.world.specs.Seats.{Did, IsAny, IsFit, IsPlanned, IsSeat, MayHear, MayStart, MayStay, MayStep, MayStop, MayStopIn, Moves, Skips, sent_by, store_in, told_by};
 
 use acceptor::{Records, RecordsFault};
 use ballots::Members;
@@ -71,7 +71,7 @@ impl<R: Records + Drop> Seat<R> {
     ) -> Result<Option<Draft>, AllocError>
         requires runs { (x : MemberTerm R) → self.old.member ≡ Some x → x.acceptor.is_stopped ≡ false }
         ensures stays { Moves R.stands R.is_kept IsAny MayStay self.old self.new [] [] }
-        ensures failures { failures_in R.failed self.new ≡ failures_in R.failed self.old }
+        ensures store { store_in self.new ≡ store_in self.old }
         ensures seat { (n m : ℕ) → IsSeat n m self.old → IsSeat n m self.new }
         ensures drafted { IfOk result (λ o. IfSome o (λ d. (n m : ℕ) → IsSeat n m self.old → IsPlanned self.new (input_of m input.now) d)) }
         ensures skipped { IfOk result (λ o. o ≡ None → (n m : ℕ) → IsSeat n m self.old → Skips self.new (input_of m input.now)) }
@@ -93,7 +93,7 @@ impl<R: Records + Drop> Seat<R> {
         requires there { IsSome self.old.member }
         requires ready { (x : MemberTerm R) → self.old.member ≡ Some x → IsReady x draft × (x.acceptor.is_stopped ≡ false) }
         ensures moved { IfOk result (λ o. (app : Application) (n m : ℕ) (i : InputTerm) → KnowsNothing app → IsSeat n m self.old
-            → ((x : MemberTerm R) → self.old.member ≡ Some x → IsDrafted i x draft) → Moves R.stands R.is_kept (MayHear i) (MayStep (FailedIn R.failed self.old self.new) app n m i) self.old self.new (sent_by n m o) (told_by o)) }
+            → ((x : MemberTerm R) → self.old.member ≡ Some x → IsDrafted i x draft) → Moves R.stands R.is_kept (MayHear i) (MayStep (Did R.failed R.fates false (store_in self.old) (store_in self.new)) app n m i) self.old self.new (sent_by n m o) (told_by o)) }
         ensures says { IfOk result (λ o. IfSome o (λ outcome. (outcome.sends.items ≡ draft.sends.items) × (outcome.tells.items ≡ draft.tells.items))) }
         ensures refused { OnErr result (Moves R.stands R.is_kept IsAny MayStay self.old self.new [] []) }
         ensures seat { (n m : ℕ) → IsSeat n m self.old → IsSeat n m self.new }
@@ -117,6 +117,7 @@ impl<R: Records + Drop> Seat<R> {
         ensures stopped { IsSome self.old.member → Moves R.stands R.is_kept IsAny MayStop self.old self.new [] [] }
         ensures none { self.old.member ≡ None → self.new ≡ self.old }
         ensures empty { self.new.member ≡ None }
+        ensures store { store_in self.new ≡ store_in self.old }
     {
         self.empty();
     }
@@ -128,7 +129,7 @@ impl<R: Records + Drop> Seat<R> {
         requires there { IsSome self.old.member }
         requires ready { (x : MemberTerm R) → self.old.member ≡ Some x → IsReady x draft × (x.acceptor.is_stopped ≡ false) }
         ensures moved { OnOk result ((app : Application) (n m : ℕ) (i : InputTerm) → KnowsNothing app → IsSeat n m self.old
-            → ((x : MemberTerm R) → self.old.member ≡ Some x → IsDrafted i x draft) → Moves R.stands R.is_kept (MayHear i) (MayStopIn (FailedIn R.failed self.old self.new) app n m i true) self.old self.new [] []) }
+            → ((x : MemberTerm R) → self.old.member ≡ Some x → IsDrafted i x draft) → Moves R.stands R.is_kept (MayHear i) (MayStopIn (Did R.failed R.fates true (store_in self.old) (store_in self.new)) app n m i true) self.old self.new [] []) }
         ensures refused { OnErr result (Moves R.stands R.is_kept IsAny MayStay self.old self.new [] []) }
         ensures seat { (n m : ℕ) → IsSeat n m self.old → IsSeat n m self.new }
     {
@@ -159,7 +160,7 @@ impl<R: Records + Drop> Seat<R> {
     ) -> Result<(), AllocError>
         requires least { 1 ≤ number }
         requires most { number ≤ members }
-        ensures moved { OnOk result (self.old.member ≡ None → Moves R.stands R.is_kept (IsFit members) (MayStart (FailedIn R.failed self.old self.new)) self.old self.new [] []) }
+        ensures moved { OnOk result (self.old.member ≡ None → Moves R.stands R.is_kept (IsFit members) (MayStart (Did R.failed R.fates false (store_in self.old) (store_in self.new))) self.old self.new [] []) }
         ensures refused { OnErr result (Moves R.stands R.is_kept IsAny MayStay self.old self.new [] []) }
         ensures runs { IsSome self.old.member → self.new ≡ self.old }
         ensures seat { IsSeat members number self.old → IsSeat members number self.new }

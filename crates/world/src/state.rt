@@ -1,6 +1,6 @@
 //! What a world holds, and how it is changed.
 
-ghost use Rattle.std.specs.Prelude.{◌≡◌, ◌+◌, ◌<◌, ◌≤◌, ◌++◌, ℕ, length, map, vec_capacity, vec_len, None, Some, IfOk, IfSome, IsSome, OnErr, OnOk, true};
+ghost use Rattle.std.specs.Prelude.{◌≡◌, ◌+◌, ◌<◌, ◌≤◌, ◌++◌, ℕ, length, map, vec_capacity, vec_len, None, Some, IfOk, IfSome, IsSome, OnErr, OnOk, false, true};
 ghost use Rattle.member.specs.Drafts.{IsDrafted};
 ghost use Rattle.member.specs.Steps.{Input as InputTerm, Hears, KnowsNothing, input_of};
 ghost use Rattle.paxos.specs.Application.{Application};
@@ -10,8 +10,8 @@ ghost use Rattle.paxos.specs.World.{told_to};
 ghost use Rattle.world.specs.Posts.{IsWhole, all_deliveries, packet_of, sent_in};
 ghost use Rattle.world.specs.Tellings.{told_in};
 ghost use Rattle.world.specs.Held.{IsHeld, shown};
-ghost use Rattle.world.specs.Reached.{FailedAt, failures_at, Follows, IsDue, Stays, Steps};
-ghost use Rattle.world.specs.Seats.{IsPlanned, IsPlannedAt, MayMake, MayStart, MayStep, MayStop, MayStopIn, SkipsAt, sent_by, ticked, told_by};
+ghost use Rattle.world.specs.Reached.{Follows, IsDue, Stays, Steps, store_at};
+ghost use Rattle.world.specs.Seats.{Did, IsPlanned, IsPlannedAt, MayMake, MayStart, MayStep, MayStop, MayStopIn, SkipsAt, sent_by, ticked, told_by};
 ghost use Rattle.world.specs.declared.seat.Seat.{Seat as SeatTerm};
 
 use crate::event::Tick;
@@ -58,7 +58,7 @@ impl<R: Records + Drop> State<R> {
         requires there { delivery.message < length self.old.mail.messages.items }
         ensures held { IsHeld self.new }
         ensures stays { Follows R.stands R.is_kept (Sound self.old.members) Stays (shown self.old) (shown self.new) }
-        ensures failures { (m : ℕ) → failures_at R.failed self.new.seats.items m ≡ failures_at R.failed self.old.seats.items m }
+        ensures stores { (m : ℕ) → store_at self.new.seats.items m ≡ store_at self.old.seats.items m }
         ensures planned { IfOk result (λ o. IfSome o (λ d. IsPlannedAt self.new.seats.items delivery.target (Hears (packet_of self.old.mail.messages.items delivery)) d)) }
         ensures skipped { IfOk result (λ o. o ≡ None → SkipsAt self.new.seats.items delivery.target (Hears (packet_of self.old.mail.messages.items delivery))) }
         ensures same { (self.new.members ≡ self.old.members) × (self.new.mail ≡ self.old.mail) × (self.new.told ≡ self.old.told) }
@@ -84,7 +84,7 @@ impl<R: Records + Drop> State<R> {
         requires most { number ≤ self.old.members }
         ensures held { IsHeld self.new }
         ensures stays { Follows R.stands R.is_kept (Sound self.old.members) Stays (shown self.old) (shown self.new) }
-        ensures failures { (m : ℕ) → failures_at R.failed self.new.seats.items m ≡ failures_at R.failed self.old.seats.items m }
+        ensures stores { (m : ℕ) → store_at self.new.seats.items m ≡ store_at self.old.seats.items m }
         ensures planned { IfOk result (λ o. IfSome o (λ d. IsPlannedAt self.new.seats.items number (ticked tick) d)) }
         ensures skipped { IfOk result (λ o. o ≡ None → SkipsAt self.new.seats.items number (ticked tick)) }
         ensures same { (self.new.members ≡ self.old.members) × (self.new.mail ≡ self.old.mail) × (self.new.told ≡ self.old.told) }
@@ -104,7 +104,8 @@ impl<R: Records + Drop> State<R> {
         requires ready { (s : SeatTerm R) → at self.old.seats.items number ≡ Some s → MayMake s draft }
         ensures held { IsHeld self.new }
         ensures taken { OnOk result ((app : Application) (i : InputTerm) (s : SeatTerm R) → KnowsNothing app → at self.old.seats.items number ≡ Some s → IsPlanned s i draft → IsDue (shown self.old) number i
-            → Follows R.stands R.is_kept (Sound self.old.members) (Steps (shown self.old) s number (MayStep (FailedAt R.failed self.old.seats.items self.new.seats.items number) app self.old.members number i)) (shown self.old) (shown self.new)) }
+            → Follows R.stands R.is_kept (Sound self.old.members) (Steps (shown self.old) s number (MayStep (Did R.failed R.fates false (store_at self.old.seats.items number) (store_at self.new.seats.items number)) app self.old.members number i)) (shown self.old) (shown self.new)) }
+        ensures others { (j : ℕ) → (j ≡ number → ⊥) → store_at self.new.seats.items j ≡ store_at self.old.seats.items j }
         ensures refused { OnErr result (Follows R.stands R.is_kept (Sound self.old.members) Stays (shown self.old) (shown self.new)) }
     {
         let plan = self.mail.plan(alloc, self.members, number, draft.sends())?;
@@ -142,6 +143,7 @@ impl<R: Records + Drop> State<R> {
         ensures stopped { (s : SeatTerm R) → at self.old.seats.items number ≡ Some s → IsSome s.member
             → Follows R.stands R.is_kept (Sound self.old.members) (Steps (shown self.old) s number MayStop) (shown self.old) (shown self.new) }
         ensures none { (s : SeatTerm R) → at self.old.seats.items number ≡ Some s → s.member ≡ None → shown self.new ≡ shown self.old }
+        ensures stores { (m : ℕ) → store_at self.new.seats.items m ≡ store_at self.old.seats.items m }
     {
         self.seats[(number - 1) as usize].stop();
     }
@@ -161,7 +163,8 @@ impl<R: Records + Drop> State<R> {
         requires ready { (s : SeatTerm R) → at self.old.seats.items number ≡ Some s → MayMake s draft }
         ensures held { IsHeld self.new }
         ensures stopped { OnOk result ((app : Application) (i : InputTerm) (s : SeatTerm R) → KnowsNothing app → at self.old.seats.items number ≡ Some s → IsPlanned s i draft → IsDue (shown self.old) number i
-            → Follows R.stands R.is_kept (Sound self.old.members) (Steps (shown self.old) s number (MayStopIn (FailedAt R.failed self.old.seats.items self.new.seats.items number) app self.old.members number i true)) (shown self.old) (shown self.new)) }
+            → Follows R.stands R.is_kept (Sound self.old.members) (Steps (shown self.old) s number (MayStopIn (Did R.failed R.fates true (store_at self.old.seats.items number) (store_at self.new.seats.items number)) app self.old.members number i true)) (shown self.old) (shown self.new)) }
+        ensures others { (j : ℕ) → (j ≡ number → ⊥) → store_at self.new.seats.items j ≡ store_at self.old.seats.items j }
         ensures refused { OnErr result (Follows R.stands R.is_kept (Sound self.old.members) Stays (shown self.old) (shown self.new)) }
     {
         self.seats[(number - 1) as usize].stop_in(alloc, draft)
@@ -176,8 +179,10 @@ impl<R: Records + Drop> State<R> {
         requires most { number ≤ self.old.members }
         ensures held { IsHeld self.new }
         ensures started { OnOk result ((s : SeatTerm R) → at self.old.seats.items number ≡ Some s → s.member ≡ None
-            → Follows R.stands R.is_kept (Sound self.old.members) (Steps (shown self.old) s number (MayStart (FailedAt R.failed self.old.seats.items self.new.seats.items number))) (shown self.old) (shown self.new)) }
+            → Follows R.stands R.is_kept (Sound self.old.members) (Steps (shown self.old) s number (MayStart (Did R.failed R.fates false (store_at self.old.seats.items number) (store_at self.new.seats.items number)))) (shown self.old) (shown self.new)) }
+        ensures others { (j : ℕ) → (j ≡ number → ⊥) → store_at self.new.seats.items j ≡ store_at self.old.seats.items j }
         ensures runs { (s : SeatTerm R) → at self.old.seats.items number ≡ Some s → IsSome s.member → shown self.new ≡ shown self.old }
+        ensures same { (s : SeatTerm R) → at self.old.seats.items number ≡ Some s → IsSome s.member → (m : ℕ) → store_at self.new.seats.items m ≡ store_at self.old.seats.items m }
         ensures refused { OnErr result (Follows R.stands R.is_kept (Sound self.old.members) Stays (shown self.old) (shown self.new)) }
     {
         self.seats[(number - 1) as usize].start(alloc, self.members, number)

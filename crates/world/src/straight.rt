@@ -5,7 +5,7 @@ ghost use Rattle.member.specs.Steps.{KnowsNothing};
 ghost use Rattle.paxos.specs.Application.{Application};
 ghost use Rattle.paxos.proofs.WellFormed.{Sound};
 ghost use Rattle.world.specs.Held.{IsHeld, shown};
-ghost use Rattle.world.specs.Reached.{Follows, HappenedIf, OneFailed, Stays};
+ghost use Rattle.world.specs.Reached.{Follows, HappenedOver, Stays};
 ghost use Rattle.world.specs.Runs.{HasDone, LeadsSmoothly, StopsAt, straight_event, straight_run};
 
 use crate::event::Tick;
@@ -46,7 +46,7 @@ impl<R: Records + Drop> State<R> {
         requires least { 1 ≤ member }
         requires most { member ≤ self.old.members }
         ensures held { IsHeld self.new }
-        ensures happened { OnOk result ((app : Application) → KnowsNothing app → Follows R.stands R.is_kept (Sound self.old.members) (HappenedIf (OneFailed R.failed self.old.seats.items self.new.seats.items) app (straight_event self.old.members member request.now before)) (shown self.old) (shown self.new)) }
+        ensures happened { OnOk result ((app : Application) → KnowsNothing app → Follows R.stands R.is_kept (Sound self.old.members) (HappenedOver R.failed R.fates self.old.seats.items self.new.seats.items app (straight_event self.old.members member request.now before)) (shown self.old) (shown self.new)) }
         ensures refused { OnErr result (Follows R.stands R.is_kept (Sound self.old.members) Stays (shown self.old) (shown self.new)) }
     {
         let opening = self.opening();

@@ -1,16 +1,19 @@
 //! All members of a group in one program.
 
-ghost use Rattle.std.specs.Prelude.{◌≡◌, ◌↔◌, ◌+◌, ◌*◌, ◌≤◌, List, [], false, IfErr, IfOk, IsErrOf, OnErr, OnOk, length, map, true};
+ghost use Rattle.std.specs.Prelude.{◌≡◌, ◌↔◌, ◌+◌, ◌*◌, ◌≤◌, ℕ, List, [], false, IfErr, IfOk, IsErrOf, OnErr, OnOk, length, map, true};
 ghost use Rattle.std.specs.List.{list_all};
 ghost use Rattle.std.specs.Option.{option_copied};
 ghost use Rattle.member.specs.Steps.{KnowsNothing};
 ghost use Rattle.paxos.proofs.WellFormed.{Sound};
 ghost use Rattle.paxos.specs.Application.{Application};
 ghost use Rattle.paxos.specs.Lists.{Has};
-ghost use Rattle.paxos.specs.World.{Event as Happens};
-ghost use Rattle.world.specs.Reached.{Follows, HappenedIf, NeverFails, OneFailed, Reached, ReachedSmoothly, Stays, event_of};
+ghost use Rattle.paxos.specs.Records.{Record};
+ghost use Rattle.paxos.specs.World.{Event as Happens, World as Whole};
+ghost use Rattle.straight_runs.specs.Straight.{AllApplied};
+ghost use Rattle.world.specs.Placed.{AreOf};
+ghost use Rattle.world.specs.Reached.{Follows, HappenedOver, NeverFails, Reached, ReachedSmoothly, Stays, event_of};
 ghost use Rattle.world.specs.Runs.{Agrees, HasDone, IsStraight, IsUnwritten, LeadsSmoothly, LeadsTo, is_for, member_at, straight_run};
-ghost use Rattle.world.specs.Shown.{AreKept};
+ghost use Rattle.world.specs.Shown.{AreKept, Shows};
 ghost use Rattle.world.specs.Tellings.{told_in};
 
 use crate::event::{Event, are_for};
@@ -61,6 +64,7 @@ impl<R: Records + Drop> World<R> {
         ensures members { IfOk result (λ w. w.members ≡ members) }
         ensures reached { IfOk result (λ w. (app : Application) → AreKept R.is_kept w → Reached R.stands app w []) }
         ensures smoothly { IfOk result (λ w. (app : Application) → AreKept R.is_kept w → ReachedSmoothly R.stands app w []) }
+        ensures stores { IfOk result (λ w. AreOf R.fates w.seats stores.items) }
     {
         Ok(World {
             names,
@@ -89,8 +93,9 @@ impl<R: Records + Drop> World<R> {
     /// It fails where memory is refused, and then nothing that shows has changed.
     pub fn happen(&mut self, alloc: Global, event: &Event) -> Result<(), AllocError>
         requires named { is_for self.old.members event.now ≡ true }
-        ensures happened { OnOk result ((app : Application) → KnowsNothing app → Follows R.stands R.is_kept (Sound self.old.members) (HappenedIf (OneFailed R.failed self.old.seats self.new.seats) app (event_of event.now)) self.old self.new) }
+        ensures happened { OnOk result ((app : Application) → KnowsNothing app → Follows R.stands R.is_kept (Sound self.old.members) (HappenedOver R.failed R.fates self.old.seats self.new.seats app (event_of event.now)) self.old self.new) }
         ensures refused { OnErr result (Follows R.stands R.is_kept (Sound self.old.members) Stays self.old self.new) }
+        ensures applied { (kept : ℕ → Record) (v : Whole) → Shows self.new kept v → AllApplied v }
     {
         self.state.happen(alloc, event)
     }

@@ -1,8 +1,9 @@
-use Rattle.std.proofs.Common.{[], ◌∷◌, arith, inr, sym, subst, ap, ◌∙◌, length, length-append}
+use Rattle.std.proofs.Common.{[], ◌∷◌, ◌++◌, arith, inr, sym, subst, ap, ◌∙◌, length, length-append}
+use Rattle.std.proofs.lemmas.List.{append_assoc}
 use Rattle.paxos.specs.Lists.{Has}
-use Rattle.world.specs.Placed.{ArePlaced, IsPlaced}
+use Rattle.world.specs.Placed.{AreOf, ArePlaced, IsPlaced}
 use Rattle.world.specs.declared.seat.Seat.{Seat}
-use Rattle.world.proofs.Begun.{placed_none, placed_more}
+use Rattle.world.proofs.Begun.{of_more, placed_none, placed_more}
 use Rattle.world.proofs.running.place_all.Goals as goal
 
 pub overflow_add-number : goal.overflow_add-number
@@ -21,6 +22,7 @@ loop-records-init g c =
       omega (arith, ap (length {A = Seat g.row.R.Denot}) none, ap (length {A = g.row.R.Denot}) all),
       omega (arith, c.in-Ok.ensures.ok, c.reserve.ensures.len, ap (length {A = g.row.R.Denot}) all, c.len.ensures),
       λ r h. c.requires.unwritten r (subst (λ rs. Has rs r) all h),
+      ([], all, subst (λ ss. AreOf {R = g.row.R.Denot} g.R.Records.fates ss []) (sym none) tt),
     )
 
 pub loop-records-preserved : goal.loop-records-preserved
@@ -28,7 +30,9 @@ loop-records-preserved g c =
     let i = c.loop-records.invariant in
     let left = c.in-Some.ensures.steps.0 in
     let grown = ap (length {A = Seat g.row.R.Denot}) c.push_reserved.ensures.items ∙ length-append c.loop-records.seats.items (c.in_ok-place.field-0 ∷ []) in
-    let one = subst (λ k. IsPlaced {R = g.row.R.Denot} g.R.Records.is_kept c.args.members k c.in_ok-place.field-0) (omega (arith, i.3)) c.in_ok-place.ensures in (
+    let one = subst (λ k. IsPlaced {R = g.row.R.Denot} g.R.Records.is_kept c.args.members k c.in_ok-place.field-0) (omega (arith, i.3)) c.in_ok-place.ensures.placed in
+    let done = i.7.0 in
+    let more = done ++ c.in-Some.records ∷ [] in (
       tt,
       tt,
       subst (ArePlaced {R = g.row.R.Denot} g.R.Records.is_kept c.args.members) (sym c.push_reserved.ensures.items) (placed_more {R = g.row.R.Denot} g.R.Records.is_kept c.args.members c.loop-records.seats.items c.in_ok-place.field-0 i.2 one),
@@ -36,4 +40,10 @@ loop-records-preserved g c =
       omega (arith, i.4, grown, ap (length {A = g.row.R.Denot}) left),
       omega (arith, i.5, c.push_reserved.ensures.len, c.push_reserved.ensures.capacity, ap (length {A = g.row.R.Denot}) left),
       λ r h. i.6 r (subst (λ rs. Has rs r) (sym left) (inr h)),
+      (
+        more,
+        append_assoc done (c.in-Some.records ∷ []) _ ∙ sym (ap (λ rs. done ++ rs) left) ∙ i.7.1,
+        subst (λ ss. AreOf {R = g.row.R.Denot} g.R.Records.fates ss more) (sym c.push_reserved.ensures.items)
+            (of_more {R = g.row.R.Denot} g.R.Records.fates c.loop-records.seats.items done c.in_ok-place.field-0 c.in-Some.records i.7.2 c.in_ok-place.ensures.store),
+      ),
     )

@@ -4,7 +4,7 @@ use Rattle.acceptor.specs.Steps.{Acceptor}
 use Rattle.member.specs.Steps.{input_of}
 use Rattle.world.specs.Seats.{IsAny}
 use Rattle.world.proofs.Given.{if_none, if_some}
-use Rattle.world.proofs.Settling.{failures_running, planned, same_seat, skipped, stays}
+use Rattle.world.proofs.Settling.{planned, same_seat, skipped, stays, store_running}
 use Rattle.world.proofs.seat.Seat.draft.Goals as goal
 
 -- src/seat.rt:79:13
@@ -21,11 +21,11 @@ returns-clause-stays g c =
     (λ k. subst (λ (a : Acceptor g.row.R.Denot). g.R.Records.is_kept a.records) c.draft_for.ensures.acceptor k)
     (ap (λ (a : Acceptor g.row.R.Denot). a.kept) c.draft_for.ensures.acceptor) c.draft_for.ensures.same
 
-pub returns-clause-failures : goal.returns-clause-failures
-returns-clause-failures g c =
+pub returns-clause-store : goal.returns-clause-store
+returns-clause-store g c =
     let x = c.in-Some.member.now in
-    ap (λ (a : Acceptor g.row.R.Denot). g.R.Records.failed a.records) c.draft_for.ensures.acceptor
-    ∙ sym (failures_running {R = g.row.R.Denot} g.R.Records.failed c.args.self.now x (sym c.as_mut.ensures.value ∙ ap option_copied_mut c.in-Some.is))
+    ap (λ (a : Acceptor g.row.R.Denot). Some a.records) c.draft_for.ensures.acceptor
+    ∙ sym (store_running {R = g.row.R.Denot} c.args.self.now x (sym c.as_mut.ensures.value ∙ ap option_copied_mut c.in-Some.is))
 
 pub returns-clause-drafted : goal.returns-clause-drafted
 returns-clause-drafted g c =

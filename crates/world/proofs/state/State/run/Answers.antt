@@ -2,7 +2,7 @@ use Rattle.std.proofs.Common.{◌∷◌, [], arith, append-nil, refl, sym, subst
 use Rattle.std.proofs.lemmas.List.{length-map, take_all}
 use Rattle.std.proofs.lemmas.Option.{slice_get-map, slice_get_read}
 use Rattle.world.specs.Held.{shown}
-use Rattle.world.specs.Reached.{event_of}
+use Rattle.world.specs.Reached.{HaveDone, event_of, is_cut}
 use Rattle.world.specs.Runs.{LeadsSmoothly, LeadsTo}
 use Rattle.world.proofs.Leading.{leads_join, leads_none, leads_one, leads_still, smoothly_join, smoothly_none, surely_one}
 use Rattle.world.proofs.Placing.{never_failed}
@@ -28,12 +28,12 @@ loop-before-preserved g c =
       subst (LeadsTo {R = g.row.R.Denot} g.R.Records.stands g.R.Records.is_kept (shown c.args.self.now) (shown c.happen.new.self))
           taken
           (leads_join {R = g.row.R.Denot} g.R.Records.stands g.R.Records.is_kept (shown c.args.self.now) (shown c.loop-before.self) (shown c.happen.new.self) (take before events) (event_of e ∷ []) i.1
-          (leads_one {R = g.row.R.Denot} g.R.Records.stands g.R.Records.is_kept (shown c.loop-before.self) (shown c.happen.new.self) i.0.most (event_of e) c.in-Ok.ensures.happened)),
+          (leads_one {R = g.row.R.Denot} g.R.Records.stands g.R.Records.is_kept (shown c.loop-before.self) (shown c.happen.new.self) i.0.most (HaveDone g.R.Records.failed g.R.Records.fates (is_cut (event_of e)) c.loop-before.self.seats.items c.happen.new.self.seats.items) (event_of e) c.in-Ok.ensures.happened)),
       λ never. subst (LeadsSmoothly {R = g.row.R.Denot} g.R.Records.stands g.R.Records.is_kept (shown c.args.self.now) (shown c.happen.new.self))
           taken
           (smoothly_join {R = g.row.R.Denot} g.R.Records.stands g.R.Records.is_kept (shown c.args.self.now) (shown c.loop-before.self) (shown c.happen.new.self) (take before events) (event_of e ∷ []) (i.2 never)
-          (surely_one {R = g.row.R.Denot} g.R.Records.stands g.R.Records.is_kept (shown c.loop-before.self) (shown c.happen.new.self) i.0.most (event_of e) held.size held.seats
-          (never_failed {R = g.row.R.Denot} g.R.Records.failed c.loop-before.self.seats.items c.happen.new.self.seats.items never) c.in-Ok.ensures.happened)),
+          (surely_one {R = g.row.R.Denot} g.R.Records.stands g.R.Records.is_kept (shown c.loop-before.self) (shown c.happen.new.self) i.0.most (HaveDone g.R.Records.failed g.R.Records.fates (is_cut (event_of e)) c.loop-before.self.seats.items c.happen.new.self.seats.items) (event_of e) held.size held.seats
+          (never_failed {R = g.row.R.Denot} g.R.Records.failed g.R.Records.fates (is_cut (event_of e)) never c.loop-before.self.seats.items c.happen.new.self.seats.items) c.in-Ok.ensures.happened)),
     )
 
 pub returns-clause-done : goal.returns-clause-done

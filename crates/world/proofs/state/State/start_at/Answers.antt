@@ -1,9 +1,10 @@
-use Rattle.paxos.specs.World.{Start}
+use Rattle.std.proofs.Common.{false, refl}
 use Rattle.world.specs.Held.{shown}
 use Rattle.world.proofs.Lifting.{so}
-use Rattle.world.proofs.Happening.{happened_if}
+use Rattle.world.specs.Reached.{HaveDone}
+use Rattle.world.proofs.Happening.{start_so, steps_so}
 use Rattle.world.proofs.Given.{ok_so}
-use Rattle.world.proofs.Placing.{seat_there}
+use Rattle.world.proofs.Placing.{have_done, nothing_done, seat_there}
 use Rattle.world.proofs.Stopping.{start_happens}
 use Rattle.world.proofs.state.State.start_at.Goals as goal
 
@@ -13,5 +14,8 @@ returns-clause-happened g c =
     let number = c.args.number in
     let s = seat_there self number c.requires.held c.requires.least c.requires.most in
     ok_so c.start.result _ _ (λ started app nothing.
-    so _ _ (shown self) (shown c.start.new.self) (λ v z sound. happened_if _ _ (λ f. (number, f)) app (Start number) v z)
-    (start_happens {R = g.row.R.Denot} g.R.Records.stands g.R.Records.is_kept _ app self c.start.new.self number s.0 s.1 c.requires.held (started s.0 s.1) (c.start.ensures.runs s.0 s.1))) c.start.ensures.started
+    start_happens {R = g.row.R.Denot} g.R.Records.stands g.R.Records.is_kept (HaveDone g.R.Records.failed g.R.Records.fates false self.seats.items c.start.new.self.seats.items) app self c.start.new.self number s.0 s.1 c.requires.held
+    (λ none. so _ _ (shown self) (shown c.start.new.self)
+    (λ v z sound step. steps_so {R = g.row.R.Denot} _ _ (start_so _ _ (have_done {R = g.row.R.Denot} g.R.Records.failed g.R.Records.fates false self.seats.items self.seats.items c.start.new.self.seats.items number (λ j. refl) c.start.ensures.others)) (shown self) s.0 number v z step)
+    (started s.0 s.1 none))
+    (λ some. (c.start.ensures.runs s.0 s.1 some, nothing_done {R = g.row.R.Denot} g.R.Records.failed g.R.Records.fates false self.seats.items c.start.new.self.seats.items (c.start.ensures.same s.0 s.1 some)))) c.start.ensures.started

@@ -6,7 +6,7 @@ use Rattle.world.specs.Held.{shown}
 use Rattle.world.specs.Reached.{Follows, Steps}
 use Rattle.world.specs.Seats.{IsAny, MayStop}
 use Rattle.world.specs.declared.seat.Seat.{Seat}
-use Rattle.world.proofs.Placing.{read_there, held_after, same_seats, silent_after}
+use Rattle.world.proofs.Placing.{read_there, held_after, same_seats, silent_after, stores_after}
 use Rattle.world.proofs.state.State.stop.Goals as goal
 
 pub stop-requires : goal.stop-requires
@@ -51,3 +51,13 @@ returns-clause-none g c = λ s at_s none.
     let same = same_Some seat s (sym there ∙ at_s) in
     same_seats {R = g.row.R.Denot} self (record { members = self.members; seats = with_item self.seats (number - 1) c.stop.new.self; mail = self.mail; told = self.told }) number seat c.stop.new.self c.requires.least there refl refl refl refl
     (c.stop.ensures.none (ap (λ (x : Seat g.row.R.Denot). x.member) same ∙ none))
+
+pub returns-clause-stores : goal.returns-clause-stores
+returns-clause-stores g c =
+    let self = c.args.self.now in
+    let number = c.args.number in
+    let held = c.requires.held in
+    let seat = c.index_mut.result.now in
+    let there = read_there self.seats.items number seat c.requires.least (subst (λ n. number ≤ n) (sym held.size) c.requires.most) c.index_mut.ensures.value in
+    stores_after {R = g.row.R.Denot} g.R.Records.stands g.R.Records.is_kept self (record { members = self.members; seats = with_item self.seats (number - 1) c.stop.new.self; mail = self.mail; told = self.told }) number seat c.stop.new.self
+    held c.requires.least there refl refl c.stop.ensures.store

@@ -5,13 +5,13 @@ use Rattle.member.specs.Drafts.{IsDrafted}
 use Rattle.member.specs.Steps.{Member}
 use Rattle.paxos.proofs.WellFormed.{Sound}
 use Rattle.world.specs.Held.{shown}
-use Rattle.world.specs.Reached.{FailedAt, Follows, Steps}
-use Rattle.world.specs.Seats.{IsPlanned, MayHear, MayStopIn}
+use Rattle.world.specs.Reached.{Follows, Steps, store_at}
+use Rattle.world.specs.Seats.{Did, IsPlanned, MayHear, MayStopIn}
 use Rattle.world.specs.declared.seat.Seat.{Seat}
 use Rattle.world.proofs.Given.{err_so, ok_so}
-use Rattle.world.proofs.Happening.{stop_if}
+use Rattle.world.proofs.Happening.{stop_so}
 use Rattle.world.proofs.Lifting.{moves_so}
-use Rattle.world.proofs.Placing.{failed_after, due_after, read_there, held_after, silent_after, stays_after}
+use Rattle.world.proofs.Placing.{did_after, due_after, others_after, read_there, held_after, silent_after, stays_after}
 use Rattle.world.proofs.state.State.stop_in.Goals as goal
 
 pub stop_in-requires-clause-there : goal.stop_in-requires-clause-there
@@ -52,13 +52,13 @@ returns-clause-stopped g c =
     ok_so c.stop_in.result _ _ (λ moved app i s nothing at_s planned due.
     let same = same_Some seat s (sym there ∙ at_s) in
     let own = subst (λ (x : Seat g.row.R.Denot). IsPlanned {R = g.row.R.Denot} x i c.args.draft) (sym same) planned in
-    subst (λ (x : Seat g.row.R.Denot). Follows {R = g.row.R.Denot} g.R.Records.stands g.R.Records.is_kept (Sound self.members) (Steps (shown self) x number (MayStopIn (FailedAt g.R.Records.failed self.seats.items (with_item self.seats (number - 1) c.stop_in.new.self).items number) app self.members number i true)) (shown self) (shown (record { members = self.members; seats = with_item self.seats (number - 1) c.stop_in.new.self; mail = self.mail; told = self.told }))) same
+    subst (λ (x : Seat g.row.R.Denot). Follows {R = g.row.R.Denot} g.R.Records.stands g.R.Records.is_kept (Sound self.members) (Steps (shown self) x number (MayStopIn (Did g.R.Records.failed g.R.Records.fates true (store_at self.seats.items number) (store_at (with_item self.seats (number - 1) c.stop_in.new.self).items number)) app self.members number i true)) (shown self) (shown (record { members = self.members; seats = with_item self.seats (number - 1) c.stop_in.new.self; mail = self.mail; told = self.told }))) same
     (silent_after {R = g.row.R.Denot} g.R.Records.stands g.R.Records.is_kept self (record { members = self.members; seats = with_item self.seats (number - 1) c.stop_in.new.self; mail = self.mail; told = self.told }) number seat c.stop_in.new.self
-    held c.requires.least there refl refl (MayHear i) (MayStopIn (FailedAt g.R.Records.failed self.seats.items (with_item self.seats (number - 1) c.stop_in.new.self).items number) app self.members number i true)
+    held c.requires.least there refl refl (MayHear i) (MayStopIn (Did g.R.Records.failed g.R.Records.fates true (store_at self.seats.items number) (store_at (with_item self.seats (number - 1) c.stop_in.new.self).items number)) app self.members number i true)
     (due_after {R = g.row.R.Denot} g.R.Records.stands g.R.Records.is_kept self (record { members = self.members; seats = with_item self.seats (number - 1) c.stop_in.new.self; mail = self.mail; told = self.told }) number seat c.stop_in.new.self
     held c.requires.least there refl refl i due) refl refl
-    (moves_so {R = g.row.R.Denot} _ _ (stop_if _ _ (failed_after {R = g.row.R.Denot} g.R.Records.stands g.R.Records.is_kept self (record { members = self.members; seats = with_item self.seats (number - 1) c.stop_in.new.self; mail = self.mail; told = self.told }) number seat c.stop_in.new.self
-    held c.requires.least there refl refl g.R.Records.failed) app self.members number i true)
+    (moves_so {R = g.row.R.Denot} _ _ (stop_so _ _ (did_after {R = g.row.R.Denot} g.R.Records.stands g.R.Records.is_kept self (record { members = self.members; seats = with_item self.seats (number - 1) c.stop_in.new.self; mail = self.mail; told = self.told }) number seat c.stop_in.new.self
+    held c.requires.least there refl refl g.R.Records.failed g.R.Records.fates true) app self.members number i true)
     (moved app self.members number i nothing (held.seats number seat there)
     (λ x q. subst (λ (z : Member g.row.R.Denot). IsDrafted {R = g.row.R.Denot} i z c.args.draft) (same_Some own.member x (sym own.there ∙ q)) own.drafted))))) c.stop_in.ensures.moved
 
@@ -71,3 +71,13 @@ returns-clause-refused g c =
     let there = read_there self.seats.items number seat c.requires.least (subst (λ n. number ≤ n) (sym held.size) c.requires.most) c.index_mut.ensures.value in
     err_so c.stop_in.result _ _ (λ moved. stays_after {R = g.row.R.Denot} g.R.Records.stands g.R.Records.is_kept self (record { members = self.members; seats = with_item self.seats (number - 1) c.stop_in.new.self; mail = self.mail; told = self.told }) number seat c.stop_in.new.self
     held c.requires.least there refl refl refl refl moved) c.stop_in.ensures.refused
+
+pub returns-clause-others : goal.returns-clause-others
+returns-clause-others g c =
+    let self = c.args.self.now in
+    let number = c.args.number in
+    let held = c.requires.held in
+    let seat = c.index_mut.result.now in
+    let there = read_there self.seats.items number seat c.requires.least (subst (λ n. number ≤ n) (sym held.size) c.requires.most) c.index_mut.ensures.value in
+    others_after {R = g.row.R.Denot} g.R.Records.stands g.R.Records.is_kept self (record { members = self.members; seats = with_item self.seats (number - 1) c.stop_in.new.self; mail = self.mail; told = self.told }) number seat c.stop_in.new.self
+    held c.requires.least there refl refl

@@ -1,8 +1,9 @@
-use Rattle.std.proofs.Common.{refl}
+use Rattle.std.proofs.Common.{false, refl}
 use Rattle.paxos.proofs.WellFormed.{Sound}
 use Rattle.world.specs.Held.{shown}
+use Rattle.world.specs.Reached.{HaveDone}
 use Rattle.world.proofs.Given.{err_so, ok_so, on_err}
-use Rattle.world.proofs.Placing.{seat_there, unchanged}
+use Rattle.world.proofs.Placing.{nothing_done, seat_there, unchanged}
 use Rattle.world.proofs.Resting.{submitted}
 use Rattle.world.proofs.state.State.submit.Goals as goal
 
@@ -16,7 +17,7 @@ returns-clause-happened g c =
     let self = c.args.self.now in
     let s = seat_there self c.args.number c.requires.held c.requires.least c.requires.most in
     ok_so c.ask.result _ _ (λ asked app nothing.
-    submitted {R = g.row.R.Denot} g.R.Records.stands g.R.Records.is_kept _ app self.members c.requires.held.most (shown self) c.args.number s.0 s.1 c.args.request.now
+    submitted {R = g.row.R.Denot} g.R.Records.stands g.R.Records.is_kept (HaveDone g.R.Records.failed g.R.Records.fates false self.seats.items self.seats.items) (nothing_done {R = g.row.R.Denot} g.R.Records.failed g.R.Records.fates false self.seats.items self.seats.items (λ j. refl)) app self.members c.requires.held.most (shown self) c.args.number s.0 s.1 c.args.request.now
     (shown (record { members = self.members; seats = self.seats; mail = c.ask.new.self; told = self.told })) (rw asked (rw c.in_ok-request.ensures.cases refl))) c.ask.ensures.asked
 
 pub returns-clause-refused : goal.returns-clause-refused

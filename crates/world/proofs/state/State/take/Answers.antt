@@ -1,4 +1,4 @@
-use Rattle.std.proofs.Common.{◌≤◌, ◌-◌, ◌++◌, map, refl, sym, subst, ap, ◌∙◌}
+use Rattle.std.proofs.Common.{false, ◌≤◌, ◌-◌, ◌++◌, map, refl, sym, subst, ap, ◌∙◌}
 use Rattle.std.specs.Prelude.{Vec}
 use Rattle.std.specs.Vec.{with_item}
 use Rattle.std.proofs.lemmas.Option.{same_Some}
@@ -7,14 +7,14 @@ use Rattle.member.specs.Steps.{Member}
 use Rattle.paxos.specs.World.{told_to}
 use Rattle.paxos.proofs.WellFormed.{Sound}
 use Rattle.world.specs.Held.{shown}
-use Rattle.world.specs.Reached.{FailedAt, Follows, Steps}
-use Rattle.world.specs.Seats.{IsPlanned, MayStep, sent_by, told_by}
+use Rattle.world.specs.Reached.{Follows, Steps, store_at}
+use Rattle.world.specs.Seats.{Did, IsPlanned, MayStep, sent_by, told_by}
 use Rattle.world.specs.Tellings.{told_in}
 use Rattle.world.specs.declared.seat.Seat.{Seat}
 use Rattle.world.proofs.Given.{on_err}
-use Rattle.world.proofs.Happening.{step_if}
+use Rattle.world.proofs.Happening.{step_so}
 use Rattle.world.proofs.Lifting.{moves_so}
-use Rattle.world.proofs.Placing.{failed_after, read_there, held_after, same_mail, stays_after, took_after, unchanged, whole_mail}
+use Rattle.world.proofs.Placing.{did_after, others_after, read_there, held_after, same_mail, stays_after, took_after, unchanged, whole_mail}
 use Rattle.world.proofs.state.State.take.Goals as goal
 
 pub returns-in_err-plan-clause-refused : goal.returns-in_err-plan-clause-refused
@@ -87,12 +87,33 @@ returns-clause-taken g c = λ app i s nothing at_s planned due.
     let same = same_Some seat s (sym there ∙ at_s) in
     let own = subst (λ (x : Seat g.row.R.Denot). IsPlanned {R = g.row.R.Denot} x i c.args.draft) (sym same) planned in
     let made = c.in_ok-made.made in
-    subst (λ (x : Seat g.row.R.Denot). Follows {R = g.row.R.Denot} g.R.Records.stands g.R.Records.is_kept (Sound self.members) (Steps (shown self) x number (MayStep (FailedAt g.R.Records.failed self.seats.items c.note.new.self.seats.items number) app self.members number i)) (shown self) (shown c.note.new.self)) same
+    subst (λ (x : Seat g.row.R.Denot). Follows {R = g.row.R.Denot} g.R.Records.stands g.R.Records.is_kept (Sound self.members) (Steps (shown self) x number (MayStep (Did g.R.Records.failed g.R.Records.fates false (store_at self.seats.items number) (store_at c.note.new.self.seats.items number)) app self.members number i)) (shown self) (shown c.note.new.self)) same
     (took_after {R = g.row.R.Denot} g.R.Records.stands g.R.Records.is_kept self c.note.new.self number seat c.commit.new.self
-    held c.requires.least there c.note.ensures.same.0 (ap (λ (v : Vec _ _). v.items) c.note.ensures.same.1) _ app i made due
+    held c.requires.least there c.note.ensures.same.0 (ap (λ (v : Vec _ _). v.items) c.note.ensures.same.1) (Did g.R.Records.failed g.R.Records.fates false (store_at self.seats.items number) (store_at c.note.new.self.seats.items number)) app i made due
     (c.note.ensures.sent ∙ ap (λ xs. xs ++ sent_by self.members number made) (same_mail c.plan.new.self self.mail c.plan.ensures.same))
     (c.note.ensures.told ∙ ap (λ xs. told_in xs ++ map (told_to number) (told_by made)) c.reserve.ensures.items)
-    (moves_so {R = g.row.R.Denot} _ _ (step_if _ _ (failed_after {R = g.row.R.Denot} g.R.Records.stands g.R.Records.is_kept self c.note.new.self number seat c.commit.new.self
-    held c.requires.least there c.note.ensures.same.0 (ap (λ (v : Vec _ _). v.items) c.note.ensures.same.1) g.R.Records.failed) app self.members number i)
+    (moves_so {R = g.row.R.Denot} _ _ (step_so _ _ (did_after {R = g.row.R.Denot} g.R.Records.stands g.R.Records.is_kept self c.note.new.self number seat c.commit.new.self
+    held c.requires.least there c.note.ensures.same.0 (ap (λ (v : Vec _ _). v.items) c.note.ensures.same.1) g.R.Records.failed g.R.Records.fates false) app self.members number i)
     (c.in_ok-made.ensures.moved app self.members number i nothing (held.seats number seat there)
     (λ x q. subst (λ (z : Member g.row.R.Denot). IsDrafted {R = g.row.R.Denot} i z c.args.draft) (same_Some own.member x (sym own.there ∙ q)) own.drafted))))
+
+pub returns-clause-others : goal.returns-clause-others
+returns-clause-others g c =
+    let self = c.args.self.now in
+    let number = c.args.number in
+    let held = c.requires.held in
+    let seat = c.index_mut.result.now in
+    let there = read_there self.seats.items number seat c.requires.least (subst (λ n. number ≤ n) (sym held.size) c.requires.most) c.index_mut.ensures.value in
+    others_after {R = g.row.R.Denot} g.R.Records.stands g.R.Records.is_kept self c.note.new.self number seat c.commit.new.self
+    held c.requires.least there c.note.ensures.same.0 (ap (λ (v : Vec _ _). v.items) c.note.ensures.same.1)
+
+pub returns-in_err-made-clause-others : goal.returns-in_err-made-clause-others
+returns-in_err-made-clause-others g c =
+    let self = c.args.self.now in
+    let number = c.args.number in
+    let held = c.requires.held in
+    let seat = c.index_mut.result.now in
+    let there = read_there self.seats.items number seat c.requires.least (subst (λ n. number ≤ n) (sym held.size) c.requires.most) c.index_mut.ensures.value in
+    others_after {R = g.row.R.Denot} g.R.Records.stands g.R.Records.is_kept self
+    (record { members = self.members; seats = with_item self.seats (number - 1) c.commit.new.self; mail = c.plan.new.self; told = c.reserve.new.self }) number seat c.commit.new.self
+    held c.requires.least there refl refl

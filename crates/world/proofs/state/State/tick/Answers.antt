@@ -1,7 +1,7 @@
 use Rattle.std.proofs.Common.{◌≤◌, ◌-◌, refl, sym, subst}
 use Rattle.member.specs.Steps.{input_of}
 use Rattle.std.specs.Vec.{with_item}
-use Rattle.world.proofs.Placing.{failures_after, planned_after, read_there, held_after, skipped_after, stays_after}
+use Rattle.world.proofs.Placing.{stores_after, planned_after, read_there, held_after, skipped_after, stays_after}
 use Rattle.world.proofs.state.State.tick.Goals as goal
 
 pub draft-requires : goal.draft-requires
@@ -33,16 +33,16 @@ returns-clause-stays g c =
     (record { members = self.members; seats = with_item self.seats (number - 1) c.draft.new.self; mail = self.mail; told = self.told }) number c.index_mut.result.now c.draft.new.self
     held c.requires.least there refl refl refl refl c.draft.ensures.stays
 
-pub returns-clause-failures : goal.returns-clause-failures
-returns-clause-failures g c =
+pub returns-clause-stores : goal.returns-clause-stores
+returns-clause-stores g c =
     let self = c.args.self.now in
     let number = c.args.number in
     let held = c.requires.held in
     let there = read_there self.seats.items number c.index_mut.result.now c.requires.least
     (subst (λ n. number ≤ n) (sym held.size) c.requires.most) c.index_mut.ensures.value in
-    failures_after {R = g.row.R.Denot} g.R.Records.stands g.R.Records.is_kept self
+    stores_after {R = g.row.R.Denot} g.R.Records.stands g.R.Records.is_kept self
     (record { members = self.members; seats = with_item self.seats (number - 1) c.draft.new.self; mail = self.mail; told = self.told }) number c.index_mut.result.now c.draft.new.self
-    held c.requires.least there refl refl g.R.Records.failed c.draft.ensures.failures
+    held c.requires.least there refl refl c.draft.ensures.store
 
 pub returns-clause-planned : goal.returns-clause-planned
 returns-clause-planned g c =
