@@ -1,12 +1,14 @@
 -- From a change of what code holds to the commands that lead to it.
-use Rattle.std.proofs.Common.{◌≡◌, ℕ, ◌<◌, ◌≤◌, ◌+◌, refl, sym, subst, ap, ◌∙◌, inl, true, false, ◌||◌, List, [], ◌∷◌, ◌++◌, length}
-use Rattle.acceptor.specs.Script.{IsKept, Script, Stands}
+use Rattle.std.proofs.Common.{◌≡◌, ℕ, ◌<◌, ◌≤◌, ◌+◌, ◌-◌, ◌^◌, arith, min, refl, sym, subst, ap, ◌∙◌, inl, true, false, ◌||◌, List, [], ◌∷◌, ◌++◌, length, Option, Some, None}
+use Rattle.std.specs.Option.{option_and_then}
+use Rattle.std.proofs.lemmas.Option.{none-some, same_Some}
+use Rattle.acceptor.specs.Script.{IsKept, Script, Stands, fails_at, fates_of}
 use Rattle.ballots.specs.Ballot.{most_members}
 use Rattle.ballots.specs.Messages.{up_to}
 use Rattle.event_files.specs.declared.first.Failure.{Failure}
-use Rattle.paxos.specs.Lists.{Has}
+use Rattle.paxos.specs.Lists.{at, Has}
 use Rattle.paxos.proofs.Lists.{has_map}
-use Rattle.paxq_sim.specs.Stores.{store_of, stores_of}
+use Rattle.paxq_sim.specs.Stores.{plan_of, store_of, stores_of}
 use Rattle.event_files.specs.declared.command.Command.{Command}
 use Rattle.event_files.specs.declared.command.Command.TheVariants.{Happens, DeliverAll}
 use Rattle.member.specs.Steps.{KnowsNothing}
@@ -14,13 +16,20 @@ use Rattle.paxos.specs.Application.{Application}
 use Rattle.paxos.specs.Examples.{silent}
 use Rattle.paxos.specs.Records.{Record}
 use Rattle.paxos.specs.World.{World as Whole, Deliver, Event as HappensThere, Run, fresh, start}
-use Rattle.paxos.proofs.WellFormed.{Sound}
-use Rattle.world.specs.Reached.{Follows, Happened, Reached, ReachedBy, event_of}
+use Rattle.paxos.proofs.WellFormed.{Sound, at_number}
+use Rattle.straight_runs.specs.Straight.{AllApplied}
+use Rattle.straight_runs.proofs.Lists.{at_each, length_each}
+use Rattle.world.specs.Placed.{AreOf}
+use Rattle.world.specs.Reached.{Follows, HappenedOver, Reached, ReachedBy, event_of}
+use Rattle.world.specs.Seats.{fates_of as fates_in, store_in}
 use Rattle.world.specs.Shown.{World, AreKept, Shows}
 use Rattle.world.specs.declared.event.Event.{Event}
+use Rattle.world.specs.declared.seat.Seat.{Seat}
+use Rattle.world.proofs.Begun.{of_at}
 use Rattle.world.proofs.Reaching.{led}
-use Rattle.paxq_sim.specs.Going.{Comes, Delivers, HasCome, IsDelivering}
-use Rattle.paxq_sim.specs.Play.{is_among, named_in}
+use Rattle.paxq_sim.specs.Going.{Comes, Delivers, HasCome, IsDelivering, IsKnown}
+use Rattle.paxq_sim.specs.Play.{State, fate, is_among, named_in}
+use Rattle.paxq_sim.proofs.Stepping.{Leads, leads}
 use Rattle.paxq_sim.proofs.Steps.{begins_delivering, delivers_next, ends_delivering, event_comes, opening_comes, passes_named}
 
 -- an application that keeps no replies
@@ -49,10 +58,12 @@ pub one_of : (w : World Script) (P : Whole → Type 0) → ReachedBy Stands w P 
 one_of w P r = let there = r.runs r.first (λ m. inl refl) in (there.0, there.1, r.first, there.2)
 
 -- An event leads on from what leads to the world before it.
-event_leads : (app : Application) (e : HappensThere) (old new : World Script) (Was Is : Whole → Type 0) → ((v : Whole) → Was v → Sound old.members v)
-    → ((v z : Whole) → Was v → v.sent ≡ old.sent → Happened app e v z → Is z) → Follows Stands IsKept (Sound old.members) (Happened app e) old new → ReachedBy Stands old Was → ReachedBy Stands new Is
-event_leads app e old new Was Is sound goes f r =
-    led Stands IsKept old new (all_kept new) (λ v. Was v × (v.sent ≡ old.sent)) Is (Happened app e) (λ v w. sound v w.0) (λ v z now w h s. goes v z w.0 w.1 h)
+event_leads : (app : Application) (e : HappensThere) (old new : World Script) (Was Is : Whole → Type 0) → ((kept : ℕ → Record) (v : Whole) → Shows new kept v → AllApplied v)
+    → ((v : Whole) → Was v → Sound old.members v) → ((v z : Whole) → Was v → v.sent ≡ old.sent → HappenedOver (λ (s : Script). s.failures) fates_of old.seats new.seats app e v z → AllApplied z → Is z)
+    → Follows Stands IsKept (Sound old.members) (HappenedOver (λ (s : Script). s.failures) fates_of old.seats new.seats app e) old new → ReachedBy Stands old Was → ReachedBy Stands new Is
+event_leads app e old new Was Is applied sound goes f r =
+    led Stands IsKept old new (all_kept new) (λ v. Was v × (v.sent ≡ old.sent)) Is (HappenedOver (λ (s : Script). s.failures) fates_of old.seats new.seats app e) (λ v w. sound v w.0)
+    (λ v z now w h s. goes v z w.0 w.1 h (applied now z s))
     (followed old Was (λ v. Was v × (v.sent ≡ old.sent)) (λ v kept w s. (w, s.sent)) r) f
 
 -- no events lead nowhere else
@@ -60,46 +71,78 @@ at_start : (app : Application) (v w : Whole) → Run app w [] v → w ≡ v
 at_start app v w ([], e, h) = h
 at_start app v w (x ∷ xs, e, h) = cc
 
-module _ (app : Application) (n : ℕ) where
+-- what is known of the stores at first is what the file says
+opening_known : (failures : List Failure) (n : ℕ) (w : World Script) → AreOf fates_of w.seats (stores_of n failures) → IsKnown failures w (λ m. 0)
+opening_known failures n w all m r q k = by (at w.seats m) refl
+  where
+    by : (o : Option (Seat Script)) → at w.seats m ≡ o → fates_of r k ≡ Some (fate failures m (0 + k))
+    by None p = absurd (none-some r (sym (ap (option_and_then (λ (s : Seat Script). store_in s)) p) ∙ q))
+    by (Some s) p =
+        let there = of_at fates_of w.seats (stores_of n failures) all m s p in
+        let is : store_in s ≡ Some r = sym (ap (option_and_then (λ (t : Seat Script). store_in t)) p) ∙ q in
+        ap (λ o. fates_in fates_of o k) (sym is) ∙ there.2 k ∙ ap (λ (t : Script). fates_of t k) (stored m there.0 there.1)
+        ∙ ap (λ i. Some (fails_at (min i (2 ^ 64 - 1)) (plan_of m failures))) (omega arith)
+      where
+        stored : (m : ℕ) (r : Script) → at (stores_of n failures) m ≡ Some r → r ≡ store_of failures m
+        stored m r h =
+            let number = at_number (stores_of n failures) m r h in
+            same_Some r (store_of failures m) (sym h ∙ at_each n m (store_of failures) number.0 (subst (λ i. m ≤ i) (length_each n (store_of failures)) number.1))
+
+module _ (app : Application) (failures : List Failure) (n : ℕ) where
   -- nothing has happened
-  pub begun : (w : World Script) → w.members ≡ n → n ≤ most_members → Reached Stands app w [] → HasCome app n [] w 0 []
-  begun w members few r = (
+  pub begun : (w : World Script) → w.members ≡ n → n ≤ most_members → AreOf fates_of w.seats (stores_of n failures) → Reached Stands app w [] → HasCome app failures n [] w 0 []
+  begun w members few stores r = (
     members,
-    followed w (Run app (start w.members) []) (Comes app n [] 0 [])
-        (λ v kept run s. subst (Comes app n [] 0 []) (at_start app v (start n) (subst (λ k. Run app (start k) [] v) members run)) (opening_comes app n few)) r,
+    followed w (Run app (start w.members) []) (Comes app failures n [] w 0 [])
+        (λ v kept run s. subst (Comes app failures n [] w 0 []) (at_start app v (start n) (subst (λ k. Run app (start k) [] v) members run)) (opening_comes app failures n w few (opening_known failures n w stores))) r,
   )
+
+  -- an event in the world of a state
+  leads_on : (e : HappensThere) (old new : World Script) (s : State) (v z : Whole) → s.world ≡ v → Sound n v → IsKnown failures old s.written
+      → HappenedOver (λ (r : Script). r.failures) fates_of old.seats new.seats app e v z → AllApplied z → Leads app failures n s e new z
+  leads_on e old new s v z is sound known h all =
+      leads app failures n s e old new (subst (Sound n) (sym is) sound) known z (subst (λ x. HappenedOver (λ (r : Script). r.failures) fates_of old.seats new.seats app e x z) (sym is) h) all
 
   module _ (done : List Command) where
     -- an event
     pub event_led : (e : Event) (old new : World Script) (d : ℕ) (named more : List ℕ) → ((k : ℕ) → is_among more k ≡ (is_among named k || is_among (named_in d (length old.sent) e) k))
-        → Follows Stands IsKept (Sound old.members) (Happened app (event_of e)) old new → HasCome app n done old d named → HasCome app n (done ++ Happens e ∷ []) new d more
-    event_led e old new d named more adds f was = (
+        → ((kept : ℕ → Record) (v : Whole) → Shows new kept v → AllApplied v)
+        → Follows Stands IsKept (Sound old.members) (HappenedOver (λ (s : Script). s.failures) fates_of old.seats new.seats app (event_of e)) old new
+        → HasCome app failures n done old d named → HasCome app failures n (done ++ Happens e ∷ []) new d more
+    event_led e old new d named more adds applied f was = (
       f.members ∙ was.0,
-      event_leads app (event_of e) old new (Comes app n done d named) (Comes app n (done ++ Happens e ∷ []) d more) (λ v w. subst (λ k. Sound k v) (sym was.0) w.sound)
-          (λ v z w same h. event_comes app n done e d named more v z (λ k. adds k ∙ (λ i. is_among named k || is_among (named_in d (length (sym same i)) e) k)) w h)
+      event_leads app (event_of e) old new (Comes app failures n done old d named) (Comes app failures n (done ++ Happens e ∷ []) new d more) applied (λ v w. subst (λ k. Sound k v) (sym was.0) w.sound)
+          (λ v z w same h all. event_comes app failures n done e old new d named more v z (λ k. adds k ∙ (λ i. is_among named k || is_among (named_in d (length (sym same i)) e) k)) w
+          (leads_on (event_of e) old new w.progress.state v z w.world_is w.sound w.known h all))
           f was.1,
     )
 
     -- `deliver all`: its beginning, a message that was named, one that is delivered, its end
-    pub delivering : (w : World Script) (d : ℕ) (named : List ℕ) → HasCome app n done w d named → IsDelivering app n done w d named
-    delivering w d named was = (was.0, followed w (Comes app n done d named) (Delivers app n done d named) (λ v kept c s. begins_delivering app n done d named v c) was.1)
+    pub delivering : (w : World Script) (d : ℕ) (named : List ℕ) → HasCome app failures n done w d named → IsDelivering app failures n done w d named
+    delivering w d named was = (was.0, followed w (Comes app failures n done w d named) (Delivers app failures n done w d named) (λ v kept c s. begins_delivering app failures n done w d named v c) was.1)
 
-    pub passed : (w : World Script) (d : ℕ) (named : List ℕ) → is_among named (d + 1) ≡ true → d < length w.sent → IsDelivering app n done w d named → IsDelivering app n done w (d + 1) named
-    passed w d named is left was =
-        (was.0, followed w (Delivers app n done d named) (Delivers app n done (d + 1) named) (λ v kept c s. passes_named app n done d named v is (subst (λ xs. d < length xs) (sym s.sent) left) c) was.1)
+    pub passed : (w : World Script) (d : ℕ) (named : List ℕ) → is_among named (d + 1) ≡ true → d < length w.sent → IsDelivering app failures n done w d named → IsDelivering app failures n done w (d + 1) named
+    passed w d named is left was = (
+      was.0,
+      followed w (Delivers app failures n done w d named) (Delivers app failures n done w (d + 1) named)
+          (λ v kept c s. passes_named app failures n done w d named v is (subst (λ xs. d < length xs) (sym s.sent) left) c) was.1,
+    )
 
     pub delivered : (old new : World Script) (d : ℕ) (named : List ℕ) → is_among named (d + 1) ≡ false → d < length old.sent
-        → Follows Stands IsKept (Sound old.members) (Happened app (Deliver (d + 1))) old new → IsDelivering app n done old d named → IsDelivering app n done new (d + 1) named
-    delivered old new d named is left f was = (
+        → ((kept : ℕ → Record) (v : Whole) → Shows new kept v → AllApplied v)
+        → Follows Stands IsKept (Sound old.members) (HappenedOver (λ (s : Script). s.failures) fates_of old.seats new.seats app (Deliver (d + 1))) old new
+        → IsDelivering app failures n done old d named → IsDelivering app failures n done new (d + 1) named
+    delivered old new d named is left applied f was = (
       f.members ∙ was.0,
-      event_leads app (Deliver (d + 1)) old new (Delivers app n done d named) (Delivers app n done (d + 1) named) (λ v w. subst (λ k. Sound k v) (sym was.0) w.sound)
-          (λ v z w same h. delivers_next app n done d named v z is (subst (λ xs. d < length xs) (sym same) left) w h)
+      event_leads app (Deliver (d + 1)) old new (Delivers app failures n done old d named) (Delivers app failures n done new (d + 1) named) applied (λ v w. subst (λ k. Sound k v) (sym was.0) w.sound)
+          (λ v z w same h all. delivers_next app failures n done old new d named v z is (subst (λ xs. d < length xs) (sym same) left) w
+          (leads_on (Deliver (d + 1)) old new w.state v z w.world_is w.sound w.known h all))
           f was.1,
     )
 
-    pub ended : (w : World Script) (d : ℕ) (named none : List ℕ) → none ≡ [] → length w.sent ≤ d → IsDelivering app n done w d named → HasCome app n (done ++ DeliverAll ∷ []) w d none
+    pub ended : (w : World Script) (d : ℕ) (named none : List ℕ) → none ≡ [] → length w.sent ≤ d → IsDelivering app failures n done w d named → HasCome app failures n (done ++ DeliverAll ∷ []) w d none
     ended w d named none empty all was = (
       was.0,
-      followed w (Delivers app n done d named) (Comes app n (done ++ DeliverAll ∷ []) d none)
-          (λ v kept c s. ends_delivering app n done d named none v empty (subst (λ xs. length xs ≤ d) (sym s.sent) all) c) was.1,
+      followed w (Delivers app failures n done w d named) (Comes app failures n (done ++ DeliverAll ∷ []) w d none)
+          (λ v kept c s. ends_delivering app failures n done w d named none v empty (subst (λ xs. length xs ≤ d) (sym s.sent) all) c) was.1,
     )

@@ -1,30 +1,77 @@
--- What a simulation of an event file is, and what it prints: over the protocol's world, whatever stores leave open.
-use Rattle.std.specs.Prelude.{◌≡◌, ℕ, Bool, not, ◌&&◌, ◌==◌, nat_eq, nat_le, nat_lt, if◌then◌else◌, List, [], ◌∷◌, ◌++◌, map, flat_map, filter, length, Option, Some, None, codes}
+-- What a simulation of an event file is, and what it prints: over the protocol's world, where the stores of the members fail as the file says.
+-- Nothing is left open: a file has one simulation (`simulated_once`).
+use Rattle.std.specs.Prelude.{◌≡◌, ◌+◌, ◌-◌, ◌^◌, ℕ, suc, min, Bool, not, ◌&&◌, ◌==◌, nat_eq, nat_le, nat_lt, if◌then◌else◌, List, [], ◌∷◌, ◌++◌, map, flat_map, filter, length, Option, Some, None, option_map, codes}
 use Rattle.std.specs.Option.{option_and_then}
 use Rattle.std.specs.List.{list_any}
 use Rattle.std.specs.Fmt.{decimal}
+use Rattle.acceptor.specs.Law.{passing}
+use Rattle.acceptor.specs.Script.{fails_at}
 use Rattle.ballots.specs.Messages.{up_to}
 use Rattle.ballots.specs.declared.value.Value.{Value}
 use Rattle.ballots.specs.declared.value.Value.TheVariants as value
 use Rattle.event_files.specs.EventFiles.{EventFileTerm}
 use Rattle.event_files.specs.declared.command.Command.{Command}
 use Rattle.event_files.specs.declared.command.Command.TheVariants.{Happens, DeliverAll}
+use Rattle.event_files.specs.declared.first.Failure.{Failure}
 use Rattle.member.specs.Steps.{KnowsNothing}
 use Rattle.paxos.specs.Application.{Application}
+use Rattle.paxos.specs.Knowledge.{news, prefix}
 use Rattle.paxos.specs.Lists.{at}
+use Rattle.paxos.specs.Records.{writes}
 use Rattle.paxos.specs.Step.{Running}
-use Rattle.paxos.specs.World.{World as Whole, Member, Told, Deliver, Run, start}
+use Rattle.paxos.specs.World.{World as Whole, Member, Told, Choice, Event as Happening, Deliver, happens, start}
 use Rattle.paxq_run.specs.Play.{line_feed}
-use Rattle.world.specs.Reached.{Happened, event_of}
+use Rattle.paxq_sim.specs.Stores.{plan_of}
+use Rattle.world.specs.Reached.{actor, event_of, is_cut, write_in}
+use Rattle.world.specs.Seats.{later}
 use Rattle.world.specs.declared.event.Event.{Event}
 use Rattle.world.specs.declared.event.Event.TheVariants as event
 use Rattle.world.specs.declared.event.Step.TheVariants as step
 
 -- ---- what happens
--- How far a simulation is: the world, the number up to which all messages were delivered, and later numbers that lines have named since
--- those messages were sent.
-pub record Progress : Type 0 where
+-- A world, and how many writes the store of each member has made, those that failed too.
+pub record State : Type 0 where
   pub world : Whole
+  pub written : (member : ℕ) → ℕ
+
+-- whether the write of a member fails before which its store made so many, and then whether it is left; no number is above those of 64 bits
+abbrev pub fate : List Failure → (member before : ℕ) → Option Bool
+fate failures m k = fails_at (min (suc k) (2 ^ 64 - 1)) (plan_of m failures)
+
+-- What an event leaves open is settled: where its member writes, the file says whether that fails. A write in which the member stops does not.
+abbrev pub choice_in : Application → List Failure → State → Happening → Choice
+choice_in app failures s e = record {
+  fails = if writes (write_in app s.world e) then passing (is_cut e) (fate failures (actor s.world e) (s.written (actor s.world e))) else None;
+  applied = 0;
+}
+
+-- a member that runs has applied all that it has learnt without a gap
+abbrev pub with_all : (members : ℕ) → Running → Running
+with_all n u = record { heard = u.heard; leader = u.leader; applied = prefix n (news u.heard) }
+
+abbrev pub member_with_all : (members : ℕ) → Member → Member
+member_with_all n x = record { kept = x.kept; running = option_map (with_all n) x.running }
+
+-- so have all
+abbrev pub all_applied : (members : ℕ) → Whole → Whole
+all_applied n w = record { members = map (member_with_all n) w.members; sent = w.sent; votes = w.votes; told = w.told }
+
+-- an event happens
+abbrev pub next : Application → List Failure → State → Happening → State
+next app failures s e = record {
+  world = all_applied (length s.world.members) (happens app s.world (choice_in app failures s e) e);
+  written = λ m. if m == actor s.world e then later (write_in app s.world e) (s.written m) else s.written m;
+}
+
+-- events happen in order
+abbrev pub after_all : Application → List Failure → State → List Happening → State
+after_all app failures s [] = s
+after_all app failures s (e ∷ es) = after_all app failures (next app failures s e) es
+
+-- How far a simulation is: the world with its stores, the number up to which all messages were delivered, and later numbers that lines
+-- have named since those messages were sent.
+pub record Progress : Type 0 where
+  pub state : State
   pub delivered : ℕ
   pub named : List ℕ
 
@@ -52,21 +99,29 @@ named_in delivered sent e = []
 
 -- what a line names, of the messages that were sent
 abbrev pub named_by : Progress → Event → List ℕ
-named_by p e = named_in p.delivered (length p.world.sent) e
+named_by p e = named_in p.delivered (length p.state.world.sent) e
 
--- one command, whatever stores leave open
-abbrev pub Takes : Application → Progress → Command → Progress → Type 0
-Takes app p (Happens e) q = Happened app (event_of e) p.world q.world × (q.delivered ≡ p.delivered) × (q.named ≡ p.named ++ named_by p e)
-Takes app p DeliverAll q = Run app p.world (map Deliver (undelivered p (length q.world.sent))) q.world × (q.delivered ≡ length q.world.sent) × (q.named ≡ [])
+-- how far it is after an event
+abbrev pub with_event : Application → List Failure → Progress → Event → Progress
+with_event app failures p e = record { state = next app failures p.state (event_of e); delivered = p.delivered; named = p.named ++ named_by p e }
+
+-- how far it is after the deliveries up to a number
+abbrev pub with_deliveries : Application → List Failure → Progress → (last : ℕ) → Progress
+with_deliveries app failures p last = record { state = after_all app failures p.state (map Deliver (undelivered p last)); delivered = last; named = [] }
+
+-- One command. That all is delivered says that the deliveries go on until no later message was sent.
+abbrev pub Takes : Application → List Failure → Progress → Command → Progress → Type 0
+Takes app failures p (Happens e) q = q ≡ with_event app failures p e
+Takes app failures p DeliverAll q = (last : ℕ) × (q ≡ with_deliveries app failures p last) × (last ≡ length q.state.world.sent)
 
 -- commands in order
-abbrev pub Plays : Application → Progress → List Command → Progress → Type 0
-Plays app p [] q = q ≡ p
-Plays app p (command ∷ commands) q = (r : Progress) × Takes app p command r × Plays app r commands q
+abbrev pub Plays : Application → List Failure → Progress → List Command → Progress → Type 0
+Plays app failures p [] q = q ≡ p
+Plays app failures p (command ∷ commands) q = (r : Progress) × Takes app failures p command r × Plays app failures r commands q
 
 -- nothing has happened to so many members
 abbrev pub opening : (members : ℕ) → Progress
-opening members = record { world = start members; delivered = 0; named = [] }
+opening members = record { state = record { world = start members; written = λ m. 0 }; delivered = 0; named = [] }
 
 -- ---- what is printed
 -- `CLIENT NUMBER` of a request, or `noop`
@@ -117,4 +172,4 @@ report w = flat_map told_line (first_told [] w.told) ++ message_line (length w.s
 
 -- ---- what a simulation of an event file prints
 abbrev pub IsSimulated : EventFileTerm → List ℕ → Type 0
-IsSimulated f text = (app : Application) → KnowsNothing app → (end : Progress) × Plays app (opening f.group.members) f.commands end × (text ≡ report end.world)
+IsSimulated f text = (app : Application) → KnowsNothing app → (end : Progress) × Plays app f.failures (opening f.group.members) f.commands end × (text ≡ report end.state.world)

@@ -5,11 +5,15 @@ ghost use Rattle.event_files.specs.Within.{IsCommandOf, IsEventOf};
 ghost use Rattle.event_files.specs.declared.command.Command.{Command as CommandTerm};
 ghost use Rattle.event_files.specs.declared.command.Command.TheVariants.{Happens, DeliverAll};
 ghost use Rattle.member.specs.Steps.{KnowsNothing};
-ghost use Rattle.acceptor.specs.Script.{IsKept, Stands};
+ghost use Rattle.event_files.specs.declared.first.Failure.{Failure as FailureTerm};
+ghost use Rattle.acceptor.specs.Script.{IsKept, Script, Stands, fates_of};
 ghost use Rattle.paxos.specs.Application.{Application};
-ghost use Rattle.paxos.specs.World.{Deliver};
+ghost use Rattle.paxos.specs.Records.{Record};
+ghost use Rattle.paxos.specs.World.{World as Whole, Deliver};
+ghost use Rattle.straight_runs.specs.Straight.{AllApplied};
 ghost use Rattle.paxos.proofs.WellFormed.{Sound};
-ghost use Rattle.world.specs.Reached.{Follows, Happened};
+ghost use Rattle.world.specs.Reached.{Follows, HappenedOver};
+ghost use Rattle.world.specs.Shown.{Shows};
 ghost use Rattle.paxq_sim.specs.Going.{HasCome, IsDelivering};
 
 use super::numbers::Numbers;
@@ -37,7 +41,7 @@ impl Simulation {
         group: Group,
         failures: &[Failure],
     ) -> Result<Simulation, AllocError>
-        ensures begun { IfOk result (λ s. (app : Application) → HasCome app group.members [] s.world s.delivered s.named) }
+        ensures begun { IfOk result (λ s. (app : Application) → HasCome app failures.now group.members [] s.world s.delivered s.named) }
         ensures members { IfOk result (λ s. s.world.members ≡ group.members) }
     {
         // Members are at most 63, as their count says.
@@ -57,7 +61,7 @@ impl Simulation {
     /// The commands of a file, in order. It fails where memory is refused.
     pub(crate) fn play(&mut self, alloc: Global, commands: &[Command]) -> Result<(), AllocError>
         requires within { All (IsCommandOf self.old.world.members) commands.now }
-        ensures played { OnOk result ((app : Application) → KnowsNothing app → (n : ℕ) → HasCome app n [] self.old.world self.old.delivered self.old.named → HasCome app n commands.now self.new.world self.new.delivered self.new.named) }
+        ensures played { OnOk result ((app : Application) → KnowsNothing app → (failures : List FailureTerm) (n : ℕ) → HasCome app failures n [] self.old.world self.old.delivered self.old.named → HasCome app failures n commands.now self.new.world self.new.delivered self.new.named) }
     {
         for command in commands {
             self.take(alloc, command)?;
@@ -68,8 +72,8 @@ impl Simulation {
     /// One command. It fails where memory is refused.
     fn take(&mut self, alloc: Global, command: &Command) -> Result<(), AllocError>
         requires within { IsCommandOf self.old.world.members command.now }
-        ensures taken { OnOk result ((app : Application) → KnowsNothing app → (n : ℕ) (done : List CommandTerm)
-            → HasCome app n done self.old.world self.old.delivered self.old.named → HasCome app n (done ++ command.now ∷ []) self.new.world self.new.delivered self.new.named) }
+        ensures taken { OnOk result ((app : Application) → KnowsNothing app → (failures : List FailureTerm) (n : ℕ) (done : List CommandTerm)
+            → HasCome app failures n done self.old.world self.old.delivered self.old.named → HasCome app failures n (done ++ command.now ∷ []) self.new.world self.new.delivered self.new.named) }
         ensures members { OnOk result (self.new.world.members ≡ self.old.world.members) }
     {
         match command {
@@ -81,8 +85,8 @@ impl Simulation {
     /// An event. It fails where memory is refused.
     fn happen(&mut self, alloc: Global, event: &Event) -> Result<(), AllocError>
         requires within { IsEventOf self.old.world.members event.now }
-        ensures taken { OnOk result ((app : Application) → KnowsNothing app → (n : ℕ) (done : List CommandTerm)
-            → HasCome app n done self.old.world self.old.delivered self.old.named → HasCome app n (done ++ Happens event.now ∷ []) self.new.world self.new.delivered self.new.named) }
+        ensures taken { OnOk result ((app : Application) → KnowsNothing app → (failures : List FailureTerm) (n : ℕ) (done : List CommandTerm)
+            → HasCome app failures n done self.old.world self.old.delivered self.old.named → HasCome app failures n (done ++ Happens event.now ∷ []) self.new.world self.new.delivered self.new.named) }
         ensures members { OnOk result (self.new.world.members ≡ self.old.world.members) }
     {
         let sent = self.world.messages() as u64;
@@ -99,8 +103,8 @@ impl Simulation {
     ///
     /// It fails where memory is refused.
     fn deliver_all(&mut self, alloc: Global) -> Result<(), AllocError>
-        ensures taken { OnOk result ((app : Application) → KnowsNothing app → (n : ℕ) (done : List CommandTerm)
-            → HasCome app n done self.old.world self.old.delivered self.old.named → HasCome app n (done ++ DeliverAll ∷ []) self.new.world self.new.delivered self.new.named) }
+        ensures taken { OnOk result ((app : Application) → KnowsNothing app → (failures : List FailureTerm) (n : ℕ) (done : List CommandTerm)
+            → HasCome app failures n done self.old.world self.old.delivered self.old.named → HasCome app failures n (done ++ DeliverAll ∷ []) self.new.world self.new.delivered self.new.named) }
         ensures members { OnOk result (self.new.world.members ≡ self.old.world.members) }
     {
         while self.delivered < self.world.messages() as u64 {
@@ -115,8 +119,8 @@ impl Simulation {
         requires left { self.old.delivered < length self.old.world.sent }
         requires fits { self.old.delivered + 1 < 2 ^ 64 }
         ensures next { OnOk result (self.new.delivered ≡ self.old.delivered + 1) }
-        ensures led { OnOk result ((app : Application) → KnowsNothing app → (n : ℕ) (done : List CommandTerm)
-            → IsDelivering app n done self.old.world self.old.delivered self.old.named → IsDelivering app n done self.new.world self.new.delivered self.new.named) }
+        ensures led { OnOk result ((app : Application) → KnowsNothing app → (failures : List FailureTerm) (n : ℕ) (done : List CommandTerm)
+            → IsDelivering app failures n done self.old.world self.old.delivered self.old.named → IsDelivering app failures n done self.new.world self.new.delivered self.new.named) }
         ensures members { OnOk result (self.new.world.members ≡ self.old.world.members) }
     {
         let number = self.delivered + 1;
@@ -132,7 +136,8 @@ impl Simulation {
 
 /// Delivers the message of a number. It fails where memory is refused.
 fn deliver(alloc: Global, world: &mut World<ScriptRecords>, number: u64) -> Result<(), AllocError>
-    ensures { OnOk result ((app : Application) → KnowsNothing app → Follows Stands IsKept (Sound world.old.members) (Happened app (Deliver number)) world.old world.new) }
+    ensures happened { OnOk result ((app : Application) → KnowsNothing app → Follows Stands IsKept (Sound world.old.members) (HappenedOver (λ (s : Script). s.failures) fates_of world.old.seats world.new.seats app (Deliver number)) world.old world.new) }
+    ensures applied { (kept : ℕ → Record) (v : Whole) → Shows world.new kept v → AllApplied v }
 {
     let event = Event::Deliver(number);
     world.happen(alloc, &event)

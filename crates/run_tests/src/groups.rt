@@ -165,6 +165,17 @@ fn a_vote_is_reported_where_it_was_kept(rt: HostRuntime) {
              deliver 12\ndeliver 13\ndeliver 14\ndeliver 15\n",
             "messages 15\nmember 1 applied 0\nmember 2 applied 0\nmember 3 applied 0\n",
         ),
+        // Where the store would fail in that write too, the stop decides what is left, and the write takes a number if it is kept.
+        (
+            "members 3 db\nfail 2 2 lost\nbegin 1\ndeliver all\nsubmit 1 7 1 1\ndeliver 7\nstopin deliver 9 kept\nstart 2\nbegin 3\n\
+             deliver 12\ndeliver 13\ndeliver 14\ndeliver 15\n",
+            "messages 18\nmember 1 applied 0\nmember 2 applied 0\nmember 3 applied 0\n",
+        ),
+        (
+            "members 3 db\nfail 2 2 kept\nbegin 1\ndeliver all\nsubmit 1 7 1 1\ndeliver 7\nstopin deliver 9 lost\nstart 2\nbegin 3\n\
+             deliver 12\ndeliver 13\ndeliver 14\ndeliver 15\n",
+            "messages 14\nmember 1 applied 0\nmember 2 stopped\nmember 3 applied 0\n",
+        ),
     ] {
         prints(&rt, rt.alloc(), file, output);
     }

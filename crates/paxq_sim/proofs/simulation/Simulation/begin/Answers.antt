@@ -1,8 +1,10 @@
 use Rattle.std.proofs.Common.{◌∙◌, [], ap, arith, length, subst, sym}
 use Rattle.std.proofs.lemmas.List.{length-map}
+use Rattle.acceptor.specs.Script.{fates_of}
 use Rattle.ballots.specs.Messages.{up_to}
 use Rattle.paxos.specs.Lists.{Has}
 use Rattle.straight_runs.proofs.Lists.{length_up_to}
+use Rattle.world.specs.Placed.{AreOf}
 use Rattle.paxq_sim.specs.Going.{HasCome}
 use Rattle.paxq_sim.specs.Stores.{store_of}
 use Rattle.paxq_sim.proofs.Leading.{all_kept, begun, unwritten}
@@ -16,5 +18,6 @@ new-requires-clause-unwritten c = λ r h kept. unwritten c.args.failures.now c.a
 
 pub returns-in-Ok-clause-begun : goal.returns-in-Ok-clause-begun
 returns-in-Ok-clause-begun c = λ app.
-    subst (λ named. HasCome app c.args.group.members [] c.in-Ok.world 0 named) (sym c.new-in-Ok.ensures)
-    (begun app c.args.group.members c.in-Ok.world c.in-Ok.ensures.members (omega (arith, c.count-count.ensures.least, c.count-count.ensures.most)) (c.in-Ok.ensures.reached app (all_kept c.in-Ok.world)))
+    subst (λ named. HasCome app c.args.failures.now c.args.group.members [] c.in-Ok.world 0 named) (sym c.new-in-Ok.ensures)
+    (begun app c.args.failures.now c.args.group.members c.in-Ok.world c.in-Ok.ensures.members (omega (arith, c.count-count.ensures.least, c.count-count.ensures.most))
+    (subst (AreOf fates_of c.in-Ok.world.seats) c.in_ok-stores.ensures c.in-Ok.ensures.stores) (c.in-Ok.ensures.reached app (all_kept c.in-Ok.world)))

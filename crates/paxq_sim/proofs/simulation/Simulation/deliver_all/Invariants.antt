@@ -1,5 +1,6 @@
 use Rattle.std.proofs.Common.{◌≡◌, ℕ, ◌-◌, ◌^◌, List}
 use Rattle.event_files.specs.declared.command.Command.{Command}
+use Rattle.event_files.specs.declared.first.Failure.{Failure}
 use Rattle.member.specs.Steps.{KnowsNothing}
 use Rattle.paxos.specs.Application.{Application}
 use Rattle.paxq_sim.specs.Going.{HasCome, IsDelivering}
@@ -9,8 +10,8 @@ use Rattle.paxq_sim.proofs.simulation.Simulation.deliver_all.Given as goal
 abbrev pub invariant-loop-self : goal.invariant-loop-self
 invariant-loop-self l =
     (l.self.world.members ≡ l.initial.self.world.members)
-    × ((app : Application) → KnowsNothing app → (n : ℕ) (done : List Command)
-    → HasCome app n done l.initial.self.world l.initial.self.delivered l.initial.self.named → IsDelivering app n done l.self.world l.self.delivered l.self.named)
+    × ((app : Application) → KnowsNothing app → (failures : List Failure) (n : ℕ) (done : List Command)
+    → HasCome app failures n done l.initial.self.world l.initial.self.delivered l.initial.self.named → IsDelivering app failures n done l.self.world l.self.delivered l.self.named)
 
 -- the numbers that are left
 abbrev pub decreases-loop-self : goal.decreases-loop-self

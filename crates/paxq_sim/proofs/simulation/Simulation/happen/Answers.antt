@@ -1,9 +1,5 @@
 use Rattle.std.proofs.Common.{◌∙◌, ◌||◌}
-use Rattle.acceptor.specs.Script.{IsKept, Stands}
-use Rattle.paxos.proofs.WellFormed.{Sound}
-use Rattle.world.specs.Reached.{event_of}
 use Rattle.world.proofs.Given.{ok_so}
-use Rattle.world.proofs.Leading.{in_any_case}
 use Rattle.paxos.specs.Examples.{silent}
 use Rattle.paxq_sim.specs.Play.{is_among, named_in}
 use Rattle.paxq_sim.proofs.Leading.{event_led, silent_knows}
@@ -13,10 +9,10 @@ pub returns-clause-taken : goal.returns-clause-taken
 returns-clause-taken c =
     let x = c.args.self.now in
     ok_so c.happen.result _ _
-    (λ f app nothing n done was.
-    event_led app n done c.args.event.now x.world c.happen.new.self x.delivered x.named c.note.new.self
+    (λ f app nothing failures n done was.
+    event_led app failures n done c.args.event.now x.world c.happen.new.self x.delivered x.named c.note.new.self
     (λ k. c.in_ok-note.ensures k ∙ (λ i. is_among x.named k || is_among (named_in x.delivered (c.messages-sent.ensures i) c.args.event.now) k))
-    (in_any_case Stands IsKept (Sound x.world.members) _ app (event_of c.args.event.now) x.world c.happen.new.self (f app nothing)) was)
+    c.happen.ensures.applied (f app nothing) was)
     c.happen.ensures.happened
 
 pub returns-clause-members : goal.returns-clause-members

@@ -1,4 +1,5 @@
-use Rattle.std.proofs.Common.{◌≡◌, ℕ, [], take}
+use Rattle.std.proofs.Common.{◌≡◌, ℕ, List, [], take}
+use Rattle.event_files.specs.declared.first.Failure.{Failure}
 use Rattle.member.specs.Steps.{KnowsNothing}
 use Rattle.paxos.specs.Application.{Application}
 use Rattle.paxq_sim.specs.Going.{HasCome}
@@ -8,5 +9,5 @@ use Rattle.paxq_sim.proofs.simulation.Simulation.play.Given as goal
 abbrev pub invariant-loop-command : goal.invariant-loop-command
 invariant-loop-command l =
     (l.self.world.members ≡ l.initial.self.world.members)
-    × ((app : Application) → KnowsNothing app → (n : ℕ)
-    → HasCome app n [] l.initial.self.world l.initial.self.delivered l.initial.self.named → HasCome app n (take l.command-index l.commands) l.self.world l.self.delivered l.self.named)
+    × ((app : Application) → KnowsNothing app → (failures : List Failure) (n : ℕ)
+    → HasCome app failures n [] l.initial.self.world l.initial.self.delivered l.initial.self.named → HasCome app failures n (take l.command-index l.commands) l.self.world l.self.delivered l.self.named)
