@@ -1,9 +1,9 @@
 //! Forests: trees of nodes, documents by name, and the next identity.
 
-ghost use Rattle.std.specs.Prelude.{◌≡◌, ◌≢◌, ℕ, ◌+◌, ◌<◌, ◌≤◌, ◌^◌, ◌↔◌, Option, Some, None, IfOk, OnOk, OnErr, IfSome, IsErrOf, IsSome, List, [], ◌∷◌, ◌++◌, length, map, is_some, string_bytes, IsTrue, max};
+ghost use Rattle.std.specs.Prelude.{◌≡◌, ◌≢◌, ℕ, ◌+◌, ◌<◌, ◌≤◌, ◌^◌, ◌↔◌, Option, Some, None, IfOk, OnOk, OnErr, IfSome, IsErrOf, IsSome, List, [], ◌∷◌, ◌++◌, length, map, is_some, string_bytes, IsTrue, max, option_map};
 ghost use Rattle.std.specs.Map.{lookup};
 ghost use Rattle.std.specs.Str.{bytes_eq};
-ghost use Rattle.trees.specs.Trees.{no_trees, append, leaf, find, count, size, children_of, attributes_of, parent_of, string_value_of, IsAt, Content as NodeContent};
+ghost use Rattle.trees.specs.Trees.{no_trees, append, leaf, find, count, size, children_of, attributes_of, parent_of, string_value_of, text_within, IsAt, Content as NodeContent};
 ghost use Rattle.trees.specs.Changes.{with_children, with_attributes, with_content, splice, taken_out, all_moved_below, CanAllMoveBelow, pick, renumbered, ranked};
 ghost use Rattle.trees.specs.declared.node.Part.TheVariants.{Attributes, Children};
 ghost use Rattle.trees.specs.Order.{precedes};
@@ -206,14 +206,31 @@ impl Forest {
         requires { IsSome (find id self.now.trees) }
         ensures { IfOk result (λ s. string_bytes s ≡ string_value_of id self.now.trees) }
     {
+        // No memory has room for more bytes than that.
+        let value = self.string_value_within(alloc, id, usize::MAX)?;
+        value.ok_or(AllocError)
+    }
+
+    /// The string value of a node where it has at most `most` bytes, and `None` where it has more.
+    ///
+    /// It never holds more of them: it stops before the text that would pass them.
+    pub fn string_value_within(
+        &self,
+        alloc: Global,
+        id: NodeId,
+        most: usize,
+    ) -> Result<Option<String>, AllocError>
+        requires { IsSome (find id self.now.trees) }
+        ensures { IfOk result (λ s. option_map string_bytes s ≡ text_within most (string_value_of id self.now.trees)) }
+    {
         let mut value = String::new(alloc);
         let row = self.row(id);
-        if row.kind.is_inner() {
-            walk::add_text(&self.rows, &row.children, self.next, &mut value)?;
+        let fits = if row.kind.is_inner() {
+            walk::add_text_within(&self.rows, &row.children, self.next, most, &mut value)?
         } else {
-            value.push_str(&row.text)?;
-        }
-        Ok(value)
+            walk::push_within(&mut value, &row.text, most)?
+        };
+        Ok(fits.then_some(value))
     }
 
     /// There are at most as many nodes as the next identity's number, which is at most 2^62. It does nothing.
