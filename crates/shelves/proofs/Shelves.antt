@@ -8,14 +8,14 @@ use Rattle.trees.specs.Changes.{all_moved_below, CanAllMoveBelow}
 use Rattle.trees.specs.declared.node.Kind.TheVariants.{Document}
 use Rattle.trees.specs.declared.node.Part.{Part}
 use Rattle.trees.specs.Order.{identities, precedes}
-use Rattle.trees.specs.Walks.{seen, or_else}
+use Rattle.trees.specs.Walks.{held, seen, or_else}
 use Rattle.trees.specs.Forest.{ForestTerm, IsForest, IsDocument}
 use Rattle.shelves.specs.Shelf.{ShelfTerm, ComesAfter, IsShelf, shelf_trees}
 use Rattle.trees.proofs.Weights.{weigh-append}
 use Rattle.trees.proofs.Puts.{weigh-moved}
 use Rattle.trees.proofs.Climbs.{AreDistinct, any-tells, find-absent, there-counts}
 use Rattle.trees.proofs.CallerLemmas.{find-append}
-use Rattle.trees.proofs.Firsts.{before-seen, held, held-identities, seen-none, seen-a, seen-b, seen-first}
+use Rattle.trees.proofs.Firsts.{before-seen, held-identities, seen-none, seen-a, seen-b, seen-first}
 use Rattle.trees.proofs.Scans.{seen-append}
 use Rattle.trees.proofs.Lent.{find-lent, has-counts, has-not-counts, lent-apart}
 

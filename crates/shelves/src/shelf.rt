@@ -1,9 +1,9 @@
 //! Shelves: a lent forest and an own one, seen as one.
 
-ghost use Rattle.std.specs.Prelude.{◌≡◌, ℕ, ◌+◌, ◌<◌, ◌≤◌, ◌^◌, ◌↔◌, Option, Some, None, IfOk, OnOk, OnErr, IfSome, IsErrOf, IsSome, List, [], is_some, string_bytes};
+ghost use Rattle.std.specs.Prelude.{◌≡◌, ℕ, ◌+◌, ◌<◌, ◌≤◌, ◌^◌, ◌↔◌, Option, Some, None, IfOk, OnOk, OnErr, IfSome, IsErrOf, IsSome, List, [], is_some, string_bytes, option_map};
 ghost use Rattle.std.specs.Map.{lookup};
 ghost use Rattle.std.specs.Str.{bytes_eq};
-ghost use Rattle.trees.specs.Trees.{no_trees, append, leaf, find, size, children_of, attributes_of, parent_of, string_value_of, IsAt};
+ghost use Rattle.trees.specs.Trees.{no_trees, append, leaf, find, size, children_of, attributes_of, parent_of, string_value_of, text_within, IsAt};
 ghost use Rattle.trees.specs.Changes.{with_content, taken_out, all_moved_below, CanAllMoveBelow, pick, renumbered};
 ghost use Rattle.trees.specs.declared.node.Part.TheVariants.{Attributes, Children};
 ghost use Rattle.trees.specs.Order.{precedes};
@@ -176,6 +176,21 @@ impl<'a> Shelf<'a> {
         ensures { IfOk result (λ s. string_bytes s ≡ string_value_of id (shelf_trees self.now)) }
     {
         self.home(id).string_value(alloc, id)
+    }
+
+    /// The string value of a node where it has at most `most` bytes, and `None` where it has more.
+    ///
+    /// It never holds more of them: it stops before the text that would pass them.
+    pub fn string_value_within(
+        &self,
+        alloc: Global,
+        id: NodeId,
+        most: usize,
+    ) -> Result<Option<String>, AllocError>
+        requires { IsSome (find id (shelf_trees self.now)) }
+        ensures { IfOk result (λ s. option_map string_bytes s ≡ text_within most (string_value_of id (shelf_trees self.now))) }
+    {
+        self.home(id).string_value_within(alloc, id, most)
     }
 
     /// The tree of a node as one of its own, with the same identities.

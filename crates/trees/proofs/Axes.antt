@@ -5,14 +5,14 @@ use Rattle.std.proofs.lemmas.Bool.{cases_lt}
 use Rattle.std.proofs.lemmas.Bool.Decides.{eqb_tells}
 use Rattle.trees.specs.Trees.{Trees, no_trees, tree, Place, first, find, find_below, parent_at, parent_of, children_at, children_of, attributes_at, attributes_of, roots, count, size}
 use Rattle.trees.specs.Order.{identities}
-use Rattle.trees.specs.Walks.{depth_of}
+use Rattle.trees.specs.Walks.{held, depth_of}
 use Rattle.trees.specs.Flat.{Entry, Table, Holds, entry_of, entry_at, entry_in}
 use Rattle.trees.specs.Axes.{is_in, is_child, is_attribute, is_parent, is_parent_at, is_ancestor, rises_to, on_axis}
 use Rattle.trees.specs.declared.axis.Axis.TheVariants.{Child, Attribute, SelfAxis}
 use Rattle.trees.proofs.Weights.{eqb-same}
 use Rattle.trees.proofs.Tables.{Holds-same}
 use Rattle.trees.proofs.Climbs.{AreDistinct, any-tells, find-absent, find-present, first-some, there-counts, climb-up}
-use Rattle.trees.proofs.Firsts.{held, held-append, held-identities, identities-tree}
+use Rattle.trees.proofs.Firsts.{held-append, held-identities, identities-tree}
 use Rattle.trees.proofs.Forests.{parent-in, children-in, attributes-in}
 
 -- ---- lists that stand in others, in their order

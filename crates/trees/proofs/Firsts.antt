@@ -5,7 +5,7 @@ use Rattle.std.proofs.lemmas.Bool.Decides.{nat_tests, eqb_tells}
 use Rattle.std.proofs.lemmas.List.{map-append}
 use Rattle.trees.specs.Trees.{Trees, no_trees, tree, Content, listing, roots, count, size}
 use Rattle.trees.specs.Order.{identities, comes_before, precedes}
-use Rattle.trees.specs.Walks.{root_of, seen, or_else}
+use Rattle.trees.specs.Walks.{root_of, held, seen, or_else}
 use Rattle.trees.specs.Flat.{Table, Holds, entry_is_root, parentless, IsTableOf, read_trees}
 use Rattle.trees.proofs.Weights.{eqb-same, height-le}
 use Rattle.trees.proofs.Tables.{read-holds}
@@ -21,11 +21,6 @@ before-seen a b (x ∷ xs) =
       | true ↦ refl
       | false ↦ elim (eqb x a) as (λ v. cond v true (comes_before a b xs) ≡ unwrap_or (cond v (Some true) (seen a b xs)) false) [ true ↦ refl | false ↦ before-seen a b xs ]
     ]
-
--- how often i is in a list
-abbrev pub held : ℕ → List ℕ → ℕ
-held i [] = 0
-held i (x ∷ xs) = cond (eqb i x) 1 0 + held i xs
 
 pub held-append : (i : ℕ) (xs ys : List ℕ) → held i (xs ++ ys) ≡ held i xs + held i ys
 held-append i [] ys = omega arith

@@ -19,4 +19,5 @@ pub mod CallerLemmas
 pub mod Lent
 pub mod Axes
 pub mod Nests
+pub mod Onces
 pub mod Plants

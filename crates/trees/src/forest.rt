@@ -362,8 +362,14 @@ impl Forest {
         requires below { IsSome (parent_of id self.old.trees) }
         ensures { self.new ≡ record self.old { trees = taken_out id self.old.trees } }
     {
-        if let Some(parent) = self.parent(id) {
-            table::drop_child(&mut self.rows, parent, id);
+        let row = self.row(id);
+        let part = if row.kind == Kind::Attribute {
+            Part::Attributes
+        } else {
+            Part::Children
+        };
+        if let Some(parent) = row.parent {
+            table::drop_child(&mut self.rows, part, parent, id);
             table::set_parent(&mut self.rows, id, None);
         }
     }

@@ -1,8 +1,9 @@
 //! The flat table of nodes that a forest stands on.
 
-ghost use Rattle.std.specs.Prelude.{◌≡◌, ◌≢◌, ℕ, ◌+◌, ◌≤◌, Option, Some, None, OnOk, OnErr, IsSome, List, length, filter, not, eqb, vec_len, vec_capacity, string_bytes};
+ghost use Rattle.std.specs.Prelude.{◌≡◌, ◌≢◌, ℕ, ◌+◌, ◌≤◌, Option, Some, None, OnOk, OnErr, IsSome, List, length, filter, not, eqb, cond, vec_len, vec_capacity, string_bytes};
 ghost use Rattle.trees.specs.declared.node.Part.{Part};
-ghost use Rattle.trees.specs.Flat.{Entry, IsChangedAt, Makes, Puts, with_child, with_parent, with_text, with_name, without_child, listed};
+ghost use Rattle.trees.specs.Walks.{held};
+ghost use Rattle.trees.specs.Flat.{Entry, IsChangedAt, Makes, Puts, with_child, with_parent, with_text, with_name, without_child, listed, IsOnceBelow};
 ghost use Rattle.trees.specs.Inside.{table_of, entry_of_row, list_in, HasRoom};
 
 use super::node::{Content, Kind, NodeId, Part};
@@ -155,27 +156,47 @@ pub fn set_name(rows: &mut Rows, id: NodeId, name: String)
     }
 }
 
-/// Takes a node out of the lists below another.
-pub fn drop_child(rows: &mut Rows, parent: NodeId, child: NodeId)
-    requires { IsSome (table_of rows.old parent) }
+/// Takes a node out of the list below another in which it stands: that of `part`, or else the other.
+pub fn drop_child(rows: &mut Rows, part: Part, parent: NodeId, child: NodeId)
+    requires there { IsSome (table_of rows.old parent) }
+    requires once { (e : Entry) → table_of rows.old parent ≡ Some e → IsOnceBelow child e }
     ensures { IsChangedAt (table_of rows.old) (table_of rows.new) parent (without_child child) }
 {
     if let Some(row) = rows.get_mut(&parent.number()) {
-        remove_from(&mut row.attributes, child);
-        remove_from(&mut row.children, child);
+        remove_below(row, part, child);
     }
 }
 
-/// Takes a node out of a list.
-fn remove_from(ids: &mut Vec<NodeId>, id: NodeId)
-    ensures { ids.new.items ≡ filter (λ i. not (eqb id i)) ids.old.items }
+/// Takes a node out of the list of a row in which it stands: that of `part`, or else the other.
+fn remove_below(row: &mut Row, part: Part, child: NodeId)
+    requires { IsOnceBelow child (entry_of_row row.old) }
+    ensures { entry_of_row row.new ≡ without_child child (entry_of_row row.old) }
 {
-    let mut at = 0;
-    while at < ids.len() {
-        if ids[at] == id {
-            ids.remove(at);
-        } else {
-            at += 1;
+    match part {
+        Part::Attributes => {
+            if !remove_from(&mut row.attributes, child) {
+                remove_from(&mut row.children, child);
+            }
+        }
+        Part::Children => {
+            if !remove_from(&mut row.children, child) {
+                remove_from(&mut row.attributes, child);
+            }
         }
     }
+}
+
+/// Takes a node out of a list that has it at most once, and says whether it had it.
+fn remove_from(ids: &mut Vec<NodeId>, id: NodeId) -> bool
+    requires { held id ids.old.items ≤ 1 }
+    ensures removed { ids.new.items ≡ filter (λ i. not (eqb id i)) ids.old.items }
+    ensures had { held id ids.old.items ≡ cond result 1 0 }
+{
+    for at in 0..ids.len() {
+        if ids[at] == id {
+            ids.remove(at);
+            return true;
+        }
+    }
+    false
 }
