@@ -72,11 +72,10 @@ fn typed_value(alloc: Global, shelf: &Shelf, id: NodeId) -> Result<Atom, ValueFa
     ensures atom { IfOk result (λ a. typed_at (find id (shelf_trees shelf.now)) ≡ Ok a) }
     ensures code { IfErr result (λ fault. (code : Code) → fault ≡ ValueFault.Code code → typed_at (find id (shelf_trees shelf.now)) ≡ Err code) }
 {
-    let text = shelf.string_value(alloc, id)?;
-    if text.len() > MAX_BYTES {
-        return Err(ValueFault::Code(Code::PXQ0002));
+    match shelf.string_value_within(alloc, id, MAX_BYTES)? {
+        Some(text) => Ok(typed(shelf.kind(id), Text::new(text))),
+        None => Err(ValueFault::Code(Code::PXQ0002)),
     }
-    Ok(typed(shelf.kind(id), Text::new(text)))
 }
 
 /// The typed value of a node of that kind, with that string value (Data Model, sections 6.1.2 to 6.7.2).
