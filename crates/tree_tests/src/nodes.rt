@@ -105,6 +105,59 @@ fn duplicates_forests(rt: HostRuntime) -> Result<(), Fail> {
     Ok(())
 }
 
+/// The steps to `<a n="1">hi<b>there</b></a>` in the document 1. The elements are 4 and 5, their texts 7 and 6, the attribute 8.
+const NESTED: [Step; 5] = [
+    Step::Child(1, 4, "a"),
+    Step::Child(4, 5, "b"),
+    Step::Put(5, Kind::Text, "", "there"),
+    Step::Put(4, Kind::Text, "", "hi"),
+    Step::Put(4, Kind::Attribute, "n", "1"),
+];
+
+/// Nodes of the forest of `NESTED`, limits, and the string values within them.
+const VALUES: [(u64, usize, Option<&str>); 12] = [
+    (1, usize::MAX, Some("hithere")),
+    (1, 7, Some("hithere")),
+    (1, 6, None),
+    (2, 0, Some("")),
+    (4, 8, Some("hithere")),
+    (4, 7, Some("hithere")),
+    (4, 6, None),
+    (4, 1, None),
+    (5, 5, Some("there")),
+    (6, 4, None),
+    (6, 5, Some("there")),
+    (8, 0, None),
+];
+
+/// The string value of a node on a shelf, where it has at most so many bytes.
+fn value_within(
+    alloc: Global,
+    shelf: &Shelf,
+    id: NodeId,
+    most: usize,
+) -> Result<Option<String>, Fail> {
+    if !shelf.has(id) {
+        return Err(Fail::new("no node"));
+    }
+    Ok(shelf.string_value_within(alloc, id, most)?)
+}
+
+/// Expects the string values of `VALUES`.
+fn expect_values(rt: &impl Abort, alloc: Global, shelf: &Shelf) -> Result<(), Fail> {
+    for (number, most, want) in VALUES {
+        let value = value_within(alloc, shelf, NodeId::new(number), most)?;
+        assert_eq!(rt; value.as_deref(), want, "{number} within {most}");
+    }
+    Ok(())
+}
+
+#[test]
+fn limits_string_values(rt: HostRuntime) -> Result<(), Fail> {
+    let forest = forest_of(rt.alloc(), &NESTED)?;
+    expect_values(&rt, rt.alloc(), &Shelf::new(rt.alloc(), &forest))
+}
+
 /// Steps on shelves of the forest of `FILLED`, and what is said of all nodes then.
 const ON_SHELVES: [Row; 2] = [
     (
