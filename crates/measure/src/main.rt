@@ -41,6 +41,8 @@ fn run(rt: &HostRuntime) -> io::Result<u8> {
         "nodes" => nodes::made(rt.alloc(), count).map(|_| count),
         "print" => nodes::printed(rt.alloc(), count),
         "compare" => nodes::compared(rt.alloc(), count),
+        "between" => nodes::put_between(rt.alloc(), count, true),
+        "alone" => nodes::put_between(rt.alloc(), count, false),
         _ => return Ok(2),
     };
     match done {

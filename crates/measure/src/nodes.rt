@@ -12,29 +12,36 @@ use values::{Atom, Comparison, Item, Text, atomize, compare_general, item_text};
 /// The bytes of each text.
 const TEXT: &str = "some text";
 
-/// A document with elements that have a text each, so many nodes beside the document.
-pub fn made(alloc: Global, count: u32) -> Option<Forest> {
+/// How many nodes are put between siblings, one after the other.
+const PUTS: u32 = 100_000;
+
+/// A forest of one empty document.
+fn opening(alloc: Global) -> Option<Forest> {
     let mut names = Vec::new(alloc);
     names.push(String::from_str(alloc, "db").ok()?).ok()?;
-    let mut forest = Forest::new(alloc, &Names::new(alloc, &names).ok()?).ok()?;
+    Forest::new(alloc, &Names::new(alloc, &names).ok()?).ok()
+}
+
+/// A document with elements that have a text each, so many nodes beside the document.
+pub fn made(alloc: Global, count: u32) -> Option<Forest> {
+    let mut forest = opening(alloc)?;
     for _ in 0..count / 2 {
         let document = forest.document("db")?;
-        let element = put_last(alloc, &mut forest, document, Kind::Element, "item", "")?;
+        let element = put(alloc, &mut forest, document, usize::MAX, Kind::Element)?;
         if forest.has(element) {
-            put_last(alloc, &mut forest, element, Kind::Text, "", TEXT)?;
+            put(alloc, &mut forest, element, usize::MAX, Kind::Text)?;
         }
     }
     Some(forest)
 }
 
-/// Makes a node, the last child of another.
-fn put_last(
+/// Makes an element or a text, a child of another node before which `index` children stand, or all where there are fewer.
+fn put(
     alloc: Global,
     forest: &mut Forest,
     parent: NodeId,
+    index: usize,
     kind: Kind,
-    name: &str,
-    text: &str,
 ) -> Option<NodeId>
     requires { IsSome (find parent forest.old.trees) }
 {
@@ -42,7 +49,12 @@ fn put_last(
     if identity.number() >= 1 << 62 {
         return None;
     }
-    let index = forest.children(parent).len();
+    let index = index.min(forest.children(parent).len());
+    let (name, text) = if kind == Kind::Text {
+        ("", TEXT)
+    } else {
+        ("item", "")
+    };
     let node = Content {
         identity,
         kind,
@@ -51,6 +63,35 @@ fn put_last(
     };
     forest.make_child(alloc, parent, index, node).ok()?;
     Some(identity)
+}
+
+/// How many elements were put in the middle of so many siblings and taken out again; or else only made, with no parent.
+pub fn put_between(alloc: Global, siblings: u32, are_put: bool) -> Option<u32> {
+    let mut forest = opening(alloc)?;
+    for _ in 0..siblings {
+        let document = forest.document("db")?;
+        put(alloc, &mut forest, document, usize::MAX, Kind::Element)?;
+    }
+    let middle = siblings as usize / 2;
+    for _ in 0..PUTS {
+        let document = forest.document("db")?;
+        let node = if are_put {
+            put(alloc, &mut forest, document, middle, Kind::Element)?
+        } else {
+            make(alloc, &mut forest)?
+        };
+        if forest.has(node) && forest.parent(node).is_some() {
+            forest.take_out(node);
+        }
+    }
+    Some(PUTS)
+}
+
+/// Makes an element with no parent.
+fn make(alloc: Global, forest: &mut Forest) -> Option<NodeId> {
+    let name = String::from_str(alloc, "item").ok()?;
+    let text = String::new(alloc);
+    forest.make(alloc, Kind::Element, name, text).ok()
 }
 
 /// How many bytes the printed document has.
