@@ -1,10 +1,6 @@
-//! Tests of names, forests, shelves and values, over what their crates make public.
+//! Tests of names, forests, shelves and printed nodes, over what their crates make public.
 #![tactic(auto)]
 
-#[cfg(test)]
-mod atoms;
-#[cfg(test)]
-mod comparisons;
 #[cfg(test)]
 mod described;
 #[cfg(test)]
@@ -13,8 +9,6 @@ mod forests;
 mod names;
 #[cfg(test)]
 mod nodes;
-#[cfg(test)]
-mod numbers;
 #[cfg(test)]
 mod order;
 #[cfg(test)]

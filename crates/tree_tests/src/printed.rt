@@ -4,7 +4,6 @@ ghost use Rattle.std.specs.Prelude.{IsSome};
 ghost use Rattle.shelves.specs.Shelf.{shelf_trees};
 ghost use Rattle.trees.specs.Trees.{find};
 
-use super::atoms::Sample;
 use super::steps::{Step, change, forest_of};
 use shelves::Shelf;
 use std::alloc::{AllocError, Global};
@@ -88,36 +87,6 @@ fn escapes_in_each_kind(rt: HostRuntime) -> Result<(), Fail> {
     change(alloc, &mut forest, &ESCAPED)?;
     expect_printed(&rt, alloc, &Shelf::new(alloc, &forest), &LITERALS)?;
     Ok(())
-}
-
-/// The text of an atomic value.
-fn printed_atom(alloc: Global, shelf: &Shelf, sample: Sample) -> Result<String, AllocError> {
-    item_text(alloc, shelf, &Item::Atomic(sample.atom(alloc)?))
-}
-
-/// Expects the texts of atomic values.
-fn expect_atoms(rt: &impl Abort, alloc: Global, shelf: &Shelf) -> Result<(), AllocError> {
-    for (sample, want) in [
-        (Sample::Integer(0), "0"),
-        (Sample::Integer(i64::MIN), "-9223372036854775808"),
-        (Sample::Boolean(true), "true()"),
-        (Sample::Boolean(false), "false()"),
-        (
-            Sample::String("\"&\t\n\r\u{1f600}"),
-            "\"\"\"&amp;&#9;&#10;&#13;\u{1f600}\"",
-        ),
-        (Sample::Untyped(""), "\"\""),
-    ] {
-        let text = printed_atom(alloc, shelf, sample)?;
-        assert_eq!(rt; text.as_str(), want, "{sample:?}");
-    }
-    Ok(())
-}
-
-#[test]
-fn prints_atomic_values(rt: HostRuntime) -> Result<(), AllocError> {
-    let forest = Forest::empty(rt.alloc(), NodeId::new(1));
-    expect_atoms(&rt, rt.alloc(), &Shelf::new(rt.alloc(), &forest))
 }
 
 /// The typed value of a node.

@@ -1,8 +1,10 @@
-//! Items for rows of tables, and their effective boolean values.
+//! Items for rows of tables, their effective boolean values and their texts.
 
+use shelves::Shelf;
 use std::alloc::{AllocError, Global};
-use trees::NodeId;
-use values::{Atom, Code, Item, Text, truth};
+use std::process::Abort;
+use trees::{Forest, NodeId};
+use values::{Atom, Code, Item, Text, item_text, truth};
 
 /// An item as a row of a table has it.
 #[derive(Clone, Copy, Debug)]
@@ -71,4 +73,34 @@ fn sequences_have_effective_boolean_values(rt: HostRuntime) {
     assert_eq!(rt; truth(&[]), Ok(false));
     assert_eq!(rt; truth(&[node(), integer(0)]), Ok(true));
     assert_eq!(rt; truth(&[integer(1), node()]), Err(Code::FORG0006));
+}
+
+/// The text of an atomic value.
+fn printed_atom(alloc: Global, shelf: &Shelf, sample: Sample) -> Result<String, AllocError> {
+    item_text(alloc, shelf, &Item::Atomic(sample.atom(alloc)?))
+}
+
+/// Expects the texts of atomic values.
+fn expect_atoms(rt: &impl Abort, alloc: Global, shelf: &Shelf) -> Result<(), AllocError> {
+    for (sample, want) in [
+        (Sample::Integer(0), "0"),
+        (Sample::Integer(i64::MIN), "-9223372036854775808"),
+        (Sample::Boolean(true), "true()"),
+        (Sample::Boolean(false), "false()"),
+        (
+            Sample::String("\"&\t\n\r\u{1f600}"),
+            "\"\"\"&amp;&#9;&#10;&#13;\u{1f600}\"",
+        ),
+        (Sample::Untyped(""), "\"\""),
+    ] {
+        let text = printed_atom(alloc, shelf, sample)?;
+        assert_eq!(rt; text.as_str(), want, "{sample:?}");
+    }
+    Ok(())
+}
+
+#[test]
+fn prints_atomic_values(rt: HostRuntime) -> Result<(), AllocError> {
+    let forest = Forest::empty(rt.alloc(), NodeId::new(1));
+    expect_atoms(&rt, rt.alloc(), &Shelf::new(rt.alloc(), &forest))
 }
