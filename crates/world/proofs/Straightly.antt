@@ -1,10 +1,10 @@
 -- The events of a straight run, one by one, and what it has come to.
-use Rattle.std.proofs.Common.{◌≡◌, ℕ, zero, suc, ◌+◌, ◌-◌, ◌*◌, ◌<◌, ◌≤◌, arith, refl, sym, subst, ap, ◌∙◌, inl, ⊎_elim, Some, List, [], ◌∷◌, ◌++◌, length, length-append, slice_get, take, append-nil, Bool, true, false, ◌&&◌, is_some, IsSome}
+use Rattle.std.proofs.Common.{◌≡◌, ℕ, zero, suc, ◌+◌, ◌-◌, ◌*◌, ◌<◌, ◌≤◌, arith, refl, sym, subst, ap, ◌∙◌, inl, ⊎_elim, Option, Some, None, List, [], ◌∷◌, ◌++◌, length, length-append, slice_get, take, append-nil, Bool, true, false, ◌&&◌, is_some, IsSome}
 use Rattle.std.specs.List.{list_all}
 use Rattle.std.proofs.lemmas.Bool.{false≢true, cases_lt, cases_eq, le-leb, lt-leb, eq-eqb, ne_eqb}
 use Rattle.std.proofs.lemmas.Option.{none-some, same_Some}
 use Rattle.ballots.specs.Terms.{Request}
-use Rattle.member.specs.Steps.{KnowsNothing}
+use Rattle.member.specs.Steps.{KnowsNothing, Member}
 use Rattle.paxos.specs.Application.{Application}
 use Rattle.paxos.specs.Examples.{deliveries}
 use Rattle.paxos.specs.Lists.{at}
@@ -15,7 +15,7 @@ use Rattle.straight_runs.specs.Straight.{opening}
 use Rattle.straight_runs.proofs.Ends.{all_sent, applied, told}
 use Rattle.straight_runs.proofs.Lists.{at-left, at-right}
 use Rattle.world.specs.Reached.{ReachedSmoothly}
-use Rattle.world.specs.Runs.{AllRun, HasDone, IsStraight, LeadsTo, StopsAt, straight_event, straight_run}
+use Rattle.world.specs.Runs.{AllRun, HasDone, IsStraight, LeadsTo, OneStopped, StopsAt, straight_event, straight_run}
 use Rattle.world.specs.Shown.{World}
 use Rattle.world.specs.declared.fault.WorldFault.{WorldFault}
 use Rattle.world.specs.declared.fault.WorldFault.TheVariants as fault
@@ -86,6 +86,27 @@ all_found {R} w = found w.seats
     found (t ∷ seats) h (suc zero) s e = subst (λ (r : Seat R). IsSome r.member) (same_Some t s e) (both_true (is_some t.member) (list_all (λ (r : Seat R). is_some r.member) seats) h).0
     found (t ∷ seats) h (suc (suc i)) s e = found seats (both_true (is_some t.member) (list_all (λ (r : Seat R). is_some r.member) seats) h).1 (suc i) s e
 
+-- Where they don't all run, one has stopped.
+pub one_stopped : {R : Type 0} (w : World R) → list_all (λ (s : Seat R). is_some s.member) w.seats ≡ false → OneStopped w
+one_stopped {R} w = found w.seats
+  where
+    none_there : (o : Option (Member R)) → is_some o ≡ false → o ≡ None
+    none_there None h = refl
+    none_there (Some x) h = absurd (false≢true (sym h))
+
+    found : (seats : List (Seat R)) → list_all (λ (s : Seat R). is_some s.member) seats ≡ false → (m : ℕ) × (s : Seat R) × (at seats m ≡ Some s) × (s.member ≡ None)
+    found [] h = absurd (false≢true (sym h))
+    found (t ∷ seats) h = by (is_some t.member) refl (found seats)
+      where
+        later : (m : ℕ) (s : Seat R) → at seats m ≡ Some s → at (t ∷ seats) (suc m) ≡ Some s
+        later zero s e = absurd (none-some s e)
+        later (suc i) s e = e
+
+        by : (b : Bool) → is_some t.member ≡ b → (list_all (λ (s : Seat R). is_some s.member) seats ≡ false → (m : ℕ) × (s : Seat R) × (at seats m ≡ Some s) × (s.member ≡ None))
+            → (m : ℕ) × (s : Seat R) × (at (t ∷ seats) m ≡ Some s) × (s.member ≡ None)
+        by false q rest = (1, t, refl, none_there t.member q)
+        by true q rest = let o = rest (sym (ap (λ b. b && list_all (λ (s : Seat R). is_some s.member) seats) q) ∙ h) in (suc o.0, o.1, later o.0 o.1 o.2, o.3)
+
 module _ {R : Type 0} (stands : R → Record → Record → Type 0) (is_kept : R → Type 0) where
   -- What happened before, and an event that a fault stops, are some of the events.
   pub stopped_at : (old mid new : World R) (events : List Happens) (i : ℕ) (e : Happens) (fault : WorldFault) → i < length events → slice_get events i ≡ Some e
@@ -96,7 +117,7 @@ module _ {R : Type 0} (stands : R → Record → Record → Type 0) (is_kept : R
   )
   stopped_at old mid new events i e fault.Member l h was s = absurd s
   stopped_at old mid new events i e fault.Store l h was s =
-      (suc i, omega arith, subst (LeadsTo stands is_kept old new) (sym (take_more events i e h)) (leads_join stands is_kept old mid new (take i events) (e ∷ []) was s))
+      (suc i, omega arith, subst (LeadsTo stands is_kept old new) (sym (take_more events i e h)) (leads_join stands is_kept old mid new (take i events) (e ∷ []) was s.0), s.1)
 
   -- All events have happened, and then it stopped.
   pub stopped_after : (old new : World R) (events : List Happens) (before done : ℕ) → before ≤ done → done ≤ before → done ≡ length events → LeadsTo stands is_kept old new (take before events)

@@ -1,8 +1,11 @@
 -- Members that never did anything, at their seats.
 use Rattle.std.specs.Prelude.{◌≡◌, ℕ, List, [], ◌∷◌, Some}
+use Rattle.acceptor.specs.Drafts.{IsRefused}
 use Rattle.acceptor.specs.Law.{Fate}
 use Rattle.member.specs.Steps.{IsThis, Member}
-use Rattle.paxos.specs.Lists.{at}
+use Rattle.acceptor.specs.declared.records.RecordsFault.TheVariants.{Store}
+use Rattle.paxos.specs.Lists.{at, Has}
+use Rattle.paxos.specs.Records.{Record}
 use Rattle.paxos.specs.World.{fresh, started}
 use Rattle.world.specs.Seats.{IsSeat, fates_of, store_in}
 use Rattle.world.specs.declared.seat.Seat.{Seat}
@@ -28,3 +31,7 @@ abbrev pub AreOf : {R : Type 0} → (fates : R → ℕ → Fate) → List (Seat 
 AreOf fates [] [] = Unit {0}
 AreOf fates (s ∷ ss) (r ∷ rs) = IsOf fates s r × AreOf fates ss rs
 AreOf fates ss rs = ⊥
+
+-- one of these stores has failed to give its record
+abbrev pub OneRefused : {R : Type 0} → (stands : R → Record → Record → Type 0) → (is_kept : R → Type 0) → (failed : R → ℕ) → (fates : R → ℕ → Fate) → List R → Type 0
+OneRefused {R} stands is_kept failed fates stores = (r : R) × (left : R) × Has stores r × IsRefused stands is_kept failed fates r left Store

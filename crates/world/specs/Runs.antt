@@ -52,11 +52,16 @@ pub record LeadsSmoothly {R : Type 0} (stands : R → Record → Record → Type
   pub leads : LeadsTo stands is_kept old new events
   pub reached : (app : Application) → KnowsNothing app → AreKept is_kept new → (before : List Happens) → ReachedSmoothly stands app old before → ReachedSmoothly stands app new (before ++ events)
 
--- Some of the events have happened, as the fault says: as many as it counts; none; some, in the last of which a store failed.
+-- one of the members has stopped
+abbrev pub OneStopped : {R : Type 0} → World R → Type 0
+OneStopped {R} w = (m : ℕ) × (s : Seat R) × (at w.seats m ≡ Some s) × (s.member ≡ None)
+
+-- Some of the events have happened, as the fault says: as many as it counts; none; some, in the last of which a store failed and stopped
+-- its member.
 abbrev pub HasDone : {R : Type 0} → (stands : R → Record → Record → Type 0) → (is_kept : R → Type 0) → (old new : World R) → List Happens → WorldFault → Type 0
 HasDone stands is_kept old new events (fault.Memory done) = (done ≤ length events) × LeadsTo stands is_kept old new (take done events)
 HasDone stands is_kept old new events fault.Member = new ≡ old
-HasDone stands is_kept old new events fault.Store = (done : ℕ) × (done ≤ length events) × LeadsTo stands is_kept old new (take done events)
+HasDone stands is_kept old new events fault.Store = (done : ℕ) × (done ≤ length events) × LeadsTo stands is_kept old new (take done events) × OneStopped new
 
 -- the member that runs at the seat of a number
 abbrev pub member_at : {R : Type 0} → List (Seat R) → (number : ℕ) → Option (Member R)
@@ -83,7 +88,7 @@ straight_event n m q i =
 abbrev pub StopsAt : {R : Type 0} → (stands : R → Record → Record → Type 0) → (is_kept : R → Type 0) → (old new : World R) → Happens → (before : ℕ) → WorldFault → Type 0
 StopsAt stands is_kept old new e i (fault.Memory done) = (done ≡ i) × LeadsTo stands is_kept old new []
 StopsAt stands is_kept old new e i fault.Member = ⊥
-StopsAt stands is_kept old new e i fault.Store = LeadsTo stands is_kept old new (e ∷ [])
+StopsAt stands is_kept old new e i fault.Store = LeadsTo stands is_kept old new (e ∷ []) × OneStopped new
 
 -- What a straight run of a fresh world has led to: so many messages, each member was told the request at position 1, once, and has
 -- applied just that.

@@ -1,6 +1,6 @@
 //! Worlds whose members keep their records in memory.
 
-ghost use Rattle.std.specs.Prelude.{◌≡◌, ◌⊎◌, [], IfOk, length};
+ghost use Rattle.std.specs.Prelude.{◌≡◌, ◌⊎◌, [], IfErr, IfOk, length};
 ghost use Rattle.paxos.specs.Application.{Application};
 ghost use Rattle.paxos.specs.Lists.{Has};
 ghost use Rattle.paxos.specs.Records.{Record};
@@ -37,6 +37,7 @@ impl World<MemRecords> {
         ensures members { IfOk result (λ w. w.members ≡ members) }
         ensures reached { IfOk result (λ w. (app : Application) → Reached (λ s a b. (s ≡ a) ⊎ (s ≡ b)) app w []) }
         ensures smoothly { IfOk result (λ w. (app : Application) → ReachedSmoothly (λ s a b. (s ≡ a) ⊎ (s ≡ b)) app w []) }
+        ensures refused { IfErr result (λ fault. fault ≡ RecordsFault.Memory) }
     {
         let Ok(stores) = stores(alloc, members) else {
             return Err(RecordsFault::Memory);

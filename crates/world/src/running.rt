@@ -5,7 +5,8 @@ ghost use Rattle.std.specs.List.{list_all};
 ghost use Rattle.paxos.specs.Application.{Application};
 ghost use Rattle.paxos.specs.Lists.{Has};
 ghost use Rattle.world.specs.Held.{IsHeld, shown};
-ghost use Rattle.world.specs.Placed.{AreOf, ArePlaced, IsOf, IsPlaced};
+ghost use Rattle.world.specs.Placed.{AreOf, ArePlaced, IsOf, IsPlaced, OneRefused};
+ghost use Rattle.acceptor.specs.Drafts.{IsRefused};
 ghost use Rattle.world.specs.Reached.{NeverFails, Reached, ReachedSmoothly, event_of};
 ghost use Rattle.world.specs.Runs.{AllRun, HasDone, IsUnwritten, LeadsSmoothly, LeadsTo, is_for};
 ghost use Rattle.world.specs.Shown.{AreKept};
@@ -32,6 +33,7 @@ fn place<R: Records + Drop>(
     requires unwritten { IsUnwritten R.stands R.is_kept records }
     ensures placed { IfOk result (λ s. IsPlaced R.is_kept members number s) }
     ensures store { IfOk result (λ s. IsOf R.fates s records) }
+    ensures refused { IfErr result (λ fault. (left : R) × IsRefused R.stands R.is_kept R.failed R.fates records left fault) }
 {
     match Member::open(alloc, members, number, records) {
         Ok(member) => Ok(Seat {
@@ -54,6 +56,7 @@ fn place_all<R: Records + Drop>(
     ensures placed { IfOk result (λ seats. ArePlaced R.is_kept members seats.items) }
     ensures many { IfOk result (λ seats. length seats.items ≡ length stores.items) }
     ensures stores { IfOk result (λ seats. AreOf R.fates seats.items stores.items) }
+    ensures refused { IsErrOf result RecordsFault.Store → OneRefused R.stands R.is_kept R.failed R.fates stores.items }
 {
     let mut seats = Vec::new(alloc);
     let Ok(()) = seats.reserve(stores.len()) else {
@@ -84,6 +87,7 @@ impl<R: Records + Drop> State<R> {
         ensures smoothly { IfOk result (λ x. (app : Application) → AreKept R.is_kept (shown x) → ReachedSmoothly R.stands app (shown x) []) }
         ensures run { IfOk result (λ x. AllRun (shown x)) }
         ensures stores { IfOk result (λ x. AreOf R.fates x.seats.items stores.items) }
+        ensures refused { IsErrOf result RecordsFault.Store → OneRefused R.stands R.is_kept R.failed R.fates stores.items }
     {
         // Members are at most 63, as their count says.
         let _count = members.count();

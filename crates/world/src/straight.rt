@@ -1,6 +1,6 @@
 //! The straight run: one member begins, a request is submitted to it, and all messages are delivered in order.
 
-ghost use Rattle.std.specs.Prelude.{◌≡◌, ◌∷◌, ◌+◌, ◌*◌, ◌≤◌, [], IfErr, OnErr, OnOk};
+ghost use Rattle.std.specs.Prelude.{◌≡◌, ◌∷◌, ◌+◌, ◌*◌, ◌≤◌, [], IfErr, IsErrOf, OnErr, OnOk};
 ghost use Rattle.member.specs.Steps.{KnowsNothing};
 ghost use Rattle.paxos.specs.Application.{Application};
 ghost use Rattle.paxos.proofs.WellFormed.{Sound};
@@ -75,6 +75,7 @@ impl<R: Records + Drop> State<R> {
         ensures held { IsHeld self.new }
         ensures done { OnOk result (LeadsSmoothly R.stands R.is_kept (shown self.old) (shown self.new) (straight_event self.old.members member request.now before ∷ [])) }
         ensures refused { IfErr result (λ fault. StopsAt R.stands R.is_kept (shown self.old) (shown self.new) (straight_event self.old.members member request.now before) before fault) }
+        ensures member { IsErrOf result WorldFault.Member → ⊥ }
     {
         let Ok(()) = self.straight_event(alloc, member, request, before) else {
             return Err(WorldFault::Memory(before));
@@ -99,6 +100,7 @@ impl<R: Records + Drop> State<R> {
         ensures held { IsHeld self.new }
         ensures done { OnOk result (LeadsSmoothly R.stands R.is_kept (shown self.old) (shown self.new) (straight_run self.old.members member request.now)) }
         ensures refused { IfErr result (λ fault. HasDone R.stands R.is_kept (shown self.old) (shown self.new) (straight_run self.old.members member request.now) fault) }
+        ensures member { IsErrOf result WorldFault.Member → ⊥ }
     {
         let events = self.straight_events();
         for before in 0..events {

@@ -10,7 +10,7 @@ ghost use Rattle.paxos.specs.Lists.{Has};
 ghost use Rattle.paxos.specs.Records.{Record};
 ghost use Rattle.paxos.specs.World.{Event as Happens, World as Whole};
 ghost use Rattle.straight_runs.specs.Straight.{AllApplied};
-ghost use Rattle.world.specs.Placed.{AreOf};
+ghost use Rattle.world.specs.Placed.{AreOf, OneRefused};
 ghost use Rattle.world.specs.Reached.{Follows, HappenedOver, NeverFails, Reached, ReachedSmoothly, Stays, event_of};
 ghost use Rattle.world.specs.Runs.{Agrees, HasDone, IsStraight, IsUnwritten, LeadsSmoothly, LeadsTo, is_for, member_at, straight_run};
 ghost use Rattle.world.specs.Shown.{AreKept, Shows};
@@ -65,6 +65,7 @@ impl<R: Records + Drop> World<R> {
         ensures reached { IfOk result (λ w. (app : Application) → AreKept R.is_kept w → Reached R.stands app w []) }
         ensures smoothly { IfOk result (λ w. (app : Application) → AreKept R.is_kept w → ReachedSmoothly R.stands app w []) }
         ensures stores { IfOk result (λ w. AreOf R.fates w.seats stores.items) }
+        ensures refused { IsErrOf result RecordsFault.Store → OneRefused R.stands R.is_kept R.failed R.fates stores.items }
     {
         Ok(World {
             names,
@@ -133,6 +134,7 @@ impl<R: Records + Drop> World<R> {
         ensures deliveries { IfOk result (λ deliveries. deliveries ≡ self.old.members * self.old.members + 3 * self.old.members + 1) }
         ensures straight { IfOk result (λ deliveries. (app : Application) → KnowsNothing app → AreKept R.is_kept self.new → ReachedSmoothly R.stands app self.old [] → IsStraight self.new request deliveries) }
         ensures refused { IfErr result (λ fault. HasDone R.stands R.is_kept self.old self.new (straight_run self.old.members member request) fault) }
+        ensures member { IsErrOf result WorldFault.Member → 1 ≤ member → member ≤ self.old.members → ⊥ }
     {
         if member == 0 || member > self.state.members.count() {
             return Err(WorldFault::Member);

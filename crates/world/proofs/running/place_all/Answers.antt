@@ -1,6 +1,10 @@
-use Rattle.std.proofs.Common.{[], ◌∷◌, ◌++◌, arith, inr, sym, subst, ap, ◌∙◌, length, length-append}
+use Rattle.std.proofs.Common.{IfErr, [], ◌∷◌, ◌++◌, arith, inl, inr, refl, sym, subst, ap, ◌∙◌, length, length-append}
 use Rattle.std.proofs.lemmas.List.{append_assoc}
+use Rattle.std.proofs.lemmas.Result.{IfErr-at_err, err_from_is_err_and}
+use Rattle.acceptor.specs.Drafts.{IsRefused}
+use Rattle.acceptor.specs.declared.records.RecordsFault.{RecordsFault}
 use Rattle.paxos.specs.Lists.{Has}
+use Rattle.paxos.proofs.Lists.{has_right}
 use Rattle.world.specs.Placed.{AreOf, ArePlaced, IsPlaced}
 use Rattle.world.specs.declared.seat.Seat.{Seat}
 use Rattle.world.proofs.Begun.{of_more, placed_none, placed_more}
@@ -46,4 +50,18 @@ loop-records-preserved g c =
         subst (λ ss. AreOf {R = g.row.R.Denot} g.R.Records.fates ss more) (sym c.push_reserved.ensures.items)
             (of_more {R = g.row.R.Denot} g.R.Records.fates c.loop-records.seats.items done c.in_ok-place.field-0 c.in-Some.records i.7.2 c.in_ok-place.ensures.store),
       ),
+    )
+
+pub returns-in_err-place-clause-refused : goal.returns-in_err-place-clause-refused
+returns-in_err-place-clause-refused g c =
+    let i = c.loop-records.invariant in
+    let r = c.in-Some.records in
+    let left = c.in_err-place.ensures.refused in
+    let p = err_from_is_err_and c.from_residual.result c.from_residual.ensures.1 in
+    let Q : RecordsFault → Type 0 = IsRefused {R = g.row.R.Denot} g.R.Records.stands g.R.Records.is_kept g.R.Records.failed g.R.Records.fates r left.0 in
+    λ h. (
+      r,
+      left.0,
+      subst (λ rs. Has rs r) i.7.1 (has_right i.7.0 _ r (subst (λ rs. Has rs r) (sym c.in-Some.ensures.steps.0) (inl refl))),
+      IfErr-at_err Q h (subst (λ x. IfErr x Q) (sym p.1) (subst Q (sym p.2) left.1)),
     )
