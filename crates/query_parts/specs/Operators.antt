@@ -1,5 +1,5 @@
 -- Operators, by how tightly they bind (XQuery 1.0, appendix A.4).
-use Rattle.std.specs.Prelude.{ℕ, Bool, true, false, Option}
+use Rattle.std.specs.Prelude.{ℕ, Bool, true, false, Option, Some, None}
 use Rattle.query_tokens.specs.declared.kind.Kind.{Kind}
 use Rattle.query_grammar.specs.declared.ast.Binary.{Binary}
 use Rattle.query_grammar.specs.Words.{intersect_operator, union_operator, multiply_operator, add_operator, range_operator, comparison_operator, and_operator, or_operator}
@@ -15,6 +15,17 @@ operator_at precedence.Range = range_operator
 operator_at precedence.Comparison = comparison_operator
 operator_at precedence.Conjunction = and_operator
 operator_at precedence.Disjunction = or_operator
+
+-- that of the next tighter operators
+abbrev pub tighter : Precedence → Option Precedence
+tighter precedence.Intersection = None
+tighter precedence.Union = Some precedence.Intersection
+tighter precedence.Multiplication = Some precedence.Union
+tighter precedence.Addition = Some precedence.Multiplication
+tighter precedence.Range = Some precedence.Addition
+tighter precedence.Comparison = Some precedence.Range
+tighter precedence.Conjunction = Some precedence.Comparison
+tighter precedence.Disjunction = Some precedence.Conjunction
 
 abbrev pub looseness_at : Precedence → ℕ
 looseness_at precedence.Intersection = 3

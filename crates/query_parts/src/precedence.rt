@@ -137,6 +137,22 @@ impl Precedence {
         }
     }
 
+    /// The precedence of the next tighter operators, which stand between its operands; there is none below the tightest.
+    pub fn tighter(self) -> Option<Precedence>
+        ensures { result ≡ part.tighter self }
+    {
+        match self {
+            Precedence::Intersection => None,
+            Precedence::Union => Some(Precedence::Intersection),
+            Precedence::Multiplication => Some(Precedence::Union),
+            Precedence::Addition => Some(Precedence::Multiplication),
+            Precedence::Range => Some(Precedence::Addition),
+            Precedence::Comparison => Some(Precedence::Range),
+            Precedence::Conjunction => Some(Precedence::Comparison),
+            Precedence::Disjunction => Some(Precedence::Conjunction),
+        }
+    }
+
     /// How loosely its operators stand after an operand: from 3, the tightest, to 10 (`cursor::at_level`).
     pub fn looseness(self) -> u8
         ensures { result ≡ part.looseness_at self }

@@ -3,10 +3,14 @@ use Rattle.std.proofs.Common.{◌≡◌, ℕ, zero, suc, ◌+◌, ◌-◌, ◌<�
 use Rattle.query_tokens.specs.declared.kind.Kind.TheVariants as k
 use Rattle.query_tokens.specs.declared.token.Token.{Token}
 use Rattle.query_grammar.specs.declared.ast.Expr.{Expr}
+use Rattle.query_grammar.specs.declared.ast.Expr.TheVariants as e
 use Rattle.query_grammar.specs.declared.ast.Clause.TheVariants as clause
+use Rattle.query_grammar.specs.declared.ast.Operation.{Operation}
 use Rattle.query_grammar.specs.Grammar as grammar
 use Rattle.query_grammar.specs.Reader as r
 use Rattle.query_grammar.specs.Reading.{Reader, pure, ◌>>=◌, ◌>>◌, and_then, rounds, many, at_level, sees, eat}
+use Rattle.query_parts.specs.Operators.{operator_at, looseness_at, is_once}
+use Rattle.query_parts.specs.declared.precedence.Precedence.{Precedence}
 use Rattle.query_rules.specs.Parts as part
 
 -- a turn of the loop is a step of the recursion
@@ -125,6 +129,28 @@ list_made f p ts =
     ∙ ap (λ o. and_then o (λ others. pure (f a ∷ others)))
     (map_is (at_level 12) f (part.after_comma p) (part.after_comma (p >>= (λ x. pure (f x)))) (λ us. in_turn (eat k.Comma us) _ _) (length mid) [] mid))
     ∙ made (p ts) f (λ b mid. and_then (part.more (p >>= (λ x. pure (f x))) mid) (λ others. pure (b ∷ others)))
+
+-- One turn is an operation at most.
+once_is : (first : Expr) (ts : List Token) (b : Bool) (o : Option (Operation Expr × List Token))
+    → cond b (and_then o (λ other. pure (e.Chain first (other ∷ [])))) (Some (first, ts))
+    ≡ and_then (cond b (and_then o (λ other. pure (other ∷ []))) (Some ([], ts))) (λ others. pure (grammar.chain_of first others))
+once_is first ts false o = refl
+once_is first ts true None = refl
+once_is first ts true (Some p) = refl
+
+binary_by : (single : Reader Expr) (p : Precedence) (once : Bool) (ts : List Token)
+    → (if once
+    then r.at_most_once (looseness_at p) (operator_at p) (part.operand single p)
+    else r.chain (looseness_at p) (operator_at p) (part.operand single p)) ts
+    ≡ and_then (part.operand single p ts) (λ first mid. and_then
+    (rounds (at_level (looseness_at p)) (part.operation single p) (if once then 1 else length mid) [] mid)
+    (λ others. pure (grammar.chain_of first others)))
+unfolding r.at_most_once r.chain rounds
+binary_by single p false ts = refl
+binary_by single p true ts = same_after (part.operand single p ts) _ _ (λ first mid. once_is first mid (at_level (looseness_at p) mid) (part.operation single p mid))
+
+pub binary_is : (single : Reader Expr) (p : Precedence) (ts : List Token) → part.binary single p ts ≡ part.chain single p ts
+binary_is single p ts = binary_by single p (is_once p) ts
 
 pub path_is : (single : Reader Expr) (ts : List Token) → r.path single ts ≡ part.path single ts
 unfolding r.path

@@ -1,10 +1,10 @@
 -- The parts of the readers that have functions of their own.
-use Rattle.std.specs.Prelude.{Bool, true, false, if◌then◌else◌, List, [], ◌∷◌}
+use Rattle.std.specs.Prelude.{ℕ, Bool, true, false, if◌then◌else◌, List, [], length}
 use Rattle.std.specs.List.{flat_map}
 use Rattle.query_tokens.specs.declared.kind.Kind.{Kind}
 use Rattle.query_tokens.specs.declared.kind.Kind.TheVariants as k
+use Rattle.query_tokens.specs.declared.token.Token.{Token}
 use Rattle.query_grammar.specs.declared.ast.Expr.{Expr}
-use Rattle.query_grammar.specs.declared.ast.Expr.TheVariants as e
 use Rattle.query_grammar.specs.declared.ast.Binding.{Binding}
 use Rattle.query_grammar.specs.declared.ast.Clause.{Clause}
 use Rattle.query_grammar.specs.declared.ast.Clause.TheVariants as clause
@@ -13,7 +13,7 @@ use Rattle.query_grammar.specs.declared.ast.Place.{Place}
 use Rattle.query_grammar.specs.declared.ast.Place.TheVariants as place
 use Rattle.query_grammar.specs.Grammar as grammar
 use Rattle.query_grammar.specs.Reader as r
-use Rattle.query_grammar.specs.Reading.{Reader, pure, ◌>>=◌, ◌>>◌, choose, sees, at_level, eat, many}
+use Rattle.query_grammar.specs.Reading.{Reader, pure, ◌>>=◌, ◌>>◌, choose, sees, at_level, eat, rounds, many}
 use Rattle.query_parts.specs.Operators.{operator_at, looseness_at, is_once}
 use Rattle.query_parts.specs.declared.precedence.Precedence.{Precedence}
 use Rattle.query_parts.specs.declared.precedence.Precedence.TheVariants as precedence
@@ -25,6 +25,10 @@ after_comma item = eat k.Comma >> item
 -- what follows the first of a list
 abbrev pub more : {A : Type 0} → Reader A → Reader (List A)
 more item = many (at_level 12) (after_comma item)
+
+-- this, before a token of this kind
+abbrev pub followed : {A : Type 0} → A → Kind → Reader A
+followed a kind = eat kind >> pure a
 
 -- Operators, by how tightly they bind.
 
@@ -42,18 +46,24 @@ operand single precedence.Disjunction = r.conjunction single
 abbrev pub operation : Reader Expr → Precedence → Reader (Operation Expr)
 operation single p = r.operation (operator_at p) (operand single p)
 
-abbrev pub operations : Reader Expr → Precedence → Reader (List (Operation Expr))
-operations single p = many (at_level (looseness_at p)) (operation single p)
+-- how many of them there may be: each takes a token
+abbrev pub turns : Precedence → List Token → ℕ
+turns p ts = if is_once p then 1 else length ts
 
-abbrev pub once_after : Reader Expr → Precedence → Expr → Reader Expr
-once_after single p first = choose (at_level (looseness_at p))
-    (operation single p >>= (λ other. pure (e.Chain first (other ∷ []))))
-    (pure first)
+abbrev pub operations : Reader Expr → Precedence → Reader (List (Operation Expr))
+operations single p = λ ts. rounds (at_level (looseness_at p)) (operation single p) (turns p ts) [] ts
 
 abbrev pub binary : Reader Expr → Precedence → Reader Expr
 binary single p = if is_once p
     then r.at_most_once (looseness_at p) (operator_at p) (operand single p)
     else r.chain (looseness_at p) (operator_at p) (operand single p)
+
+-- the same, by its parts
+abbrev pub chain : Reader Expr → Precedence → Reader Expr
+chain single p = do
+  first ← operand single p
+  others ← operations single p
+  pure (grammar.chain_of first others)
 
 -- Paths.
 

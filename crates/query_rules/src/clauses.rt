@@ -5,6 +5,7 @@ ghost use Rattle.query_parts.specs.Gives.{Gives};
 ghost use Rattle.query_grammar.specs.declared.ast.Clause.TheVariants as clause;
 ghost use Rattle.query_rules.specs.Stages as stage;
 
+use crate::held::pair;
 use crate::pending::{Last, Pending, Progress, word};
 use query_grammar::{Binding, Clause, Expr, Quantifier, SortKey};
 use query_parts::cursor::{at_level, eat, sees, variable};
@@ -214,7 +215,7 @@ pub(crate) fn past_key(
 ) -> Result<Progress, ParseFault>
     ensures { Gives (stage.past_direction found condition keys key tokens.old) result tokens.new }
 {
-    let is_descending = direction(tokens)?;
+    let (key, is_descending) = pair(key, direction(tokens))?;
     push(alloc, &mut keys, SortKey { key, is_descending })?;
     if at_level(tokens, 12) {
         word(tokens, Kind::Comma, Pending::Key(found, condition, keys))

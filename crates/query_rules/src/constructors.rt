@@ -7,6 +7,7 @@ ghost use Rattle.query_grammar.specs.Reader as read;
 ghost use Rattle.query_grammar.specs.declared.ast.Expr.TheVariants as e;
 ghost use Rattle.query_tokens.specs.declared.kind.Kind.TheVariants as k;
 
+use crate::held::{followed, pair};
 use crate::rules::Rules;
 use query_grammar::{Expr, Name};
 use query_parts::cursor::{REFUSED, eat, name, sees};
@@ -16,25 +17,23 @@ use std::alloc::Global;
 
 impl<F: Fn(Global, u8, &mut Tokens, usize) -> Result<Expr, ParseFault>> Rules<F> {
     #[tactic(auto, unfolding(query_grammar::specs::Reader::braces))]
-    fn braces(&self, tokens: &mut Tokens) -> Result<Expr, ParseFault>
+    fn braces(&self, tokens: &mut Tokens) -> Result<Boxed<Expr>, ParseFault>
         requires { Nests self.now.level self.now.depth (F.pre self.now.single) (F.post self.now.single) }
         ensures { Gives (read.braces (read.single self.now.level self.now.depth) tokens.old) result tokens.new }
     {
         eat(tokens, Kind::OpenBrace)?;
-        let x = self.exprs(tokens)?;
-        eat(tokens, Kind::CloseBrace)?;
-        Ok(x)
+        let x = Boxed::new(self.alloc, self.exprs(tokens)?)?;
+        followed(x, tokens, Kind::CloseBrace)
     }
 
     #[tactic(auto, unfolding(query_grammar::specs::Reader::body))]
-    fn body(&self, tokens: &mut Tokens) -> Result<Expr, ParseFault>
+    fn body(&self, tokens: &mut Tokens) -> Result<Boxed<Expr>, ParseFault>
         requires { Nests self.now.level self.now.depth (F.pre self.now.single) (F.post self.now.single) }
         ensures { Gives (read.body (read.single self.now.level self.now.depth) tokens.old) result tokens.new }
     {
         eat(tokens, Kind::OpenBrace)?;
-        let x = self.content(tokens, Kind::CloseBrace)?;
-        eat(tokens, Kind::CloseBrace)?;
-        Ok(x)
+        let x = Boxed::new(self.alloc, self.content(tokens, Kind::CloseBrace)?)?;
+        followed(x, tokens, Kind::CloseBrace)
     }
 
     #[tactic(auto, unfolding(query_grammar::specs::Reader::name_or_braces))]
@@ -43,8 +42,7 @@ impl<F: Fn(Global, u8, &mut Tokens, usize) -> Result<Expr, ParseFault>> Rules<F>
         ensures { Gives (read.name_or_braces (read.single self.now.level self.now.depth) tokens.old) result tokens.new }
     {
         if sees(tokens, 0, Kind::OpenBrace) {
-            let x = self.braces(tokens)?;
-            Ok(Name::Computed(Boxed::new(self.alloc, x)?))
+            Ok(Name::Computed(self.braces(tokens)?))
         } else {
             Ok(Name::Written(name(tokens)?))
         }
@@ -57,8 +55,8 @@ impl<F: Fn(Global, u8, &mut Tokens, usize) -> Result<Expr, ParseFault>> Rules<F>
     {
         eat(tokens, Kind::Element)?;
         let name = self.name_or_braces(tokens)?;
-        let content = self.body(tokens)?;
-        Ok(Expr::Element(name, Boxed::new(self.alloc, content)?))
+        let (name, content) = pair(name, self.body(tokens))?;
+        Ok(Expr::Element(name, content))
     }
 
     #[tactic(auto, unfolding(query_grammar::specs::Reader::named))]
@@ -68,8 +66,8 @@ impl<F: Fn(Global, u8, &mut Tokens, usize) -> Result<Expr, ParseFault>> Rules<F>
     {
         eat(tokens, Kind::Attribute)?;
         let name = self.name_or_braces(tokens)?;
-        let content = self.body(tokens)?;
-        Ok(Expr::Attribute(name, Boxed::new(self.alloc, content)?))
+        let (name, content) = pair(name, self.body(tokens))?;
+        Ok(Expr::Attribute(name, content))
     }
 
     #[tactic(auto, unfolding(query_grammar::specs::Reader::named))]
@@ -79,8 +77,8 @@ impl<F: Fn(Global, u8, &mut Tokens, usize) -> Result<Expr, ParseFault>> Rules<F>
     {
         eat(tokens, Kind::ProcessingInstruction)?;
         let name = self.name_or_braces(tokens)?;
-        let content = self.body(tokens)?;
-        Ok(Expr::Instruction(name, Boxed::new(self.alloc, content)?))
+        let (name, content) = pair(name, self.body(tokens))?;
+        Ok(Expr::Instruction(name, content))
     }
 
     // A constructor's word and its content.
@@ -89,8 +87,7 @@ impl<F: Fn(Global, u8, &mut Tokens, usize) -> Result<Expr, ParseFault>> Rules<F>
         ensures { Gives (part.plain (read.single self.now.level self.now.depth) kind tokens.old) result tokens.new }
     {
         eat(tokens, kind)?;
-        let content = self.braces(tokens)?;
-        Ok(Boxed::new(self.alloc, content)?)
+        self.braces(tokens)
     }
 
     /// Takes a constructor.

@@ -6,7 +6,8 @@ ghost use Rattle.query_rules.specs.Stages as stage;
 ghost use Rattle.query_grammar.specs.Reader as read;
 
 use crate::clauses::{to_clause, to_quantified};
-use crate::pending::{Pending, Progress};
+use crate::held::followed;
+use crate::pending::{Pending, Progress, word};
 use crate::rules::Rules;
 use crate::updates::{to_copying, to_deletion, to_insertion, to_renaming, to_replacement};
 use query_grammar::Expr;
@@ -22,10 +23,9 @@ impl<F: Fn(Global, u8, &mut Tokens, usize) -> Result<Expr, ParseFault>> Rules<F>
     {
         eat(tokens, Kind::If)?;
         eat(tokens, Kind::OpenParen)?;
-        let condition = Boxed::new(self.alloc, self.exprs(tokens)?)?;
-        eat(tokens, Kind::CloseParen)?;
-        eat(tokens, Kind::Then)?;
-        Ok(Progress::Waits(Pending::Then(condition)))
+        let condition = followed(self.exprs(tokens)?, tokens, Kind::CloseParen)?;
+        let condition = Boxed::new(self.alloc, condition)?;
+        word(tokens, Kind::Then, Pending::Then(condition))
     }
 
     // Operators, which wait for nothing.

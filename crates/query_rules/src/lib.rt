@@ -4,6 +4,7 @@
 mod clauses;
 mod constructors;
 mod forms;
+mod held;
 mod operators;
 mod paths;
 mod pending;

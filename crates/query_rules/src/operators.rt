@@ -10,11 +10,12 @@ ghost use Rattle.query_grammar.specs.Reader as read;
 ghost use Rattle.query_grammar.specs.Reading as reading;
 ghost use Rattle.query_grammar.specs.Words as table;
 
+use crate::held::pair;
 use crate::rules::Rules;
 use query_grammar::{Binary, Expr, Operation, Sign};
 use query_parts::Precedence;
 use query_parts::cursor::{REFUSED, at_level, sign};
-use query_parts::lists::{one, push};
+use query_parts::lists::push;
 use query_parts::words::sign_of;
 use query_tokens::{ParseFault, Tokens};
 use sqlite_items::{Boxed, Items};
@@ -75,6 +76,17 @@ fn operator(tokens: &mut Tokens, precedence: Precedence) -> Result<Binary, Parse
     }
 }
 
+/// How many operators of this precedence there may be, each with its operand: each takes a token.
+fn turns(tokens: &Tokens, precedence: Precedence) -> usize
+    ensures { result ≡ part.turns precedence tokens.now }
+{
+    if precedence.is_once() {
+        1
+    } else {
+        tokens.left()
+    }
+}
+
 // An expression in brackets goes through `operand` and `binary` once for each precedence. What they call beside each other stays out
 // of them by `inline(never)`, or else each would have the stack of all of it.
 impl<F: Fn(Global, u8, &mut Tokens, usize) -> Result<Expr, ParseFault>> Rules<F> {
@@ -86,7 +98,7 @@ impl<F: Fn(Global, u8, &mut Tokens, usize) -> Result<Expr, ParseFault>> Rules<F>
         ensures { Gives (read.unary (read.single self.now.level self.now.depth) tokens.old) result tokens.new }
     {
         let found = signs(self.alloc, tokens)?;
-        let x = self.path(tokens)?;
+        let (found, x) = pair(found, self.path(tokens))?;
         Ok(signed_of(self.alloc, found, x)?)
     }
 
@@ -96,15 +108,9 @@ impl<F: Fn(Global, u8, &mut Tokens, usize) -> Result<Expr, ParseFault>> Rules<F>
         requires { Nests self.now.level self.now.depth (F.pre self.now.single) (F.post self.now.single) }
         ensures { Gives (part.operand (read.single self.now.level self.now.depth) precedence tokens.old) result tokens.new }
     {
-        match precedence {
-            Precedence::Intersection => self.unary(tokens),
-            Precedence::Union => self.binary(tokens, Precedence::Intersection),
-            Precedence::Multiplication => self.binary(tokens, Precedence::Union),
-            Precedence::Addition => self.binary(tokens, Precedence::Multiplication),
-            Precedence::Range => self.binary(tokens, Precedence::Addition),
-            Precedence::Comparison => self.binary(tokens, Precedence::Range),
-            Precedence::Conjunction => self.binary(tokens, Precedence::Comparison),
-            Precedence::Disjunction => self.binary(tokens, Precedence::Conjunction),
+        match precedence.tighter() {
+            None => self.unary(tokens),
+            Some(tighter) => self.binary(tokens, tighter),
         }
     }
 
@@ -135,7 +141,7 @@ impl<F: Fn(Global, u8, &mut Tokens, usize) -> Result<Expr, ParseFault>> Rules<F>
         ensures { Gives (part.operations (read.single self.now.level self.now.depth) precedence tokens.old) result tokens.new }
     {
         let mut found = Items::new(self.alloc);
-        for _turn in 0..tokens.left() {
+        for _turn in 0..turns(tokens, precedence) {
             if !at_level(tokens, precedence.looseness()) {
                 return Ok(found);
             }
@@ -145,28 +151,9 @@ impl<F: Fn(Global, u8, &mut Tokens, usize) -> Result<Expr, ParseFault>> Rules<F>
         Ok(found)
     }
 
-    #[inline(never)]
-    #[cycle(binary)]
-    fn once_after(
-        &self,
-        tokens: &mut Tokens,
-        precedence: Precedence,
-        first: Expr,
-    ) -> Result<Expr, ParseFault>
-        requires { Nests self.now.level self.now.depth (F.pre self.now.single) (F.post self.now.single) }
-        ensures { Gives (part.once_after (read.single self.now.level self.now.depth) precedence first tokens.old) result tokens.new }
-    {
-        if !at_level(tokens, precedence.looseness()) {
-            return Ok(first);
-        }
-        let other = self.operation(tokens, precedence)?;
-        let others = one(self.alloc, other)?;
-        Ok(chain_of(self.alloc, first, others)?)
-    }
-
     /// Takes an expression of operators of this precedence and of tighter ones.
     #[cycle(binary)]
-    #[tactic(auto, unfolding(query_grammar::specs::Reader::at_most_once, query_grammar::specs::Reader::chain))]
+    #[tactic(auto, using(crate::proofs::Turns::binary_is))]
     pub(crate) fn binary(
         &self,
         tokens: &mut Tokens,
@@ -176,10 +163,7 @@ impl<F: Fn(Global, u8, &mut Tokens, usize) -> Result<Expr, ParseFault>> Rules<F>
         ensures { Gives (part.binary (read.single self.now.level self.now.depth) precedence tokens.old) result tokens.new }
     {
         let first = self.operand(tokens, precedence)?;
-        if precedence.is_once() {
-            return self.once_after(tokens, precedence, first);
-        }
-        let others = self.operations(tokens, precedence)?;
+        let (first, others) = pair(first, self.operations(tokens, precedence))?;
         Ok(chain_of(self.alloc, first, others)?)
     }
 

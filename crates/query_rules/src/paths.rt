@@ -8,6 +8,7 @@ ghost use Rattle.query_rules.specs.Parts as part;
 ghost use Rattle.query_grammar.specs.Grammar as grammar;
 ghost use Rattle.query_grammar.specs.Reader as read;
 
+use crate::held::{followed, pair};
 use crate::primaries::sees_primary;
 use crate::rules::Rules;
 use query_grammar::Expr;
@@ -37,8 +38,7 @@ impl<F: Fn(Global, u8, &mut Tokens, usize) -> Result<Expr, ParseFault>> Rules<F>
     {
         eat(tokens, Kind::OpenBracket)?;
         let x = self.exprs(tokens)?;
-        eat(tokens, Kind::CloseBracket)?;
-        Ok(x)
+        followed(x, tokens, Kind::CloseBracket)
     }
 
     #[tactic(auto, unfolding(query_grammar::specs::Reading::rounds, query_grammar::specs::Reader::predicates))]
@@ -64,11 +64,11 @@ impl<F: Fn(Global, u8, &mut Tokens, usize) -> Result<Expr, ParseFault>> Rules<F>
     {
         if sees_primary(tokens) {
             let x = self.primary(tokens)?;
-            let predicates = self.predicates(tokens)?;
+            let (x, predicates) = pair(x, self.predicates(tokens))?;
             Ok(Step::Primary(x, predicates))
         } else {
             let found = axis_step(tokens)?;
-            let predicates = self.predicates(tokens)?;
+            let (found, predicates) = pair(found, self.predicates(tokens))?;
             Ok(Step::Axis(found, predicates))
         }
     }
@@ -108,7 +108,7 @@ impl<F: Fn(Global, u8, &mut Tokens, usize) -> Result<Expr, ParseFault>> Rules<F>
     {
         let first = self.step(tokens)?;
         let first = step_of(self.alloc, first)?;
-        let others = self.segments(tokens)?;
+        let (first, others) = pair(first, self.segments(tokens))?;
         Ok(path_of(self.alloc, first, others)?)
     }
 }

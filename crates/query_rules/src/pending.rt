@@ -4,8 +4,8 @@ ghost use Rattle.std.specs.Prelude.{◌≡◌, IfOk};
 ghost use Rattle.query_parts.specs.Gives.{Gives};
 ghost use Rattle.query_rules.specs.Stages as stage;
 
+use crate::held::followed;
 use query_grammar::{Binding, Clause, Expr, Place, Quantifier, SortKey};
-use query_parts::cursor::eat;
 use query_tokens::{Kind, ParseFault, Tokens};
 use sqlite_items::{Boxed, Items};
 use std::alloc::{AllocError, Global};
@@ -84,8 +84,7 @@ pub(crate) fn word(
 ) -> Result<Progress, ParseFault>
     ensures { Gives (stage.word kind pending tokens.old) result tokens.new }
 {
-    eat(tokens, kind)?;
-    Ok(Progress::Waits(pending))
+    Ok(Progress::Waits(followed(pending, tokens, kind)?))
 }
 
 /// The form with its last expression.

@@ -7,6 +7,7 @@ ghost use Rattle.query_grammar.specs.Reader as read;
 ghost use Rattle.query_grammar.specs.Reading as reading;
 ghost use Rattle.query_tokens.specs.declared.kind.Kind.TheVariants as k;
 
+use crate::held::followed;
 use crate::rules::Rules;
 use query_grammar::Expr;
 use query_parts::cursor::{eat, function_name, sees, variable};
@@ -94,8 +95,7 @@ impl<F: Fn(Global, u8, &mut Tokens, usize) -> Result<Expr, ParseFault>> Rules<F>
     {
         eat(tokens, Kind::OpenParen)?;
         let x = self.content(tokens, Kind::CloseParen)?;
-        eat(tokens, Kind::CloseParen)?;
-        Ok(x)
+        followed(x, tokens, Kind::CloseParen)
     }
 
     #[tactic(auto, unfolding(query_grammar::specs::Reader::arguments))]

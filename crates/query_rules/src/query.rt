@@ -7,6 +7,7 @@ ghost use Rattle.query_rules.specs.Stages.{Nearer, Settles};
 ghost use Rattle.query_grammar.specs.Grammar.{IsQuery};
 ghost use Rattle.query_grammar.specs.Reader as read;
 
+use crate::held::last;
 use crate::pending::{Pending, Progress};
 use crate::resuming::resume;
 use crate::rules::Rules;
@@ -24,11 +25,7 @@ impl<F: Fn(Global, u8, &mut Tokens, usize) -> Result<Expr, ParseFault>> Rules<F>
         ensures { GivesWhole (read.whole (read.exprs (read.single self.now.level self.now.depth) tokens)) result }
     {
         let x = self.exprs(&mut tokens)?;
-        if tokens.left() == 0 {
-            Ok(x)
-        } else {
-            Err(REFUSED)
-        }
+        last(x, &tokens)
     }
 }
 

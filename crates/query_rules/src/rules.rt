@@ -7,6 +7,7 @@ ghost use Rattle.query_rules.specs.Parts as part;
 ghost use Rattle.query_grammar.specs.Grammar as grammar;
 ghost use Rattle.query_grammar.specs.Reader as read;
 
+use crate::held::pair;
 use query_grammar::Expr;
 use query_parts::cursor::{at_level, eat};
 use query_parts::lists::{one, push};
@@ -89,7 +90,7 @@ impl<F: Fn(Global, u8, &mut Tokens, usize) -> Result<Expr, ParseFault>> Rules<F>
         ensures { Gives (read.list1 (read.single self.now.level self.now.depth) tokens.old) result tokens.new }
     {
         let first = self.single(tokens)?;
-        let others = self.more_singles(tokens)?;
+        let (first, others) = pair(first, self.more_singles(tokens))?;
         Ok(with_first(self.alloc, first, others)?)
     }
 

@@ -14,9 +14,6 @@ decreases-operation g l = 4 * looseness_at l.precedence + 1
 abbrev pub decreases-operations : goal.decreases-operations
 decreases-operations g l = 4 * looseness_at l.precedence + 2
 
-abbrev pub decreases-once_after : goal.decreases-once_after
-decreases-once_after g l = 4 * looseness_at l.precedence + 2
-
 abbrev pub decreases-binary : goal.decreases-binary
 decreases-binary g l = 4 * looseness_at l.precedence + 3
 

@@ -1,0 +1,42 @@
+//! What was read, while what follows it is read.
+//!
+//! Where that fails, what was read is dropped here, in functions over any type: the proof of a function that drops an expression itself
+//! is many times as dear.
+
+ghost use Rattle.std.specs.Prelude.{◌≡◌, Ok, IfOk, IfErr, Err};
+ghost use Rattle.query_parts.specs.Gives.{Gives};
+ghost use Rattle.query_rules.specs.Reads.{GivesLast};
+ghost use Rattle.query_rules.specs.Parts as part;
+
+use query_parts::cursor::{REFUSED, eat};
+use query_tokens::{Kind, ParseFault, Tokens};
+
+/// What was read, once the next token is taken, which must be of this kind.
+pub(crate) fn followed<T: Drop>(read: T, tokens: &mut Tokens, kind: Kind) -> Result<T, ParseFault>
+    ensures { Gives (part.followed read kind tokens.old) result tokens.new }
+{
+    eat(tokens, kind)?;
+    Ok(read)
+}
+
+/// What was read and what was read after it, unless that failed.
+pub(crate) fn pair<A: Drop, B: Drop>(
+    first: A,
+    second: Result<B, ParseFault>,
+) -> Result<(A, B), ParseFault>
+    ensures ok { IfOk result (λ both. (both.0 ≡ first) × (second ≡ Ok both.1)) }
+    ensures err { IfErr result (λ fault. second ≡ Err fault) }
+{
+    Ok((first, second?))
+}
+
+/// What was read, if no token is left.
+pub(crate) fn last<T: Drop>(read: T, tokens: &Tokens) -> Result<T, ParseFault>
+    ensures { GivesLast read tokens.now result }
+{
+    if tokens.left() == 0 {
+        Ok(read)
+    } else {
+        Err(REFUSED)
+    }
+}
