@@ -7,9 +7,12 @@ ghost use Rattle.std.specs.Prelude.{◌≡◌, Ok, IfOk, IfErr, Err};
 ghost use Rattle.query_parts.specs.Gives.{Gives};
 ghost use Rattle.query_rules.specs.Reads.{GivesLast};
 ghost use Rattle.query_rules.specs.Parts as part;
+ghost use Rattle.query_tokens.specs.declared.fault.ParseFault.TheVariants.{Memory};
 
 use query_parts::cursor::{REFUSED, eat};
 use query_tokens::{Kind, ParseFault, Tokens};
+use sqlite_items::Boxed;
+use std::alloc::{AllocError, Global};
 
 /// What was read, once the next token is taken, which must be of this kind.
 pub(crate) fn followed<T: Drop>(read: T, tokens: &mut Tokens, kind: Kind) -> Result<T, ParseFault>
@@ -28,6 +31,14 @@ pub(crate) fn pair<A: Drop, B: Drop>(
     ensures err { IfErr result (λ fault. second ≡ Err fault) }
 {
     Ok((first, second?))
+}
+
+/// A value in a box.
+pub(crate) fn boxed<T: Drop>(alloc: Global, value: T) -> Result<Boxed<T>, ParseFault>
+    ensures ok { IfOk result (λ found. found ≡ value) }
+    ensures err { IfErr result (λ fault. fault ≡ Memory) }
+{
+    Ok(Boxed::new(alloc, value)?)
 }
 
 /// What was read, if no token is left.

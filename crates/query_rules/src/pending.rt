@@ -1,6 +1,6 @@
 //! Forms that wait for an expression.
 
-ghost use Rattle.std.specs.Prelude.{◌≡◌, IfOk};
+ghost use Rattle.std.specs.Prelude.{◌≡◌};
 ghost use Rattle.query_parts.specs.Gives.{Gives};
 ghost use Rattle.query_rules.specs.Stages as stage;
 
@@ -8,7 +8,6 @@ use crate::held::followed;
 use query_grammar::{Binding, Clause, Expr, Place, Quantifier, SortKey};
 use query_tokens::{Kind, ParseFault, Tokens};
 use sqlite_items::{Boxed, Items};
-use std::alloc::{AllocError, Global};
 use values::Text;
 
 /// A form that waits for its last expression, by what stands before it.
@@ -88,11 +87,10 @@ pub(crate) fn word(
 }
 
 /// The form with its last expression.
-pub(crate) fn ended(alloc: Global, last: Last, x: Expr) -> Result<Expr, AllocError>
-    ensures { IfOk result (λ whole. whole ≡ stage.ended last x) }
+pub(crate) fn ended(last: Last, x: Boxed<Expr>) -> Expr
+    ensures { result ≡ stage.ended last x }
 {
-    let x = Boxed::new(alloc, x)?;
-    Ok(match last {
+    match last {
         Last::Return(found, condition, keys) => Expr::Flwor(found, condition, keys, x),
         Last::Satisfies(quantifier, found) => Expr::Quantified(quantifier, found, x),
         Last::Else(condition, then) => Expr::If(condition, then, x),
@@ -102,5 +100,5 @@ pub(crate) fn ended(alloc: Global, last: Last, x: Expr) -> Result<Expr, AllocErr
         Last::ReplaceValue(target) => Expr::ReplaceValue(target, x),
         Last::Rename(target) => Expr::Rename(target, x),
         Last::Copy(found, changes) => Expr::Copy(found, changes, x),
-    })
+    }
 }

@@ -4,18 +4,18 @@ ghost use Rattle.query_parts.specs.Gives.{Gives};
 ghost use Rattle.query_rules.specs.Stages as stage;
 
 use crate::clauses::{past_for, past_for_at, past_in, past_key, past_let, to_keys};
+use crate::held::{boxed, pair};
 use crate::pending::{Last, Pending, Progress, ended, word};
 use crate::updates::{past_copy, place_of};
 use query_grammar::Expr;
 use query_tokens::{Kind, ParseFault, Tokens};
-use sqlite_items::Boxed;
 use std::alloc::Global;
 
 fn past_source(alloc: Global, tokens: &mut Tokens, source: Expr) -> Result<Progress, ParseFault>
     ensures { Gives (stage.past_source source tokens.old) result tokens.new }
 {
-    let source = Boxed::new(alloc, source)?;
-    let place = place_of(tokens)?;
+    let source = boxed(alloc, source)?;
+    let (source, place) = pair(source, place_of(tokens))?;
     Ok(Progress::Waits(Pending::Last(Last::Insert(source, place))))
 }
 
@@ -33,33 +33,39 @@ pub(crate) fn resume(
         Pending::For(found, variable) => past_for(alloc, tokens, found, variable, x),
         Pending::ForAt(found, variable, at) => past_for_at(alloc, tokens, found, variable, at, x),
         Pending::Let(found, variable) => past_let(alloc, tokens, found, variable, x),
-        Pending::Where(found) => to_keys(alloc, tokens, found, Some(Boxed::new(alloc, x)?)),
+        Pending::Where(found) => {
+            let (found, x) = pair(found, boxed(alloc, x))?;
+            to_keys(alloc, tokens, found, Some(x))
+        }
         Pending::Key(found, condition, keys) => past_key(alloc, tokens, found, condition, keys, x),
         Pending::In(quantifier, found, variable) => past_in(
             alloc, tokens, quantifier, found, variable, x,
         ),
         Pending::Copy(found, variable) => past_copy(alloc, tokens, found, variable, x),
         Pending::Insert => past_source(alloc, tokens, x),
-        Pending::Last(last) => Ok(Progress::Read(ended(alloc, last, x)?)),
+        Pending::Last(last) => {
+            let (last, x) = pair(last, boxed(alloc, x))?;
+            Ok(Progress::Read(ended(last, x)))
+        }
         Pending::Then(condition) => {
-            let last = Last::Else(condition, Boxed::new(alloc, x)?);
-            word(tokens, Kind::Else, Pending::Last(last))
+            let (condition, x) = pair(condition, boxed(alloc, x))?;
+            word(tokens, Kind::Else, Pending::Last(Last::Else(condition, x)))
         }
         Pending::ReplaceNode => {
-            let last = Last::ReplaceNode(Boxed::new(alloc, x)?);
+            let last = Last::ReplaceNode(boxed(alloc, x)?);
             word(tokens, Kind::With, Pending::Last(last))
         }
         Pending::ReplaceValue => {
-            let last = Last::ReplaceValue(Boxed::new(alloc, x)?);
+            let last = Last::ReplaceValue(boxed(alloc, x)?);
             word(tokens, Kind::With, Pending::Last(last))
         }
         Pending::Rename => {
-            let last = Last::Rename(Boxed::new(alloc, x)?);
+            let last = Last::Rename(boxed(alloc, x)?);
             word(tokens, Kind::As, Pending::Last(last))
         }
         Pending::Modify(found) => {
-            let last = Last::Copy(found, Boxed::new(alloc, x)?);
-            word(tokens, Kind::Return, Pending::Last(last))
+            let (found, x) = pair(found, boxed(alloc, x))?;
+            word(tokens, Kind::Return, Pending::Last(Last::Copy(found, x)))
         }
     }
 }
