@@ -3,8 +3,6 @@
 
 pub mod laws;
 mod passes;
-#[cfg(test)]
-mod tests;
 
 pub use passes::parse;
 pub use query_grammar::{

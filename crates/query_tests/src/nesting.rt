@@ -1,6 +1,7 @@
 //! Long chains of forms that stand within one another without brackets, up to 64 KB, and brackets within one another.
 
-use parser::{ParseFault, parse};
+use crate::texts::{fault_of, has_code};
+use parser::ParseFault;
 use std::alloc::{AllocError, Global};
 use std::thread;
 use values::Code;
@@ -67,9 +68,9 @@ fn repeated(alloc: Global, times: usize, before: &str, after: &str) -> Result<St
 
 /// Whether the text is an expression; it may have faults that are sought in expressions alone.
 fn is_read(alloc: Global, text: &str) -> bool {
-    match parse(alloc, 2, text) {
-        Ok(_) => true,
-        Err(fault) => {
+    match fault_of(alloc, 2, text) {
+        None => true,
+        Some(fault) => {
             fault == ParseFault::Static(Code::XPST0017)
                 || fault == ParseFault::Static(Code::XUST0001)
         }
@@ -77,10 +78,7 @@ fn is_read(alloc: Global, text: &str) -> bool {
 }
 
 fn is_refused(alloc: Global, text: &str) -> bool {
-    match parse(alloc, 2, text) {
-        Ok(_) => false,
-        Err(fault) => fault == ParseFault::Static(Code::XPST0003),
-    }
+    has_code(alloc, 2, text, Code::XPST0003)
 }
 
 fn whole_is_read(alloc: Global, link: Link) -> Result<bool, AllocError> {

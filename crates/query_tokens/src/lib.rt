@@ -11,8 +11,6 @@ mod names;
 mod references;
 mod separators;
 mod strings;
-#[cfg(test)]
-mod tests;
 mod token;
 mod tokens;
 mod words;
