@@ -1,6 +1,6 @@
 //! What a world holds, and how it is changed.
 
-ghost use Rattle.std.specs.Prelude.{◌≡◌, ◌+◌, ◌<◌, ◌≤◌, ◌++◌, ℕ, length, map, vec_capacity, vec_len, None, Some, IfOk, IfSome, IsSome, OnErr, OnOk, false, true};
+ghost use Rattle.std.specs.Prelude.{◌≡◌, ◌+◌, ◌<◌, ◌≤◌, ◌++◌, ℕ, length, map, vec_capacity, vec_len, None, Some, Ok, Err, IfErr, IfOk, IfSome, IsSome, OnErr, OnOk, false, true};
 ghost use Rattle.member.specs.Drafts.{IsDrafted};
 ghost use Rattle.member.specs.Steps.{Input as InputTerm, Hears, KnowsNothing, input_of};
 ghost use Rattle.paxos.specs.Application.{Application};
@@ -41,6 +41,15 @@ fn input_for(tick: Tick) -> Input<'static>
         Tick::Resend => Input::Resend,
         Tick::CatchUp => Input::CatchUp,
     }
+}
+
+/// What is held, and what was found beside it. Where nothing was found, what is held is dropped here, in a function over any type: the
+/// proof of a function that drops a draft itself is many times as dear.
+fn beside<A: Drop, B: Drop>(held: A, found: Result<B, AllocError>) -> Result<(A, B), AllocError>
+    ensures ok { IfOk result (λ both. (both.0 ≡ held) × (found ≡ Ok both.1)) }
+    ensures err { IfErr result (λ fault. found ≡ Err fault) }
+{
+    Ok((held, found?))
 }
 
 impl<R: Records + Drop> State<R> {
@@ -108,9 +117,12 @@ impl<R: Records + Drop> State<R> {
         ensures others { (j : ℕ) → (j ≡ number → ⊥) → store_at self.new.seats.items j ≡ store_at self.old.seats.items j }
         ensures refused { OnErr result (Follows R.stands R.is_kept (Sound self.old.members) Stays (shown self.old) (shown self.new)) }
     {
-        let plan = self.mail.plan(alloc, self.members, number, draft.sends())?;
-        self.told.reserve(draft.tells().len())?;
-        let made = self.seats[(number - 1) as usize].commit(alloc, draft)?;
+        let plan = self.mail.plan(alloc, self.members, number, draft.sends());
+        let (draft, plan) = beside(draft, plan)?;
+        let room = self.told.reserve(draft.tells().len());
+        let (draft, ()) = beside(draft, room)?;
+        let made = self.seats[(number - 1) as usize].commit(alloc, draft);
+        let (plan, made) = beside(plan, made)?;
         self.note(number, made, plan);
         Ok(())
     }
