@@ -1,3 +1,4 @@
 pub mod Gives
+pub mod Held
 pub mod Operators
 pub mod Steps

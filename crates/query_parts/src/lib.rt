@@ -1,8 +1,9 @@
 //! What expressions are read with: what is asked of the tokens that are left and taken off them, how tightly operators bind, the
-//! steps of a path, and lists.
+//! steps of a path, lists, and what is held while what follows is read.
 #![tactic(auto)]
 
 pub mod cursor;
+pub mod held;
 pub mod lists;
 mod precedence;
 pub mod steps;

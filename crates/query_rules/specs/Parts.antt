@@ -26,10 +26,6 @@ after_comma item = eat k.Comma >> item
 abbrev pub more : {A : Type 0} → Reader A → Reader (List A)
 more item = many (at_level 12) (after_comma item)
 
--- this, before a token of this kind
-abbrev pub followed : {A : Type 0} → A → Kind → Reader A
-followed a kind = eat kind >> pure a
-
 -- Operators, by how tightly they bind.
 
 -- what stands between them

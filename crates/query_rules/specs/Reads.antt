@@ -1,10 +1,8 @@
 -- What reading all tokens gives, and what is asked of a function value that reads expressions.
-use Rattle.std.specs.Prelude.{◌≡◌, ℕ, ◌<◌, List, length, Option, Some, Result, Ok, Err}
+use Rattle.std.specs.Prelude.{◌≡◌, ℕ, List, Option, Some, Result, Ok, Err}
 use Rattle.std.specs.declared.alloc.Global.{Global}
 use denote.Ref.{MutBor}
-use Rattle.values.specs.declared.code.Code.TheVariants.{XPST0003}
 use Rattle.query_tokens.specs.declared.fault.ParseFault.{ParseFault}
-use Rattle.query_tokens.specs.declared.fault.ParseFault.TheVariants.{Static}
 use Rattle.query_tokens.specs.declared.token.Token.{Token}
 use Rattle.query_grammar.specs.declared.ast.Expr.{Expr}
 use Rattle.query_grammar.specs.Reader.{single, query}
@@ -14,11 +12,6 @@ use Rattle.query_parts.specs.Gives.{Fails, Gives}
 abbrev pub GivesWhole : Option Expr → Result Expr ParseFault → Type 0
 GivesWhole outcome (Ok x) = outcome ≡ Some x
 GivesWhole outcome (Err fault) = Fails outcome fault
-
--- this, if no token is left
-abbrev pub GivesLast : {A : Type 0} → A → List Token → Result A ParseFault → Type 0
-GivesLast a ts (Ok found) = (found ≡ a) × (length ts ≡ 0)
-GivesLast a ts (Err fault) = (fault ≡ Static XPST0003) × (0 < length ts)
 
 -- the expression that the tokens are spelt as, at a level
 abbrev pub IsParsed : (level : ℕ) → List Token → Result Expr ParseFault → Type 0

@@ -5,10 +5,10 @@ ghost use Rattle.query_parts.specs.Gives.{Gives};
 ghost use Rattle.query_grammar.specs.declared.ast.Clause.TheVariants as clause;
 ghost use Rattle.query_rules.specs.Stages as stage;
 
-use crate::held::pair;
 use crate::pending::{Last, Pending, Progress, word};
 use query_grammar::{Binding, Clause, Expr, Quantifier, SortKey};
 use query_parts::cursor::{at_level, eat, sees, variable};
+use query_parts::held::pair;
 use query_parts::lists::push;
 use query_tokens::{Kind, ParseFault, Tokens};
 use sqlite_items::{Boxed, Items};

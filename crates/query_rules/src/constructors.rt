@@ -7,10 +7,10 @@ ghost use Rattle.query_grammar.specs.Reader as read;
 ghost use Rattle.query_grammar.specs.declared.ast.Expr.TheVariants as e;
 ghost use Rattle.query_tokens.specs.declared.kind.Kind.TheVariants as k;
 
-use crate::held::{followed, pair};
 use crate::rules::Rules;
 use query_grammar::{Expr, Name};
 use query_parts::cursor::{REFUSED, eat, name, sees};
+use query_parts::held::{followed, pair};
 use query_tokens::{Kind, ParseFault, Tokens};
 use sqlite_items::Boxed;
 use std::alloc::Global;

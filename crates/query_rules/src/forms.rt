@@ -6,12 +6,12 @@ ghost use Rattle.query_rules.specs.Stages as stage;
 ghost use Rattle.query_grammar.specs.Reader as read;
 
 use crate::clauses::{to_clause, to_quantified};
-use crate::held::followed;
 use crate::pending::{Pending, Progress, word};
 use crate::rules::Rules;
 use crate::updates::{to_copying, to_deletion, to_insertion, to_renaming, to_replacement};
 use query_grammar::Expr;
 use query_parts::cursor::eat;
+use query_parts::held::followed;
 use query_tokens::{Kind, ParseFault, Tokens};
 use sqlite_items::{Boxed, Items};
 use std::alloc::Global;

@@ -4,7 +4,6 @@
 mod clauses;
 mod constructors;
 mod forms;
-mod held;
 mod operators;
 mod paths;
 mod pending;

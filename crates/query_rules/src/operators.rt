@@ -10,11 +10,11 @@ ghost use Rattle.query_grammar.specs.Reader as read;
 ghost use Rattle.query_grammar.specs.Reading as reading;
 ghost use Rattle.query_grammar.specs.Words as table;
 
-use crate::held::pair;
 use crate::rules::Rules;
 use query_grammar::{Binary, Expr, Operation, Sign};
 use query_parts::Precedence;
 use query_parts::cursor::{REFUSED, at_level, sign};
+use query_parts::held::pair;
 use query_parts::lists::push;
 use query_parts::words::sign_of;
 use query_tokens::{ParseFault, Tokens};

@@ -8,11 +8,11 @@ ghost use Rattle.query_rules.specs.Parts as part;
 ghost use Rattle.query_grammar.specs.Grammar as grammar;
 ghost use Rattle.query_grammar.specs.Reader as read;
 
-use crate::held::{followed, pair};
 use crate::primaries::sees_primary;
 use crate::rules::Rules;
 use query_grammar::Expr;
 use query_parts::cursor::{at_level, eat};
+use query_parts::held::{followed, pair};
 use query_parts::lists::{append, push};
 use query_parts::steps::{Step, axis_step, slash, step_of, steps_of};
 use query_tokens::{Kind, ParseFault, Tokens};

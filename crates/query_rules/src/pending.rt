@@ -4,8 +4,8 @@ ghost use Rattle.std.specs.Prelude.{◌≡◌};
 ghost use Rattle.query_parts.specs.Gives.{Gives};
 ghost use Rattle.query_rules.specs.Stages as stage;
 
-use crate::held::followed;
 use query_grammar::{Binding, Clause, Expr, Place, Quantifier, SortKey};
+use query_parts::held::followed;
 use query_tokens::{Kind, ParseFault, Tokens};
 use sqlite_items::{Boxed, Items};
 use values::Text;

@@ -7,10 +7,10 @@ ghost use Rattle.query_grammar.specs.Reader as read;
 ghost use Rattle.query_grammar.specs.Reading as reading;
 ghost use Rattle.query_tokens.specs.declared.kind.Kind.TheVariants as k;
 
-use crate::held::followed;
 use crate::rules::Rules;
 use query_grammar::Expr;
 use query_parts::cursor::{eat, function_name, sees, variable};
+use query_parts::held::followed;
 use query_parts::words::is_function;
 use query_tokens::{Kind, ParseFault, Tokens};
 use sqlite_items::Items;

@@ -7,13 +7,13 @@ ghost use Rattle.query_rules.specs.Stages.{Nearer, Settles};
 ghost use Rattle.query_grammar.specs.Grammar.{IsQuery};
 ghost use Rattle.query_grammar.specs.Reader as read;
 
-use crate::held::last;
 use crate::pending::{Pending, Progress};
 use crate::resuming::resume;
 use crate::rules::Rules;
 use query_grammar::Expr;
 use query_grammar::laws::reading_is_sound;
 use query_parts::cursor::REFUSED;
+use query_parts::held::last;
 use query_tokens::{ParseFault, Tokens};
 use sqlite_items::Items;
 use std::alloc::Global;

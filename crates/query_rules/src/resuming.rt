@@ -4,10 +4,10 @@ ghost use Rattle.query_parts.specs.Gives.{Gives};
 ghost use Rattle.query_rules.specs.Stages as stage;
 
 use crate::clauses::{past_for, past_for_at, past_in, past_key, past_let, to_keys};
-use crate::held::{boxed, pair};
 use crate::pending::{Last, Pending, Progress, ended, word};
 use crate::updates::{past_copy, place_of};
 use query_grammar::Expr;
+use query_parts::held::{boxed, pair};
 use query_tokens::{Kind, ParseFault, Tokens};
 use std::alloc::Global;
 

@@ -7,9 +7,9 @@ ghost use Rattle.query_rules.specs.Parts as part;
 ghost use Rattle.query_grammar.specs.Grammar as grammar;
 ghost use Rattle.query_grammar.specs.Reader as read;
 
-use crate::held::pair;
 use query_grammar::Expr;
 use query_parts::cursor::{at_level, eat};
+use query_parts::held::pair;
 use query_parts::lists::{one, push};
 use query_tokens::{Kind, ParseFault, Tokens};
 use sqlite_items::Items;

@@ -4,29 +4,25 @@
 //! is many times as dear.
 
 ghost use Rattle.std.specs.Prelude.{◌≡◌, Ok, IfOk, IfErr, Err};
-ghost use Rattle.query_parts.specs.Gives.{Gives};
-ghost use Rattle.query_rules.specs.Reads.{GivesLast};
-ghost use Rattle.query_rules.specs.Parts as part;
+ghost use Rattle.query_parts.specs.Gives.{Gives, GivesLast};
+ghost use Rattle.query_parts.specs.Held.{followed};
 ghost use Rattle.query_tokens.specs.declared.fault.ParseFault.TheVariants.{Memory};
 
-use query_parts::cursor::{REFUSED, eat};
+use crate::cursor::{REFUSED, eat};
 use query_tokens::{Kind, ParseFault, Tokens};
 use sqlite_items::Boxed;
 use std::alloc::{AllocError, Global};
 
 /// What was read, once the next token is taken, which must be of this kind.
-pub(crate) fn followed<T: Drop>(read: T, tokens: &mut Tokens, kind: Kind) -> Result<T, ParseFault>
-    ensures { Gives (part.followed read kind tokens.old) result tokens.new }
+pub fn followed<T: Drop>(read: T, tokens: &mut Tokens, kind: Kind) -> Result<T, ParseFault>
+    ensures { Gives (followed read kind tokens.old) result tokens.new }
 {
     eat(tokens, kind)?;
     Ok(read)
 }
 
 /// What was read and what was read after it, unless that failed.
-pub(crate) fn pair<A: Drop, B: Drop>(
-    first: A,
-    second: Result<B, ParseFault>,
-) -> Result<(A, B), ParseFault>
+pub fn pair<A: Drop, B: Drop>(first: A, second: Result<B, ParseFault>) -> Result<(A, B), ParseFault>
     ensures ok { IfOk result (λ both. (both.0 ≡ first) × (second ≡ Ok both.1)) }
     ensures err { IfErr result (λ fault. second ≡ Err fault) }
 {
@@ -34,7 +30,7 @@ pub(crate) fn pair<A: Drop, B: Drop>(
 }
 
 /// A value in a box.
-pub(crate) fn boxed<T: Drop>(alloc: Global, value: T) -> Result<Boxed<T>, ParseFault>
+pub fn boxed<T: Drop>(alloc: Global, value: T) -> Result<Boxed<T>, ParseFault>
     ensures ok { IfOk result (λ found. found ≡ value) }
     ensures err { IfErr result (λ fault. fault ≡ Memory) }
 {
@@ -42,7 +38,7 @@ pub(crate) fn boxed<T: Drop>(alloc: Global, value: T) -> Result<Boxed<T>, ParseF
 }
 
 /// What was read, if no token is left.
-pub(crate) fn last<T: Drop>(read: T, tokens: &Tokens) -> Result<T, ParseFault>
+pub fn last<T: Drop>(read: T, tokens: &Tokens) -> Result<T, ParseFault>
     ensures { GivesLast read tokens.now result }
 {
     if tokens.left() == 0 {
