@@ -11,8 +11,6 @@ mod reply;
 mod request;
 mod setup;
 mod spelling;
-#[cfg(test)]
-mod tests;
 mod value;
 
 pub use ask::{Ask, AskFault};

@@ -3,7 +3,5 @@
 
 mod map;
 mod slot;
-#[cfg(test)]
-mod tests;
 
 pub use map::PositionMap;

@@ -1,6 +1,6 @@
 // Ballots, majorities, refused requests and questions, and values as bytes.
 
-use crate::{
+use ballots::{
     Ask, AskFault, Ballot, Entry, Members, Pair, Request, RequestFault, Setup, SetupFault, Value,
     ValueFault, Vote, put_value, take_value,
 };

@@ -3,7 +3,7 @@
 // `rt try --test --fail-alloc N` refuses each allocation in turn.
 ghost use Rattle.std.specs.Prelude.{◌≤◌};
 
-use crate::PositionMap;
+use position_map::PositionMap;
 use std::alloc::AllocError;
 use std::process::Abort;
 use std::test::Fail;
