@@ -78,6 +78,7 @@ impl<R: Records + Drop> Acceptor<R> {
         ensures memory { IsErrOf result RecordsFault.Memory → IsAsWas R.failed self.old self.new }
         ensures store { IsErrOf result RecordsFault.Store → Stopped R.stands R.is_kept R.failed self.old self.new (NewPromise ballot) }
         ensures stopped { self.old.is_stopped ≡ true → IsErrOf result RecordsFault.Store }
+        ensures went { self.old.is_stopped ≡ false → R.is_kept self.new.records → Went (R.stands self.new.records) (R.fates self.old.records) (R.fates self.new.records) false self.old.kept (NewPromise ballot) result }
         ensures kept { R.is_kept self.new.records → R.is_kept self.old.records }
     {
         let draft = self.draft_begin(ballot)?;
@@ -102,6 +103,7 @@ impl<R: Records + Drop> Acceptor<R> {
         ensures stopped { self.old.is_stopped ≡ true → IsErrOf result RecordsFault.Store }
         ensures quiet { writes (on_prepare_writes self.old.kept ballot) ≡ false → self.new ≡ self.old }
         ensures silent { below ballot self.old.kept.promise ≡ true → self.old.is_stopped ≡ false → IsOk result }
+        ensures went { self.old.is_stopped ≡ false → R.is_kept self.new.records → Went (R.stands self.new.records) (R.fates self.old.records) (R.fates self.new.records) false self.old.kept (on_prepare_writes self.old.kept ballot) result }
         ensures kept { R.is_kept self.new.records → R.is_kept self.old.records }
     {
         let draft = self.draft_prepare(alloc, ballot, from)?;
@@ -128,6 +130,7 @@ impl<R: Records + Drop> Acceptor<R> {
         ensures stopped { self.old.is_stopped ≡ true → IsErrOf result RecordsFault.Store }
         ensures quiet { writes (on_accept_writes self.old.kept position vote.now) ≡ false
             → (self.new ≡ self.old) × (self.old.is_stopped ≡ false → IsOk result) }
+        ensures went { self.old.is_stopped ≡ false → R.is_kept self.new.records → Went (R.stands self.new.records) (R.fates self.old.records) (R.fates self.new.records) false self.old.kept (on_accept_writes self.old.kept position vote.now) result }
         ensures kept { R.is_kept self.new.records → R.is_kept self.old.records }
     {
         let draft = self.draft_accept(alloc, position, vote)?;
