@@ -91,6 +91,9 @@ impl<R: Records + Drop> World<R> {
     /// Nothing happens by a delivery to a client, an unknown number, any event but a start and a request at a stopped member, the start
     /// of a running one or where its store fails, and a ballot that cannot begin.
     ///
+    /// The store of its member does with what is written what was known of it before, and fails only if its count of failures grows.
+    /// Each member that runs has applied all that it has learnt without a gap then.
+    ///
     /// It fails where memory is refused, and then nothing that shows has changed.
     pub fn happen(&mut self, alloc: Global, event: &Event) -> Result<(), AllocError>
         requires named { is_for self.old.members event.now ≡ true }
