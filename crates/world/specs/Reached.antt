@@ -127,7 +127,7 @@ pub record HaveDone {R : Type 0} (failed : R → ℕ) (fates : R → ℕ → Fat
   pub own : Did failed fates cut (store_at old m) (store_at new m) w fails
   pub others : (j : ℕ) → (j ≡ m → ⊥) → (k : ℕ) → fates_of fates (store_at new j) k ≡ fates_of fates (store_at old j) k
 
--- the event happens, and the stores have done what they did
+-- the event happens, and each store has done in it what was known of it before
 abbrev pub HappenedOver : {R : Type 0} → (failed : R → ℕ) → (fates : R → ℕ → Fate) → (old new : List (Seat R)) → Application → Happens → Whole → Whole → Type 0
 HappenedOver failed fates old new app e v z = HappenedIf (HaveDone failed fates (is_cut e) old new) app e v z
 

@@ -56,13 +56,13 @@ fates_of {R} fates o k = option_and_then (λ (r : R). fates r k) o
 abbrev pub HasFailed : {R : Type 0} → (failed : R → ℕ) → (old new : Option R) → Type 0
 HasFailed failed old new = Grew (failures_of failed old) (failures_of failed new)
 
--- which of the writes to come is the next but k then
+-- the place among the writes to come, before a step that would write this, of the one that is at place k after it
 abbrev pub later : Write → ℕ → ℕ
 later w k = if writes w then suc k else k
 
--- What a store has done in a step that would write this, and in which it fails or not: it fails only if it has failed; where it is known
--- what comes of its next write, so it does; and what is known of the writes after it is the same. A write in which the member stops is
--- cut, and let pass.
+-- What a store has done in a step that would write this, and in which it fails or not: it fails only if its count of failures has
+-- grown; where it is known what comes of its next write, that comes; and what is known of the writes after it is the same. A write in
+-- which the member stops is cut, and let pass.
 pub record Did {R : Type 0} (failed : R → ℕ) (fates : R → ℕ → Fate) (is_cut : Bool) (old new : Option R) (w : Write) (fails : Option Bool) : Type 0 where
   pub counted : (fails ≡ None) ⊎ HasFailed failed old new
   pub known : (f : Option Bool) → ((r : R) → old ≡ Some r → fates r 0 ≡ Some f) → fails ≡ (if writes w then passing is_cut f else None)
