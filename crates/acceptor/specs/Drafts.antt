@@ -3,11 +3,11 @@ use Rattle.std.specs.Prelude.{◌≡◌, ◌≤◌, ℕ, None, false, Err}
 use Rattle.ballots.specs.Ballot.{IsBallot, below}
 use Rattle.ballots.specs.Values.{positions}
 use Rattle.paxos.specs.Records.{Record, Write, Nothing, NewPromise, NewVote}
-use Rattle.acceptor.specs.Law.{Counts, Fate}
+use Rattle.records.specs.Law.{Counts, Fate}
 use Rattle.acceptor.specs.declared.draft.Write.{Write as WriteOfCode}
 use Rattle.acceptor.specs.declared.draft.Write.TheVariants as write
-use Rattle.acceptor.specs.declared.records.RecordsFault.{RecordsFault}
-use Rattle.acceptor.specs.declared.records.RecordsFault.TheVariants.{Store}
+use Rattle.records.specs.declared.records.RecordsFault.{RecordsFault}
+use Rattle.records.specs.declared.records.RecordsFault.TheVariants.{Store}
 
 -- an answer, and the write that comes before it
 pub record Draft (A : Type 0) : Type 0 where

@@ -5,7 +5,7 @@ use Rattle.ballots.specs.declared.ballot.Ballot.{Ballot}
 use Rattle.ballots.specs.declared.value.Vote.{Vote}
 use Rattle.ballots.specs.Messages.{Window}
 use Rattle.paxos.specs.Records.{Record, Write, Nothing, prepare_write, accept_write, written, window}
-use Rattle.acceptor.specs.Law.{Grew}
+use Rattle.records.specs.Law.{Grew}
 
 -- its records, the record that they keep, and whether it has stopped since their store failed
 pub record Acceptor (R : Type 0) : Type 0 where

@@ -5,15 +5,14 @@ ghost use Rattle.ballots.specs.Ballot.{IsBallot, below};
 ghost use Rattle.ballots.specs.Values.{positions};
 ghost use Rattle.ballots.specs.Messages.{window_of};
 ghost use Rattle.paxos.specs.Records.{Record as RecordTerm, NewPromise, writes, written};
-ghost use Rattle.acceptor.specs.Kept.{IsRising};
-ghost use Rattle.acceptor.specs.Law.{Counts, Puts, Went};
+ghost use Rattle.records.specs.Kept.{IsRising};
+ghost use Rattle.records.specs.Law.{Counts, Puts, Went};
 ghost use Rattle.acceptor.specs.Drafts.{IsDue, IsRefused, write_of};
 ghost use Rattle.acceptor.specs.Steps.{Took, Stopped, IsAsWas, on_prepare_writes, on_prepare_answers, on_accept_writes, on_accept_answers};
 
 use super::draft::{Draft, Write};
-use super::kept::Record;
-use super::records::{Records, RecordsFault};
 use ballots::{Ballot, Vote, Window};
+use records::{Record, Records, RecordsFault};
 use std::alloc::Global;
 use std::marker::Model;
 

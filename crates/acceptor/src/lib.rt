@@ -3,15 +3,6 @@
 
 mod acceptor;
 mod draft;
-mod kept;
-mod memory;
-mod records;
-mod script;
-mod slots;
 
 pub use acceptor::Acceptor;
 pub use draft::Draft;
-pub use kept::Record;
-pub use memory::MemRecords;
-pub use records::{Records, RecordsFault};
-pub use script::ScriptRecords;

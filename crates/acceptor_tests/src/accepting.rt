@@ -5,9 +5,10 @@
 mod acceptors;
 mod drafting;
 
-use acceptor::{Acceptor, MemRecords, Records, ScriptRecords};
+use acceptor::Acceptor;
 use acceptors::{open, play, store};
 use ballots::Ballot;
+use records::{MemRecords, Records, ScriptRecords};
 use std::alloc::Global;
 use std::process::Abort;
 

@@ -3,8 +3,9 @@
 ghost use Rattle.std.specs.Prelude.{◌≤◌};
 ghost use Rattle.ballots.specs.Values.{positions};
 
-use acceptor::{Acceptor, MemRecords};
+use acceptor::Acceptor;
 use ballots::{Ballot, Request, Value, Vote};
+use records::MemRecords;
 use std::alloc::Global;
 
 /// The ballot of all votes.

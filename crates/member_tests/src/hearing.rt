@@ -5,7 +5,7 @@
 use super::node::Node;
 use super::scripts::play_in_memory;
 use super::words::{cut, message};
-use acceptor::MemRecords;
+use records::MemRecords;
 use std::alloc::Global;
 use std::process::Abort;
 

@@ -1,7 +1,7 @@
 // How a member begins, leads and proposes, and where it sends clients that ask another.
 
 use super::scripts::{play, play_in_memory};
-use acceptor::MemRecords;
+use records::MemRecords;
 
 #[test]
 fn a_group_of_one_learns_what_it_is_asked(rt: HostRuntime) {

@@ -4,9 +4,9 @@ ghost use Rattle.member.specs.Drafts.{IsReady};
 ghost use Rattle.member.specs.Steps.{IsHeard, input_of};
 
 use super::words::number_of;
-use acceptor::{Records, RecordsFault};
 use ballots::{Ballot, Members, Message};
 use member::{Draft, Input, Member, MemberFault, Outcome};
+use records::{Records, RecordsFault};
 use std::alloc::Global;
 use std::process::Abort;
 

@@ -10,9 +10,9 @@
 use super::node::{Event, Node};
 use super::same::say_the_same;
 use super::words::{Words, cut, message, number_of};
-use acceptor::{MemRecords, Records};
 use ballots::{Ballot, Pair};
 use member::{MemberFault, Send, Target};
+use records::{MemRecords, Records};
 use std::alloc::Global;
 use std::process::Abort;
 

@@ -1,8 +1,8 @@
 // Stops inside a write, stores that fail, and starts from the records that they leave. Each is member 2 of three.
 
 use super::scripts::{fail, play, stop_in};
-use acceptor::{MemRecords, Records, ScriptRecords};
 use ballots::Ballot;
+use records::{MemRecords, Records, ScriptRecords};
 use std::alloc::Global;
 use std::process::Abort;
 

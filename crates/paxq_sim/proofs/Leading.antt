@@ -2,7 +2,7 @@
 use Rattle.std.proofs.Common.{◌≡◌, ℕ, ◌<◌, ◌≤◌, ◌+◌, ◌-◌, ◌^◌, arith, min, refl, sym, subst, ap, ◌∙◌, inl, true, false, ◌||◌, List, [], ◌∷◌, ◌++◌, length, Option, Some, None}
 use Rattle.std.specs.Option.{option_and_then}
 use Rattle.std.proofs.lemmas.Option.{none-some, same_Some}
-use Rattle.acceptor.specs.Script.{IsKept, Script, Stands, fails_at, fates_of}
+use Rattle.records.specs.Script.{IsKept, Script, Stands, fails_at, fates_of}
 use Rattle.ballots.specs.Ballot.{most_members}
 use Rattle.ballots.specs.Messages.{up_to}
 use Rattle.event_files.specs.declared.first.Failure.{Failure}

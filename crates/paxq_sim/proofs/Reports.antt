@@ -6,7 +6,7 @@ use Rattle.std.proofs.Math.Seq.{drop-cons}
 use Rattle.std.proofs.lemmas.List.Folds.{list_any-append}
 use Rattle.std.proofs.lemmas.Option.{none-some}
 use Rattle.std.proofs.lemmas.Grind.{flat_map-append}
-use Rattle.acceptor.specs.Script.{Script}
+use Rattle.records.specs.Script.{Script}
 use Rattle.ballots.specs.Messages.{up_to}
 use Rattle.ballots.specs.Terms.{Request}
 use Rattle.ballots.specs.declared.request.RequestId.{RequestId}

@@ -3,8 +3,8 @@ use Rattle.std.proofs.Common.{◌≡◌, ℕ, suc, ◌+◌, arith, refl, sym, su
 use Rattle.std.specs.Prelude.{◌==◌, if◌then◌else◌}
 use Rattle.std.proofs.lemmas.Bool.{cases_eq}
 use Rattle.std.proofs.lemmas.Option.{none-some}
-use Rattle.acceptor.specs.Law.{Fate, passing}
-use Rattle.acceptor.specs.Script.{Script, fates_of}
+use Rattle.records.specs.Law.{Fate, passing}
+use Rattle.records.specs.Script.{Script, fates_of}
 use Rattle.event_files.specs.declared.first.Failure.{Failure}
 use Rattle.paxos.specs.Application.{Application}
 use Rattle.paxos.specs.Knowledge.{news, prefix}

@@ -4,7 +4,7 @@ use Rattle.std.proofs.lemmas.Bool.{le-ltb, lt-ltb}
 use Rattle.std.proofs.lemmas.List.{map-append}
 use Rattle.std.proofs.lemmas.List.Elements.{filter-append}
 use Rattle.std.proofs.lemmas.List.Folds.{list_any-append}
-use Rattle.acceptor.specs.Script.{Script}
+use Rattle.records.specs.Script.{Script}
 use Rattle.ballots.specs.Ballot.{most_members}
 use Rattle.ballots.specs.Messages.{up_to}
 use Rattle.event_files.specs.declared.command.Command.{Command}

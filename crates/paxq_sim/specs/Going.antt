@@ -1,6 +1,6 @@
 -- How far code is in a simulation.
 use Rattle.std.specs.Prelude.{◌≡◌, ◌+◌, ◌≤◌, ℕ, List, Some, map, length}
-use Rattle.acceptor.specs.Script.{Script, Stands, fates_of}
+use Rattle.records.specs.Script.{Script, Stands, fates_of}
 use Rattle.event_files.specs.declared.command.Command.{Command}
 use Rattle.event_files.specs.declared.first.Failure.{Failure}
 use Rattle.paxos.proofs.WellFormed.{Sound}

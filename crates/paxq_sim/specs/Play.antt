@@ -4,8 +4,8 @@ use Rattle.std.specs.Prelude.{◌≡◌, ◌+◌, ◌-◌, ◌^◌, ℕ, suc, mi
 use Rattle.std.specs.Option.{option_and_then}
 use Rattle.std.specs.List.{list_any}
 use Rattle.std.specs.Fmt.{decimal}
-use Rattle.acceptor.specs.Law.{passing}
-use Rattle.acceptor.specs.Script.{fails_at}
+use Rattle.records.specs.Law.{passing}
+use Rattle.records.specs.Script.{fails_at}
 use Rattle.ballots.specs.Messages.{up_to}
 use Rattle.ballots.specs.declared.value.Value.{Value}
 use Rattle.ballots.specs.declared.value.Value.TheVariants as value

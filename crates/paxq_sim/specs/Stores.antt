@@ -1,6 +1,6 @@
 -- The stores of a group's members, whose writes fail as a file says.
 use Rattle.std.specs.Prelude.{ℕ, Bool, false, ◌==◌, if◌then◌else◌, List, [], ◌∷◌, ◌++◌, map}
-use Rattle.acceptor.specs.Script.{Script}
+use Rattle.records.specs.Script.{Script}
 use Rattle.ballots.specs.Ballot.{no_ballot}
 use Rattle.ballots.specs.Messages.{up_to}
 use Rattle.event_files.specs.declared.first.Failure.{Failure}

@@ -10,8 +10,8 @@ ghost use Rattle.world.specs.Shown.{Shows};
 ghost use Rattle.world.specs.Tellings.{told_in};
 
 use super::places::Places;
-use acceptor::ScriptRecords;
 use ballots::{RequestId, Value};
+use records::ScriptRecords;
 use std::alloc::{AllocError, Global};
 use world::{Told, World};
 

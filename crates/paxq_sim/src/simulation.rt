@@ -6,7 +6,7 @@ ghost use Rattle.event_files.specs.declared.command.Command.{Command as CommandT
 ghost use Rattle.event_files.specs.declared.command.Command.TheVariants.{Happens, DeliverAll};
 ghost use Rattle.member.specs.Steps.{KnowsNothing};
 ghost use Rattle.event_files.specs.declared.first.Failure.{Failure as FailureTerm};
-ghost use Rattle.acceptor.specs.Script.{IsKept, Script, Stands, fates_of};
+ghost use Rattle.records.specs.Script.{IsKept, Script, Stands, fates_of};
 ghost use Rattle.paxos.specs.Application.{Application};
 ghost use Rattle.paxos.specs.Records.{Record};
 ghost use Rattle.paxos.specs.World.{World as Whole, Deliver};
@@ -18,8 +18,8 @@ ghost use Rattle.paxq_sim.specs.Going.{HasCome, IsDelivering};
 
 use super::numbers::Numbers;
 use super::stores::stores_of;
-use acceptor::ScriptRecords;
 use event_files::{Command, Failure, Group};
+use records::ScriptRecords;
 use std::alloc::{AllocError, Global};
 use world::{Event, World};
 

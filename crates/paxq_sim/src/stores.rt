@@ -3,9 +3,9 @@
 ghost use Rattle.std.specs.Prelude.{◌≡◌, IfOk};
 ghost use Rattle.paxq_sim.specs.Stores.{plan_of, store_of, stores_of};
 
-use acceptor::ScriptRecords;
 use ballots::Members;
 use event_files::Failure;
+use records::ScriptRecords;
 use std::alloc::{AllocError, Global};
 
 /// The writes of a member that fail, in the order of the file.

@@ -2,7 +2,7 @@
 use Rattle.std.proofs.Common.{◌≡◌, ◌⊎◌, ℕ, zero, suc, false, refl, sym, subst, ap, ◌∙◌, inl, inr, ⊎_elim, Some, None, IsSome, List, [], ◌∷◌, ◌++◌, length}
 use Rattle.std.proofs.lemmas.List.{length-replicate}
 use Rattle.std.proofs.lemmas.Option.{none-some, same_Some}
-use Rattle.acceptor.specs.Law.{Fate}
+use Rattle.records.specs.Law.{Fate}
 use Rattle.member.specs.Steps.{IsThis, Member}
 use Rattle.paxos.specs.Application.{Application}
 use Rattle.paxos.specs.Lists.{at, Has}

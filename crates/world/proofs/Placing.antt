@@ -5,7 +5,7 @@ use Rattle.std.specs.Prelude.{if◌then◌else◌}
 use Rattle.std.proofs.Math.ListN.{get_or}
 use Rattle.std.proofs.lemmas.Bool.{cases_eq}
 use Rattle.std.proofs.lemmas.Option.{same_Some, slice_get_read}
-use Rattle.acceptor.specs.Law.{Fate, Grew, passing}
+use Rattle.records.specs.Law.{Fate, Grew, passing}
 use Rattle.ballots.specs.Messages.{CatchUp, Packet, packet, body_of}
 use Rattle.member.specs.Steps.{Input, Hears, IsNoQuestion, Member}
 use Rattle.member.specs.declared.outcome.Outcome.{Outcome}

@@ -1,7 +1,7 @@
 -- How a seat moves: each of the facts that a member's calls give makes a move.
 use Rattle.std.proofs.Common.{◌≡◌, ℕ, suc, Bool, true, false, cond, refl, ◌⊎◌, inl, inr, sym, subst, ap, ap₂, ◌∙◌, Option, Some, None, Ok, Err, ⊎_elim, []}
-use Rattle.acceptor.specs.Law.{Fate, Grew, Went, passing}
-use Rattle.acceptor.specs.declared.records.RecordsFault.TheVariants.{Store}
+use Rattle.records.specs.Law.{Fate, Grew, Went, passing}
+use Rattle.records.specs.declared.records.RecordsFault.TheVariants.{Store}
 use Rattle.acceptor.specs.Steps.{Acceptor}
 use Rattle.std.specs.Prelude.{option_map, if◌then◌else◌}
 use Rattle.std.proofs.lemmas.Bool.{false≢true}

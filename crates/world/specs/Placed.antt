@@ -1,9 +1,9 @@
 -- Members that never did anything, at their seats.
 use Rattle.std.specs.Prelude.{◌≡◌, ℕ, List, [], ◌∷◌, Some}
 use Rattle.acceptor.specs.Drafts.{IsRefused}
-use Rattle.acceptor.specs.Law.{Fate}
+use Rattle.records.specs.Law.{Fate}
 use Rattle.member.specs.Steps.{IsThis, Member}
-use Rattle.acceptor.specs.declared.records.RecordsFault.TheVariants.{Store}
+use Rattle.records.specs.declared.records.RecordsFault.TheVariants.{Store}
 use Rattle.paxos.specs.Lists.{at, Has}
 use Rattle.paxos.specs.Records.{Record}
 use Rattle.paxos.specs.World.{fresh, started}

@@ -1,7 +1,7 @@
 -- Which lists of events lead to what code holds.
 use Rattle.std.specs.Prelude.{◌≡◌, ℕ, Bool, true, false, List, Option, Some, None, length}
 use Rattle.std.specs.Option.{option_and_then}
-use Rattle.acceptor.specs.Law.{Fate}
+use Rattle.records.specs.Law.{Fate}
 use Rattle.ballots.specs.Messages.{Packet}
 use Rattle.member.specs.Steps.{Input, Hears}
 use Rattle.paxos.specs.Lists.{at, Has}

@@ -3,7 +3,7 @@ use Rattle.std.specs.Prelude.{◌≡◌, ◌⊎◌, ℕ, suc, Bool, false, if◌
 use Rattle.std.specs.Option.{option_and_then, option_map_or}
 use Rattle.ballots.specs.Messages.{Packet}
 use Rattle.ballots.specs.declared.value.Pair.{Pair}
-use Rattle.acceptor.specs.Law.{Fate, Grew, passing}
+use Rattle.records.specs.Law.{Fate, Grew, passing}
 use Rattle.member.specs.Drafts.{IsDrafted, IsReady, IsSpent}
 use Rattle.member.specs.Steps.{Input, Begins, Resends, CatchesUp, Member, IsExpected, IsHeard, IsThis, all_packets, effect_of}
 use Rattle.member.specs.declared.draft.Draft.{Draft}

@@ -16,8 +16,8 @@ ghost use Rattle.world.specs.declared.event.Event.TheVariants as event;
 use crate::event::{Event, Step, Tick};
 use crate::mail::Delivery;
 use crate::state::State;
-use acceptor::Records;
 use ballots::{Message, Request};
+use records::Records;
 use std::alloc::{AllocError, Global};
 
 impl<R: Records + Drop> State<R> {

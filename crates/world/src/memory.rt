@@ -8,8 +8,8 @@ ghost use Rattle.paxos.specs.World.{fresh};
 ghost use Rattle.world.specs.Reached.{Reached, ReachedSmoothly};
 
 use crate::world::World;
-use acceptor::{MemRecords, RecordsFault};
 use ballots::Members;
+use records::{MemRecords, RecordsFault};
 use std::alloc::{AllocError, Global};
 use trees::Names;
 

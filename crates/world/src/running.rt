@@ -16,9 +16,9 @@ use crate::fault::WorldFault;
 use crate::mail::Mail;
 use crate::seat::Seat;
 use crate::state::State;
-use acceptor::{Records, RecordsFault};
 use ballots::Members;
 use member::Member;
+use records::{Records, RecordsFault};
 use std::alloc::Global;
 
 /// A member at its seat, which starts from the records of a store.

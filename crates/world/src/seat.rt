@@ -9,9 +9,9 @@ ghost use Rattle.paxos.specs.WellFormed.{IsRecord};
 ghost use Rattle.paxos.specs.World.{Member as Part};
 ghost use Rattle.world.specs.Seats.{Did, IsAny, IsFit, IsPlanned, IsSeat, MayHear, MayStart, MayStay, MayStep, MayStop, MayStopIn, Moves, Skips, sent_by, store_in, told_by};
 
-use acceptor::{Records, RecordsFault};
 use ballots::Members;
 use member::{Draft, Input, Member, MemberFault, Outcome};
+use records::{Records, RecordsFault};
 use std::alloc::{AllocError, Global};
 
 /// A member while it runs, or its records while it is stopped.

@@ -18,9 +18,9 @@ use crate::event::Tick;
 use crate::mail::{Delivery, Mail};
 use crate::seat::Seat;
 use crate::told::{Told, tell};
-use acceptor::Records;
 use ballots::Members;
 use member::{Draft, Input, Outcome};
+use records::Records;
 use std::alloc::{AllocError, Global};
 
 /// How many members there are, where each of them sits, all that was sent and all that was told.

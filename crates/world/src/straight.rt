@@ -11,8 +11,8 @@ ghost use Rattle.world.specs.Runs.{HasDone, LeadsSmoothly, StopsAt, straight_eve
 use crate::event::Tick;
 use crate::fault::WorldFault;
 use crate::state::State;
-use acceptor::Records;
 use ballots::Request;
+use records::Records;
 use std::alloc::{AllocError, Global};
 
 impl<R: Records + Drop> State<R> {

@@ -1,7 +1,7 @@
 // Worlds of 1 to 63 members: straight runs, and members that there are not. What other events do, files of events show in
 // `run_tests`.
-use acceptor::MemRecords;
 use ballots::{Members, Request};
+use records::MemRecords;
 use std::alloc::Global;
 use std::process::Abort;
 use std::test::Fail;

@@ -7,8 +7,9 @@ ghost use Rattle.ballots.specs.Ballot.{IsBallot};
 ghost use Rattle.ballots.specs.Values.{positions};
 
 use crate::words::{Words, cut};
-use acceptor::{Acceptor, Records, RecordsFault, ScriptRecords};
+use acceptor::Acceptor;
 use ballots::{Ballot, Entry, Value, Vote, Window};
+use records::{Records, RecordsFault, ScriptRecords};
 use std::alloc::Global;
 use std::process::Abort;
 

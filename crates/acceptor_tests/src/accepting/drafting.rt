@@ -3,8 +3,9 @@ ghost use Rattle.std.specs.Prelude.{◌≡◌, None, false, IfOk};
 ghost use Rattle.acceptor.specs.Drafts.{IsDue};
 
 use super::acceptors::{is_ballot, is_position, open, play, vote};
-use acceptor::{Acceptor, Draft, MemRecords, Record, Records, RecordsFault};
+use acceptor::{Acceptor, Draft};
 use ballots::{Ballot, Request, Value, Vote};
+use records::{MemRecords, Record, Records, RecordsFault};
 use std::alloc::{AllocError, Global};
 use std::process::Abort;
 

@@ -4,7 +4,7 @@ use Rattle.ballots.specs.Messages.{up_to}
 use Rattle.paxos.specs.Records.{Record}
 use Rattle.paxos.specs.World.{World as Whole}
 use Rattle.world.specs.Shown.{Shows}
-use Rattle.acceptor.specs.Script.{Script}
+use Rattle.records.specs.Script.{Script}
 use Rattle.paxq_sim.specs.Play.{member_line}
 use Rattle.paxq_sim.proofs.report.push_members.Given as goal
 

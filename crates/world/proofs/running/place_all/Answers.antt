@@ -2,7 +2,7 @@ use Rattle.std.proofs.Common.{IfErr, [], ◌∷◌, ◌++◌, arith, inl, inr, r
 use Rattle.std.proofs.lemmas.List.{append_assoc}
 use Rattle.std.proofs.lemmas.Result.{IfErr-at_err, err_from_is_err_and}
 use Rattle.acceptor.specs.Drafts.{IsRefused}
-use Rattle.acceptor.specs.declared.records.RecordsFault.{RecordsFault}
+use Rattle.records.specs.declared.records.RecordsFault.{RecordsFault}
 use Rattle.paxos.specs.Lists.{Has}
 use Rattle.paxos.proofs.Lists.{has_right}
 use Rattle.world.specs.Placed.{AreOf, ArePlaced, IsPlaced}

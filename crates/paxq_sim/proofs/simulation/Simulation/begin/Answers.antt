@@ -1,6 +1,6 @@
 use Rattle.std.proofs.Common.{◌∙◌, [], ap, arith, length, subst, sym}
 use Rattle.std.proofs.lemmas.List.{length-map}
-use Rattle.acceptor.specs.Script.{fates_of}
+use Rattle.records.specs.Script.{fates_of}
 use Rattle.ballots.specs.Messages.{up_to}
 use Rattle.paxos.specs.Lists.{Has}
 use Rattle.straight_runs.proofs.Lists.{length_up_to}

@@ -1,5 +1,5 @@
 use Rattle.std.proofs.Common.{false, Err, Some, refl, sym, subst, ◌∙◌}
-use Rattle.acceptor.specs.Law.{Counts}
+use Rattle.records.specs.Law.{Counts}
 use Rattle.paxos.specs.WellFormed.{IsRecord}
 use Rattle.world.specs.Seats.{Did, IsAny, IsFit, store_in}
 use Rattle.world.proofs.Given.{none_there}

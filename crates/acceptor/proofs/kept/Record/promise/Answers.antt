@@ -1,5 +1,0 @@
-use Rattle.acceptor.proofs.Filled.{above_filled}
-use Rattle.acceptor.proofs.kept.Record.promise.Goals as goal
-
-pub returns-clause-rising : goal.returns-clause-rising
-returns-clause-rising c = rw (← c.self.view_is) (above_filled 0 _ c.self.invariant)

@@ -1,0 +1,4 @@
+pub mod Law
+pub mod Kept
+pub mod Slots
+pub mod Script

@@ -1,0 +1,13 @@
+//! The records that an acceptor keeps over stops: what a store for them has to keep, and such stores in memory.
+#![tactic(auto)]
+
+mod kept;
+mod memory;
+mod records;
+mod script;
+mod slots;
+
+pub use kept::Record;
+pub use memory::MemRecords;
+pub use records::{Records, RecordsFault};
+pub use script::ScriptRecords;

@@ -1,0 +1,100 @@
+//! A record in memory.
+
+ghost use Rattle.std.specs.Prelude.{◌≡◌, ◌⊎◌, ◌≤◌, [], None, Some, false, IfErr, OnErr, OnOk};
+ghost use Rattle.ballots.specs.Ballot.{no_ballot};
+ghost use Rattle.paxos.specs.Records.{NewVote, written};
+
+use super::kept::Record;
+use super::records::{Records, RecordsFault};
+use ballots::{Ballot, Value, Vote};
+use std::alloc::Global;
+use std::marker::Model;
+
+/// A record in memory: it outlives the acceptor, and not the program. It never fails.
+#[derive(Drop)]
+pub struct MemRecords {
+    kept: Record,
+}
+
+impl Model for MemRecords {
+    ghost use Rattle.paxos.specs.Records.{Record as RecordTerm};
+    ghost use Rattle.records.specs.Kept.{record_code};
+
+    ghost Value = { RecordTerm };
+
+    ghost coded = { record_code };
+
+    ghost view = { λ s. s.kept };
+}
+
+impl MemRecords {
+    /// No promise, and no votes.
+    pub fn new(alloc: Global) -> MemRecords
+        ensures { result ≡ record { promise = no_ballot; votes = [] } }
+    {
+        MemRecords {
+            kept: Record::new(alloc),
+        }
+    }
+}
+
+impl Records for MemRecords {
+    ghost stands = { λ s a b. (s ≡ a) ⊎ (s ≡ b) };
+
+    ghost is_kept = { λ s. Unit {0} };
+
+    ghost failed = { λ s. 0 };
+
+    ghost fates = { λ s k. Some None };
+
+    ghost passes = { λ s. false };
+
+    fn load(&mut self, alloc: Global) -> Result<Record, RecordsFault> {
+        match self.kept.clone() {
+            Ok(kept) => Ok(kept),
+            Err(_) => Err(RecordsFault::Memory),
+        }
+    }
+
+    fn put_promise(&mut self, alloc: Global, ballot: Ballot) -> Result<(), RecordsFault> {
+        self.kept.set_promise(ballot);
+        Ok(())
+    }
+
+    fn put_vote(
+        &mut self,
+        alloc: Global,
+        ballot: Ballot,
+        position: u32,
+        value: &Value,
+    ) -> Result<(), RecordsFault> {
+        copy_vote(&mut self.kept, ballot, position, value)
+    }
+
+    fn let_pass(&mut self) {}
+
+    fn failures(&self) -> u64 {
+        0
+    }
+}
+
+/// Records a vote for a copy of a value. Where memory is refused, nothing changes.
+pub(super) fn copy_vote(
+    kept: &mut Record,
+    ballot: Ballot,
+    position: u32,
+    value: &Value,
+) -> Result<(), RecordsFault>
+    requires least { 1 ≤ position }
+    ensures voted { OnOk result (kept.new ≡ written (NewVote position (record { ballot = ballot; value = value.now })) kept.old) }
+    ensures refused { OnErr result (kept.new ≡ kept.old) }
+    ensures memory { IfErr result (λ fault. fault ≡ RecordsFault.Memory) }
+{
+    let Ok(value) = value.clone() else {
+        return Err(RecordsFault::Memory);
+    };
+    match kept.set_vote(position, Vote { ballot, value }) {
+        Ok(()) => Ok(()),
+        Err(_) => Err(RecordsFault::Memory),
+    }
+}

@@ -1,0 +1,99 @@
+//! Where an acceptor keeps its record, so that it outlives stops.
+
+ghost use Rattle.std.specs.Prelude.{◌≡◌, ◌⊎◌, ◌≤◌, ℕ, Bool, None, Some, false, true, IfOk, IsErrOf};
+ghost use Rattle.ballots.specs.Ballot.{IsBallot, below};
+ghost use Rattle.ballots.specs.Values.{positions};
+ghost use Rattle.paxos.specs.Records.{Record as RecordTerm, NewPromise, NewVote, written};
+ghost use Rattle.records.specs.Law.{Counts, Fate, Goes, Puts};
+
+use super::kept::Record;
+use ballots::{Ballot, Value};
+use std::alloc::Global;
+
+/// Why a record is not written or read.
+#[derive(Clone, Copy, PartialEq, Eq, Debug)]
+pub enum RecordsFault {
+    /// Memory was refused (1): the record is as it was.
+    Memory,
+    /// The store failed (2): the record is the old one or the new one, and the next load tells which.
+    Store,
+}
+
+/// A store for one acceptor's record, which outlives the acceptor ("Paxos Made Simple", section 2.5).
+///
+/// Its law: after an `Ok` every crash leaves the new record; after a failure of the store the old or the new one, and `failures`
+/// has grown in that call; after want of memory the old one. What `load` gives lasts until a later write changes it.
+///
+/// A write that keeps learnt values too would be a third `put_..` here, with a third kind of `Write` in its law.
+pub trait Records {
+    /// Whatever a crash at this moment leaves, and the next load finds, is the one record or the other.
+    ghost stands: { Self → RecordTerm → RecordTerm → Type 0 };
+
+    /// So far nobody else has written the records, and what was written was returned.
+    ghost is_kept: { Self → Type 0 };
+
+    /// In how many calls the store has failed.
+    ghost failed: { Self → ℕ };
+
+    /// What is known of the writes to come, the next one first.
+    ghost fates: { Self → ℕ → Fate };
+
+    /// The next write is let pass.
+    ghost passes: { Self → Bool };
+
+    /// The record that was left. A store of which it is known what it does with writes gives it.
+    fn load(&mut self, alloc: Global) -> Result<Record, RecordsFault>
+        ensures found { is_kept self.new
+            → IfOk result (λ r. stands self.new r r × ((a b : RecordTerm) → stands self.old a b → (r ≡ a) ⊎ (r ≡ b))) }
+        ensures crash { is_kept self.new → (a b : RecordTerm) → stands self.old a b → stands self.new a b }
+        ensures kept { is_kept self.new → is_kept self.old }
+        ensures counts { Counts (failed self.old) (failed self.new) result }
+        ensures fates { (k : ℕ) → fates self.new k ≡ fates self.old k }
+        ensures passes { passes self.new ≡ false }
+        ensures sure { IsErrOf result RecordsFault.Store → fates self.old 0 ≡ None };
+
+    /// Acknowledges a promise, which is not below the one that stands.
+    fn put_promise(&mut self, alloc: Global, ballot: Ballot) -> Result<(), RecordsFault>
+        requires ballot { IsBallot ballot }
+        requires not_below { is_kept self.old → (last : RecordTerm) × stands self.old last last × (below ballot last.promise ≡ false) }
+        ensures law { is_kept self.new → (last : RecordTerm) → stands self.old last last
+            → Puts (stands self.new) last (written (NewPromise ballot) last) result }
+        ensures goes { is_kept self.new → (last : RecordTerm) → stands self.old last last
+            → Goes (stands self.new) (fates self.old) (fates self.new) (passes self.old) last (written (NewPromise ballot) last) result }
+        ensures kept { is_kept self.new → is_kept self.old }
+        ensures counts { Counts (failed self.old) (failed self.new) result }
+        ensures passes { passes self.new ≡ false };
+
+    /// Acknowledges a vote, and its ballot as the promise, in one write. Its ballot is not below the promise that stands.
+    fn put_vote(
+        &mut self,
+        alloc: Global,
+        ballot: Ballot,
+        position: u32,
+        value: &Value,
+    ) -> Result<(), RecordsFault>
+        requires ballot { IsBallot ballot }
+        requires least { 1 ≤ position }
+        requires most { position ≤ positions }
+        requires not_below { is_kept self.old → (last : RecordTerm) × stands self.old last last × (below ballot last.promise ≡ false) }
+        ensures law { is_kept self.new → (last : RecordTerm) → stands self.old last last
+            → Puts (stands self.new) last (written (NewVote position (record { ballot = ballot; value = value.now })) last) result }
+        ensures goes { is_kept self.new → (last : RecordTerm) → stands self.old last last
+            → Goes (stands self.new) (fates self.old) (fates self.new) (passes self.old) last (written (NewVote position (record { ballot = ballot; value = value.now })) last) result }
+        ensures kept { is_kept self.new → is_kept self.old }
+        ensures counts { Counts (failed self.old) (failed self.new) result }
+        ensures passes { passes self.new ≡ false };
+
+    /// Lets the next write pass, if it is one that fails by a plan: the member stops in it, and what is left of it is said elsewhere. It
+    /// ends with the next call. A store that has no plans does nothing.
+    fn let_pass(&mut self)
+        ensures crash { is_kept self.new → (a b : RecordTerm) → stands self.old a b → stands self.new a b }
+        ensures kept { is_kept self.new → is_kept self.old }
+        ensures failed { failed self.new ≡ failed self.old }
+        ensures fates { (k : ℕ) → fates self.new k ≡ fates self.old k }
+        ensures passes { (left : Bool) → fates self.old 0 ≡ Some (Some left) → passes self.new ≡ true };
+
+    /// In how many calls the store answered an error other than want of memory; at 2^64 - 1 it stays.
+    fn failures(&self) -> u64
+        ensures { result ≡ failed self.now };
+}

@@ -1,0 +1,182 @@
+//! A record in memory whose writes fail by a plan.
+
+ghost use Rattle.std.specs.Prelude.{◌≡◌, ◌⊎◌, ◌≤◌, ℕ, Bool, cond, false, [], IfErr, IfOk, is_some, Ok, Err};
+ghost use Rattle.ballots.specs.Ballot.{below, no_ballot};
+ghost use Rattle.ballots.specs.Values.{positions};
+ghost use Rattle.paxos.specs.Records.{Record as RecordTerm, NewPromise, NewVote, written};
+ghost use Rattle.records.specs.Law.{Counts, Goes, Puts};
+ghost use Rattle.records.specs.Script.{Script, GoesBy, IsKept, Stands, fails_at, fates_of, next_fate, one_more, stopping};
+
+use super::kept::Record;
+use super::memory::copy_vote;
+use super::records::{Records, RecordsFault};
+use ballots::{Ballot, Value, Vote};
+use std::alloc::{AllocError, Global};
+use std::marker::Model;
+
+/// A record in memory whose writes fail by a plan, to try what a failing store does.
+///
+/// Writes are numbered from 1, those that fail too, and a write that finds no memory is none.
+#[derive(Drop)]
+pub struct ScriptRecords {
+    kept: Record,
+    plan: Vec<(u64, bool)>,
+    writes: u64,
+    failures: u64,
+    passes: bool,
+}
+
+impl Model for ScriptRecords {
+    ghost use Rattle.records.specs.Script.{Script, script_code};
+
+    ghost Value = { Script };
+
+    ghost coded = { script_code };
+
+    ghost view = { λ s.
+        record {
+          kept = s.kept;
+          plan = s.plan.items;
+          writes = s.writes;
+          failures = s.failures;
+          passes = s.passes;
+        } };
+}
+
+impl ScriptRecords {
+    /// No promise and no votes, and which writes fail: the number of each, and whether its record is left (`true`) or the one
+    /// before it.
+    ///
+    /// The numbers may stand in any order. Of a number that stands there twice, the first counts. It fails where memory is refused.
+    pub fn new(alloc: Global, plan: &[(u64, bool)]) -> Result<ScriptRecords, AllocError>
+        ensures { IfOk result (λ s. s ≡ record { kept = record { promise = no_ballot; votes = [] }; plan = plan.now; writes = 0; failures = 0; passes = false }) }
+    {
+        Ok(ScriptRecords {
+            kept: Record::new(alloc),
+            plan: Vec::from_slice(alloc, plan)?,
+            writes: 0,
+            failures: 0,
+            passes: false,
+        })
+    }
+
+    /// How many writes there were.
+    pub fn writes(&self) -> u64
+        ensures { result ≡ self.now.writes }
+    {
+        self.writes
+    }
+
+    /// Where the write of a number fails: whether its record is left.
+    pub fn fails_at(&self, number: u64) -> Option<bool>
+        ensures { result ≡ fails_at number self.now.plan }
+    {
+        for (at, is_made) in self.plan.iter() {
+            if *at == number {
+                return Some(*is_made);
+            }
+        }
+        None
+    }
+
+    /// Where the next write fails: whether its record is left. No more is let pass then.
+    fn take_fate(&mut self) -> Option<bool>
+        ensures fate { result ≡ next_fate self.old }
+        ensures stopped { self.new ≡ stopping self.old }
+    {
+        if self.passes {
+            self.passes = false;
+            return None;
+        }
+        self.fails_at(self.writes.saturating_add(1))
+    }
+
+    /// Counts a write, and answers it.
+    fn end_write(&mut self, fate: Option<bool>) -> Result<(), RecordsFault>
+        ensures counted { self.new ≡ record { kept = self.old.kept; plan = self.old.plan; writes = one_more self.old.writes; failures = cond (is_some fate) (one_more self.old.failures) self.old.failures; passes = self.old.passes } }
+        ensures fails { result ≡ cond (is_some fate) (Err RecordsFault.Store) (Ok tt) }
+    {
+        self.writes = self.writes.saturating_add(1);
+        if fate.is_none() {
+            return Ok(());
+        }
+        self.failures = self.failures.saturating_add(1);
+        Err(RecordsFault::Store)
+    }
+}
+
+impl Records for ScriptRecords {
+    ghost stands = { Stands };
+
+    ghost is_kept = { IsKept };
+
+    ghost failed = { λ s. s.failures };
+
+    ghost fates = { fates_of };
+
+    ghost passes = { λ s. s.passes };
+
+    fn load(&mut self, alloc: Global) -> Result<Record, RecordsFault>
+        ensures found { IsKept self.new
+            → IfOk result (λ r. Stands self.new r r × ((a b : RecordTerm) → Stands self.old a b → (r ≡ a) ⊎ (r ≡ b))) }
+        ensures crash { IsKept self.new → (a b : RecordTerm) → Stands self.old a b → Stands self.new a b }
+        ensures kept { IsKept self.new → IsKept self.old }
+        ensures counts { Counts self.old.failures self.new.failures result }
+        ensures fates { (k : ℕ) → fates_of self.new k ≡ fates_of self.old k }
+        ensures script { (self.new ≡ stopping self.old) × IfErr result (λ fault. fault ≡ RecordsFault.Memory) }
+    {
+        self.passes = false;
+        match self.kept.clone() {
+            Ok(kept) => Ok(kept),
+            Err(_) => Err(RecordsFault::Memory),
+        }
+    }
+
+    fn put_promise(&mut self, alloc: Global, ballot: Ballot) -> Result<(), RecordsFault>
+        ensures law { IsKept self.new → (last : RecordTerm) → Stands self.old last last
+            → Puts (Stands self.new) last (written (NewPromise ballot) last) result }
+        ensures goes { IsKept self.new → (last : RecordTerm) → Stands self.old last last
+            → Goes (Stands self.new) (fates_of self.old) (fates_of self.new) self.old.passes last (written (NewPromise ballot) last) result }
+        ensures kept { IsKept self.new → IsKept self.old }
+        ensures counts { Counts self.old.failures self.new.failures result }
+        ensures script { GoesBy self.old (NewPromise ballot) self.new result }
+        ensures sure { IfErr result (λ fault. fault ≡ RecordsFault.Store) }
+    {
+        let fate = self.take_fate();
+        if fate.unwrap_or(true) {
+            self.kept.set_promise(ballot);
+        }
+        self.end_write(fate)
+    }
+
+    fn put_vote(
+        &mut self,
+        alloc: Global,
+        ballot: Ballot,
+        position: u32,
+        value: &Value,
+    ) -> Result<(), RecordsFault>
+        requires least { 1 ≤ position }
+        ensures law { IsKept self.new → (last : RecordTerm) → Stands self.old last last
+            → Puts (Stands self.new) last (written (NewVote position (record { ballot = ballot; value = value.now })) last) result }
+        ensures goes { IsKept self.new → (last : RecordTerm) → Stands self.old last last
+            → Goes (Stands self.new) (fates_of self.old) (fates_of self.new) self.old.passes last (written (NewVote position (record { ballot = ballot; value = value.now })) last) result }
+        ensures kept { IsKept self.new → IsKept self.old }
+        ensures counts { Counts self.old.failures self.new.failures result }
+        ensures script { GoesBy self.old (NewVote position (record { ballot = ballot; value = value.now })) self.new result }
+    {
+        let fate = self.take_fate();
+        if fate.unwrap_or(true) {
+            copy_vote(&mut self.kept, ballot, position, value)?;
+        }
+        self.end_write(fate)
+    }
+
+    fn let_pass(&mut self) {
+        self.passes = true;
+    }
+
+    fn failures(&self) -> u64 {
+        self.failures
+    }
+}
