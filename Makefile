@@ -1,16 +1,17 @@
 # `make` alone lists the targets.
 
-.PHONY: help demo test edits paxq measure examples bench sweep clean
+.PHONY: help demo test edits refusals paxq measure examples bench sweep clean
 
 help:
 	@echo 'make demo      builds paxq without waiting for its proof, and runs examples/first.pxq'
-	@echo 'make test      proves everything from nothing and runs every test (the gate; last line "N passed, M failed")'
+	@echo 'make test      the gate: proves everything from nothing, runs every test, tries wrong bodies; last line "N passed, M failed"'
 	@echo 'make edits     tries every wrong body of CRATES (all, if none is named), also those that the gate leaves out for time'
+	@echo 'make refusals  runs the tests of CRATES (all that have any, if none is named) with each allocation refused in turn'
 	@echo 'make paxq      proves paxq and what it stands on, and leaves the program at bin/paxq'
 	@echo 'make examples  runs bin/paxq on the examples and on input that it refuses'
 	@echo 'make measure   proves measure, which runs parts for the benchmarks, and leaves it at bin/measure'
 	@echo 'make bench     measures bin/paxq and bin/measure (figures for docs/BENCHMARKS.md)'
-	@echo 'make sweep     refuses each allocation of runs in turn, and looks at how they end (needs a C compiler)'
+	@echo 'make sweep     runs bin/paxq with each allocation refused in turn (needs a C compiler)'
 	@echo 'make clean     removes what builds made'
 
 demo:
@@ -18,12 +19,16 @@ demo:
 	@cd crates/paxq && rt try -- run "$(CURDIR)/examples/first.pxq"
 
 test:
-	rt ci
+	.ci/gate
 
 edits:
-	.ci/edits $(CRATES)
+	.ci/wrong-bodies --more $(CRATES)
+
+refusals: bin/refuse.so
+	.ci/refusals bin/refuse.so $(CRATES)
 
 paxq:
+	.ci/prove paxq
 	cd crates/paxq && rt run -- run "$(CURDIR)/examples/first.pxq"
 	mkdir -p bin && cp crates/paxq/out/paxq bin/paxq
 
@@ -31,6 +36,7 @@ examples: paxq
 	examples/check bin/paxq
 
 measure:
+	.ci/prove measure
 	cd crates/measure && rt run -- votes 1000
 	mkdir -p bin && cp crates/measure/out/measure bin/measure
 
@@ -39,9 +45,11 @@ bench: paxq measure
 	bench/limits bin/paxq
 	bench/parts bin/measure
 
-sweep: paxq
-	cc -shared -fPIC -O1 -o bin/refuse.so bench/refuse.c -ldl
+sweep: paxq bin/refuse.so
 	bench/sweep bin/paxq bin/refuse.so
+
+bin/refuse.so: bench/refuse.c
+	mkdir -p bin && cc -shared -fPIC -O1 -o bin/refuse.so bench/refuse.c -ldl
 
 clean:
 	rm -rf bin crates/*/out

@@ -1,0 +1,88 @@
+"""What a check says of each function.
+
+A check goes on past a function that is not proved, and names each. A function whose body is wrong has a goal of its own that is not
+proved; one that only calls such a function says just that, since proofs rest on the contracts of what is called and not on bodies.
+"""
+
+import re
+
+LINE = re.compile(r"(fn|impl|struct|enum|trait|const|static) (\S+): (.*)")
+NOTE = re.compile(r"note: src/\S+: it is not proved that .*\(`([^`]+)`\)")
+ERROR = re.compile(r"(?:\./)?proofs/(\S+?)/\w+\.antt:\d+:\d+: error: (?:`([^`]*)`)?(.*)")
+SEARCHED = re.compile(r"`search` did not prove ((?:`[^`]+`(?:, | and )?)+)")
+# what a proof file says that names what an edit took away
+OF_NAMES = re.compile(r"has no field|is not in scope|has no `|was not admitted|is no name")
+CALLS = re.compile(r"it calls|it passes|a call of")
+
+
+class Verdict:
+    """What is said of an item: its words, and the goals of its own that are not proved."""
+
+    def __init__(self, words, goals):
+        self.words, self.goals = words, goals
+
+    def is_proved(self):
+        return self.words.startswith("proved")
+
+    def only_calls(self):
+        """Whether nothing is said against it but that it calls what is not proved."""
+        return not self.goals and bool(CALLS.search(self.words))
+
+
+class Error:
+    """An error in a proof file: the file's folder, the goal, if one is named, and whether it only misses a name that an edit took away."""
+
+    def __init__(self, folder, goal, text):
+        self.folder, self.goal, self.text = folder, goal or text, text
+        self.is_of_names = bool(OF_NAMES.search(text))
+
+
+class Said:
+    """What a check printed: the verdict of each function, and of other items those that are not proved, by name; and the errors."""
+
+    def __init__(self, printed):
+        self.verdicts, self.errors, notes = {}, [], []
+        for line in printed.split("\n"):
+            note, error, item = NOTE.match(line), ERROR.match(line), LINE.match(line)
+            if note:
+                notes.append(note[1])
+            elif error and "which was rejected, was not checked" not in line:
+                self.errors.append(Error(*error.groups()))
+            elif item:
+                kind, name, words = item.groups()
+                searched = SEARCHED.search(words)
+                verdict = Verdict(words, notes + (re.findall(r"`([^`]+)`", searched[1]) if searched else []))
+                if kind == "fn" or not verdict.is_proved():
+                    self.verdicts[name] = verdict
+                notes = []
+
+    def errors_of(self, name, cycle=()):
+        """The errors in a function's proof, or in that of its cycle of calls those on its goals."""
+        module, _, own = name.partition("::")[2].rpartition("::")
+        if cycle:
+            return [it for it in self.errors if it.folder.endswith("/+" + cycle[0]) and it.goal.startswith(own + "-")]
+        path = "/".join([*filter(None, module.split("::")), own])
+        return [it for it in self.errors if it.folder == path]
+
+    def goals_of(self, name, cycle=()):
+        """The goals of a function's own that are not proved.
+
+        A cycle of calls, its name and those of its members, has one proof; each of its goals begins with the name of its member.
+        """
+        goals = [it.goal for it in self.errors_of(name, cycle) if not it.is_of_names]
+        if not cycle:
+            return self.verdicts[name].goals + goals
+        own = name.split("::")[-1] + "-"
+        members = [self.verdicts[it] for it in cycle[1] if it in self.verdicts]
+        return [goal for it in members for goal in it.goals if goal.startswith(own)] + goals
+
+    def misses_names_only(self, name, cycle=()):
+        """Whether all that is said against it is that a proof file names what is gone."""
+        errors = self.errors_of(name, cycle)
+        return bool(errors) and not self.goals_of(name, cycle)
+
+    def wrong(self, changed):
+        """What is not proved by a fault of its own though it is none of the changed functions."""
+        folders = {it.partition("::")[2].replace("::", "/") for it in changed}
+        names = [name for name, it in self.verdicts.items() if name not in changed and not it.is_proved() and not it.only_calls()]
+        return names + [f"{it.folder}: {it.goal[:80]}" for it in self.errors if it.folder not in folders and "/+" not in it.folder]
