@@ -4,7 +4,7 @@ An edit is a file crates/NAME/wrong-bodies/WORDS.edit (tried by the gate) or cra
 
     fn: NAME::module::function     a function whose body it changes, or that a constant which it changes is named by, as the prover writes it
     file: src/module.rt
-    old: TEXT                      one line, which stands once in that file
+    old: TEXT                      one line, which stands once in that file, or once in the body of such a function
     new: TEXT
 
 with further lines `fn:`, `file:`, `old:` and `new:` as need be; a pair applies to what the earlier ones made.
@@ -37,7 +37,8 @@ def functions_of(text):
         signature = SIGNATURE.match(line)
         opens = opening(lines, at, signature[1]) if signature else None
         if opens is not None:
-            closes = next(row for row in range(opens, len(lines)) if row > opens and lines[row] == signature[1] + "}" or lines[row].endswith("{}"))
+            is_empty = lines[opens].endswith("{}")
+            closes = opens if is_empty else next(row for row in range(opens, len(lines)) if lines[row] == signature[1] + "}")
             found.append(Function(signature[2], opens, closes, cycle_above(lines, at)))
     return found
 
@@ -94,7 +95,7 @@ class Edit:
 
     def read_hunks(self, crate, text):
         self.hunks, self.keys, self.cycles = [], set(self.functions), {}
-        for path, (old, new) in changed_texts(crate.folder, text).items():
+        for path, (old, new) in changed_texts(crate.folder, text, self.functions).items():
             found = functions_of(old)
             for hunk in hunks_of(path, old, new):
                 self.hunks.append(hunk)
@@ -128,8 +129,21 @@ class Edit:
         return any(hunk.overlaps(it) for hunk in self.hunks for it in other.hunks)
 
 
-def changed_texts(folder, text):
-    """The text before and after of each file that an edit changes."""
+def replaced(path, text, old, new, functions):
+    """A file's text with the one place changed that an edit means."""
+    if text.count(old) == 1:
+        return text.replace(old, new)
+    lines = text.split("\n")
+    names = {part for name in functions for part in name.split("::")}
+    rows = [row for it in functions_of(text) if it.name in names for row in range(it.first, it.last + 1) if lines[row].count(old) == 1]
+    if len(rows) != 1:
+        raise BadEdit(f"an 'old:' text stands in {path} {text.count(old)} times, and {len(rows)} times in what it changes")
+    lines[rows[0]] = lines[rows[0]].replace(old, new)
+    return "\n".join(lines)
+
+
+def changed_texts(folder, text, functions):
+    """The text before and after of each file that an edit of these functions changes."""
     path, old, texts = "", None, {}
     for line in text.split("\n"):
         if line.startswith("file: "):
@@ -146,9 +160,7 @@ def changed_texts(folder, text):
             if not path or not old:
                 raise BadEdit("a line 'new:' has no 'file:' and 'old:' before it")
             before, after = texts[path]
-            if after.count(old) != 1:
-                raise BadEdit(f"an 'old:' text stands in {path} {after.count(old)} times, and not once")
-            texts[path] = before, after.replace(old, line[len("new:") :].removeprefix(" "))
+            texts[path] = before, replaced(path, after, old, line[len("new:") :].removeprefix(" "), functions)
             old = None
     if not any(before != after for before, after in texts.values()):
         raise BadEdit("it changes nothing")

@@ -10,8 +10,8 @@ use Rattle.paxq_files.specs.Script.{has_text_length, is_space, number_below}
 use Rattle.world.specs.declared.event.Event.TheVariants as event
 use Rattle.world.specs.declared.event.Step.{Step}
 use Rattle.world.specs.declared.event.Step.TheVariants as step
-use Rattle.world.specs.declared.event.Tick.{Tick}
-use Rattle.world.specs.declared.event.Tick.TheVariants as tick
+use Rattle.member.specs.declared.input.Tick.{Tick}
+use Rattle.member.specs.declared.input.Tick.TheVariants as tick
 use Rattle.event_files.specs.declared.command.Command.{Command}
 use Rattle.event_files.specs.declared.command.Command.TheVariants.{Happens, DeliverAll}
 use Rattle.event_files.specs.declared.first.Failure.{Failure}

@@ -2,23 +2,15 @@
 
 use ballots::{Members, Request};
 use std::alloc::Global;
-use trees::Names;
 use world::{Event, Tick, World};
 
 /// The client of all requests.
 const CLIENT: u32 = 7;
 
-/// The names of one document.
-fn names(alloc: Global) -> Option<Names> {
-    let mut names = Vec::new(alloc);
-    names.push(String::from_str(alloc, "db").ok()?).ok()?;
-    Names::new(alloc, &names).ok()
-}
-
 /// How many messages were delivered in a world of so many members: as many as asked, each once and in order. Where none is left a
 /// request comes.
 pub fn delivered(alloc: Global, members: u8, count: u32) -> Option<u32> {
-    let mut world = World::in_memory(alloc, Members::new(members)?, names(alloc)?).ok()?;
+    let mut world = World::in_memory(alloc, Members::new(members)?).ok()?;
     world.run(alloc, &[Event::Tick(1, Tick::Begin)]).ok()?;
     for number in 1..=count {
         let number = u64::from(number);

@@ -15,6 +15,8 @@ use Rattle.proposer.specs.Knowing.{Knows}
 use Rattle.proposer.specs.Terms.{Proposer}
 use Rattle.member.specs.declared.input.Input.{Input as InputOfCode}
 use Rattle.member.specs.declared.input.Input.TheVariants as input
+use Rattle.member.specs.declared.input.Tick.{Tick}
+use Rattle.member.specs.declared.input.Tick.TheVariants as tick
 use Rattle.member.specs.declared.outcome.Outcome.{Outcome}
 use Rattle.member.specs.declared.outcome.Send.{Send}
 use Rattle.member.specs.declared.outcome.Target.TheVariants as target
@@ -43,12 +45,16 @@ pub data Input : Type 0 where
   Resends : Input
   CatchesUp : Input
 
+-- what comes by the clock
+abbrev pub ticked : Tick → Input
+ticked tick.Begin = Begins
+ticked tick.Resend = Resends
+ticked tick.CatchUp = CatchesUp
+
 -- what an input of the code says to the member of a number
 abbrev pub input_of : (self : ℕ) → InputOfCode → Input
 input_of m (input.Message sender message) = Hears (packet sender (body_of message.now) m)
-input_of m input.Begin = Begins
-input_of m input.Resend = Resends
-input_of m input.CatchUp = CatchesUp
+input_of m (input.Tick t) = ticked t
 
 -- the step that a member takes
 abbrev pub effect_of : Application → (members : ℕ) → (self : ℕ) → Record → Running → Input → Effect

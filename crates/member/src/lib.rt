@@ -13,6 +13,6 @@ mod told;
 
 pub use draft::Draft;
 pub use fault::MemberFault;
-pub use input::Input;
+pub use input::{Input, Tick};
 pub use member::Member;
 pub use outcome::{Outcome, Send, Target};

@@ -25,7 +25,7 @@ ghost use Rattle.member.specs.Steps.{Input as InputTerm, Hears, Begins, Resends,
 use super::draft::{Change, Draft};
 use super::fault::MemberFault;
 use super::hearing::may_come;
-use super::input::Input;
+use super::input::{Input, Tick};
 use super::learnt::{lowest_pairs, positions_from};
 use super::outcome::{Outcome, Target};
 use super::sends::{accepts_first, prepares_first, prepares_then_accepts, quiet, say};
@@ -161,9 +161,9 @@ impl<R: Records + Drop> Member<R> {
     {
         match input {
             Input::Message(sender, message) => self.draft_message(alloc, *sender, *message),
-            Input::Begin => self.draft_begin(alloc),
-            Input::Resend => self.draft_resend(alloc),
-            Input::CatchUp => self.draft_catch_up(alloc),
+            Input::Tick(Tick::Begin) => self.draft_begin(alloc),
+            Input::Tick(Tick::Resend) => self.draft_resend(alloc),
+            Input::Tick(Tick::CatchUp) => self.draft_catch_up(alloc),
         }
     }
 

@@ -5,7 +5,7 @@ ghost use Rattle.member.specs.Steps.{IsHeard, input_of};
 
 use super::words::number_of;
 use ballots::{Ballot, Members, Message};
-use member::{Draft, Input, Member, MemberFault, Outcome};
+use member::{Draft, Input, Member, MemberFault, Outcome, Tick};
 use records::{Records, RecordsFault};
 use std::alloc::Global;
 use std::process::Abort;
@@ -23,9 +23,9 @@ impl Event {
     fn input(&self) -> Input<'_> {
         match self {
             Event::Message(sender, message) => Input::Message(*sender, message),
-            Event::Begin => Input::Begin,
-            Event::Resend => Input::Resend,
-            Event::CatchUp => Input::CatchUp,
+            Event::Begin => Input::Tick(Tick::Begin),
+            Event::Resend => Input::Tick(Tick::Resend),
+            Event::CatchUp => Input::Tick(Tick::CatchUp),
         }
     }
 }
@@ -127,7 +127,7 @@ impl<R: Records + Drop> Node<R> {
     {
         match input {
             Input::Message(sender, message) => self.member.hears(*sender, *message),
-            Input::Begin | Input::Resend | Input::CatchUp => true,
+            Input::Tick(_) => true,
         }
     }
 
@@ -151,7 +151,7 @@ impl<R: Records + Drop> Node<R> {
 
     // Why no ballot begins.
     pub(super) fn refuses_to_begin(&mut self, alloc: Global) -> Option<MemberFault> {
-        self.member.draft(alloc, &Input::Begin).err()
+        self.member.draft(alloc, &Input::Tick(Tick::Begin)).err()
     }
 
     // What comes of a draft, unless memory is refused.

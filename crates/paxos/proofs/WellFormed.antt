@@ -11,29 +11,12 @@ use Rattle.paxos.specs.Application.{Application}
 use Rattle.paxos.specs.Records.{Record, written}
 use Rattle.paxos.specs.Step.{Running, Effect, quiet, on_message, may_begin, begins, on_begin}
 use Rattle.paxos.specs.World.{Member, World, started, fresh, start, Event, Deliver, Begin, Resend, CatchUp, Submits, Asks, StopInDeliver, StopInBegin, Stop, Start, Choice, after, keeps_in, stops_in, settles, runs, takes, acts, delivers, begins_in, asks, restarts, starts, happens, Happening, run}
+use Rattle.paxos.specs.Sound.{IsAskedFor, Sound}
 use Rattle.paxos.specs.WellFormed.{IsMessage, IsRecord, IsCalledFor, IsState, IsWellFormed}
 use Rattle.paxos.proofs.Order.{below_self, most_trans}
 use Rattle.paxos.proofs.Lists.{has_cases, at_has, at_put, at_put_other, length_put, at_replicate}
 use Rattle.paxos.proofs.Steps.{Calls, Stepped, called_still, quiet_step, begin_step, begins_step, resend_step, catch_up_tick_step, message_step}
 use Rattle.paxos.proofs.Settled.{stops_in_step, settles_step, started_step}
-
--- a Prepare of the ballot has been sent
-pub record IsAskedFor (w : World) (b : Ballot) : Type 0 where
-  pub packet : Packet
-  pub from : ℕ
-  pub sent : Has w.sent packet
-  pub body : packet.body ≡ Prepare b from
-
--- What holds of n members after every list of events: as the law has it, and each Prepare that was ever sent is of a ballot that
--- its member has promised, or a higher one.
-pub record Sound (n : ℕ) (w : World) : Type 0 where
-  pub size : length w.members ≡ n
-  pub few : n ≤ most_members
-  pub sent : (k : Packet) → Has w.sent k → IsMessage n k
-  pub kept : (m : ℕ) (x : Member) → at w.members m ≡ Some x → IsRecord n x.kept
-  pub runs : (m : ℕ) (x : Member) (u : Running) → at w.members m ≡ Some x → x.running ≡ Some u → IsState n m x.kept u
-  pub called_for : (k : Packet) (x : Member) → Has w.sent k → at w.members k.target ≡ Some x → IsCalledFor x.kept k.body
-  pub asked : (b : Ballot) (x : Member) → IsAskedFor w b → at w.members b.member ≡ Some x → below x.kept.promise b ≡ false
 
 -- an element that is there has a number from 1 to the length
 pub at_number : {A : Type 0} (xs : List A) (m : ℕ) (x : A) → at xs m ≡ Some x → (1 ≤ m) × (m ≤ length xs)

@@ -7,5 +7,7 @@ pub mod Step
 pub mod World
 pub mod Agreement
 pub mod WellFormed
+pub mod Sound
+pub mod Smooth
 pub mod Proposable
 pub mod Examples

@@ -6,7 +6,7 @@ use Rattle.event_files.specs.EventFiles.{EventFileRead, EventFileTerm, event_fil
 use Rattle.paxq_run.specs.Play.{line_feed}
 use Rattle.paxq_run.proofs.Plays.{Appends-none}
 use Rattle.paxq_sim.specs.Play.{IsSimulated}
-use Rattle.paxq_sim.specs.Ran.{BytesRan, FileRan, ReadRan, WroteMemory}
+use Rattle.paxq_sim.specs.Ran.{FileRan, ReadRan, WroteMemory}
 
 module _ (out out' err err' : Option (List ℕ)) (status : ℕ) where
   -- memory was refused
@@ -19,7 +19,7 @@ module _ (out out' err err' : Option (List ℕ)) (status : ℕ) where
 
   -- a wrong line was reported
   pub wrote_wrong : (bytes : List ℕ) (number : ℕ) → file_of bytes ≡ wrong number
-      → ((status ≡ 1) × Appends err err' (codes "paxq: line " ++ decimal number ++ line_feed)) ⊎ ((status ≡ 4) × Appends err err' (codes "paxq: no memory" ++ line_feed)) → BytesRan bytes (out, out) (err, err') status
+      → ((status ≡ 1) × Appends err err' (codes "paxq: line " ++ decimal number ++ line_feed)) ⊎ ((status ≡ 4) × Appends err err' (codes "paxq: no memory" ++ line_feed)) → ReadRan (file_of bytes) (out, out) (err, err') status
   wrote_wrong bytes number e h = subst (λ (r : EventFileRead). ReadRan r (out, out) (err, err') status) (sym e) (by h)
     where
       by : ((status ≡ 1) × Appends err err' (codes "paxq: line " ++ decimal number ++ line_feed)) ⊎ ((status ≡ 4) × Appends err err' (codes "paxq: no memory" ++ line_feed)) → ReadRan (wrong number) (out, out) (err, err') status

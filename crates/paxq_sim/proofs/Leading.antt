@@ -16,8 +16,9 @@ use Rattle.paxos.specs.Application.{Application}
 use Rattle.paxos.specs.Examples.{silent}
 use Rattle.paxos.specs.Records.{Record}
 use Rattle.paxos.specs.World.{World as Whole, Deliver, Event as HappensThere, Run, fresh, start}
-use Rattle.paxos.proofs.WellFormed.{Sound, at_number}
-use Rattle.straight_runs.specs.Straight.{AllApplied}
+use Rattle.paxos.proofs.WellFormed.{at_number}
+use Rattle.paxos.specs.Sound.{Sound}
+use Rattle.paxos.specs.Smooth.{AllApplied}
 use Rattle.straight_runs.proofs.Lists.{at_each, length_each}
 use Rattle.world.specs.Placed.{AreOf}
 use Rattle.world.specs.Reached.{Follows, HappenedOver, Reached, ReachedBy, event_of}

@@ -10,8 +10,9 @@ use Rattle.paxos.specs.Application.{Application}
 use Rattle.paxos.specs.Knowledge.{news, prefix}
 use Rattle.paxos.specs.Records.{Write, Nothing, writes}
 use Rattle.paxos.specs.World.{World as Whole, Choice, Event, happens}
-use Rattle.paxos.proofs.WellFormed.{Sound, happens_sound}
-use Rattle.straight_runs.specs.Straight.{AllApplied}
+use Rattle.paxos.proofs.WellFormed.{happens_sound}
+use Rattle.paxos.specs.Sound.{Sound}
+use Rattle.paxos.specs.Smooth.{AllApplied}
 use Rattle.world.specs.Reached.{HappenedOver, actor, is_cut, store_at, write_in}
 use Rattle.world.specs.Seats.{fates_of as fates_in, later}
 use Rattle.world.specs.Shown.{World}

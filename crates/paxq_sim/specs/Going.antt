@@ -3,7 +3,7 @@ use Rattle.std.specs.Prelude.{◌≡◌, ◌+◌, ◌≤◌, ℕ, List, Some, ma
 use Rattle.records.specs.Script.{Script, Stands, fates_of}
 use Rattle.event_files.specs.declared.command.Command.{Command}
 use Rattle.event_files.specs.declared.first.Failure.{Failure}
-use Rattle.paxos.proofs.WellFormed.{Sound}
+use Rattle.paxos.specs.Sound.{Sound}
 use Rattle.paxos.specs.Application.{Application}
 use Rattle.paxos.specs.World.{World as Whole, Deliver}
 use Rattle.world.specs.Reached.{ReachedBy, store_at}

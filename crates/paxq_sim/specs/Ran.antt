@@ -1,5 +1,5 @@
 -- What is written for an event file, and the exit status.
-use Rattle.std.specs.Prelude.{◌≡◌, ℕ, ◌⊎◌, IfSome, List, [], ◌++◌, Option, codes}
+use Rattle.std.specs.Prelude.{◌≡◌, ℕ, ◌⊎◌, ¬, IfSome, IsUtf8, List, [], ◌++◌, Option, codes}
 use Rattle.std.specs.Fmt.{decimal}
 use Rattle.event_files.specs.EventFiles.{EventFileRead, EventFileTerm, event_file, wrong, file_of}
 use Rattle.paxq_run.specs.Play.{Ran, Run, Wrote, line_feed, unreadable_run}
@@ -30,10 +30,10 @@ abbrev pub ReadRan : EventFileRead → (output errors : Option (List ℕ) × Opt
 ReadRan (event_file f) output errors status = FileRan f output errors status
 ReadRan (wrong k) output errors status = Wrote output errors status (wrong_run k) ⊎ WroteMemory output errors status
 
--- so for bytes
-abbrev pub BytesRan : (bytes : List ℕ) (output errors : Option (List ℕ) × Option (List ℕ)) (status : ℕ) → Type 0
-BytesRan bytes output errors status = ReadRan (file_of bytes) output errors status
+-- so for bytes, or for a file that is no text in UTF-8
+abbrev pub BytesRan : (file bytes : List ℕ) (output errors : Option (List ℕ) × Option (List ℕ)) (status : ℕ) → Type 0
+BytesRan file bytes output errors status = (IsUtf8 bytes × ReadRan (file_of bytes) output errors status) ⊎ ((¬ (IsUtf8 bytes)) × Ran output errors (unreadable_run file) status)
 
 -- so for a file whose reader gives some bytes, where they are known; or the reader failed
 abbrev pub EventsRan : (file : List ℕ) (known : Option (List ℕ)) (output errors : Option (List ℕ) × Option (List ℕ)) (status : ℕ) → Type 0
-EventsRan file known output errors status = ((bytes : List ℕ) × IfSome known (λ given. bytes ≡ given) × BytesRan bytes output errors status) ⊎ Ran output errors (unreadable_run file) status
+EventsRan file known output errors status = ((bytes : List ℕ) × IfSome known (λ given. bytes ≡ given) × BytesRan file bytes output errors status) ⊎ Ran output errors (unreadable_run file) status

@@ -77,10 +77,12 @@ impl Numbers {
         }
     }
 
-    /// Forgets all of them.
-    pub(crate) fn clear(&mut self)
+    /// Forgets all of them, with the room that they had, which would be walked whole each time otherwise.
+    pub(crate) fn clear(&mut self, alloc: Global)
         ensures { self.new ≡ [] }
     {
-        self.set.clear();
+        if !self.set.is_empty() {
+            self.set = IndexSet::new(alloc);
+        }
     }
 }

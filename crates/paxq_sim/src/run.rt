@@ -1,10 +1,10 @@
 //! `paxq sim EVENTS`: a group of members in memory, as an event file says.
 
 ghost use Rattle.std.specs.Prelude.{All, IfOk, string_bytes};
-ghost use Rattle.event_files.specs.EventFiles.{file_term};
+ghost use Rattle.event_files.specs.EventFiles.{file_of, file_term};
 ghost use Rattle.event_files.specs.Within.{IsCommandOf};
 ghost use Rattle.paxq_sim.specs.Play.{IsSimulated};
-ghost use Rattle.paxq_sim.specs.Ran.{BytesRan, EventsRan, FileRan};
+ghost use Rattle.paxq_sim.specs.Ran.{BytesRan, EventsRan, FileRan, ReadRan};
 
 use super::report::report;
 use super::simulation::Simulation;
@@ -17,8 +17,8 @@ use std::io::{Read, Write};
 /// Simulates the event file that a reader gives, and answers the exit status.
 ///
 /// `file` is the file's name. What [`simulate`] prints is written to `output` (status 0), or the first wrong line of the file is
-/// reported to `errors` (status 1), or a reader that fails, as a file that cannot be read (status 1), or want of memory (status 4,
-/// and nothing is printed). An `Err` says that `output` or `errors` could not be written.
+/// reported to `errors` (status 1), or that the file cannot be read, where the reader fails or gives no text in UTF-8 (status 1), or
+/// want of memory (status 4, and nothing is printed). An `Err` says that `output` or `errors` could not be written.
 pub fn run_events<R: Read, W: Write, E: Write>(
     alloc: Global,
     file: &str,
@@ -29,22 +29,38 @@ pub fn run_events<R: Read, W: Write, E: Write>(
     ensures { IfOk result (EventsRan file.now (R.remaining reader.old) (W.contents output.old, W.contents output.new) (E.contents errors.old, E.contents errors.new)) }
 {
     match read_all(alloc, reader) {
-        Ok(bytes) => run_bytes(alloc, &bytes, output, errors),
+        Ok(bytes) => run_bytes(alloc, file, &bytes, output, errors),
         Err(ReadFault::Failed) => cannot_read(alloc, file, errors),
         Err(ReadFault::Memory) => no_memory(errors),
     }
 }
 
-/// Simulates the event file that bytes are, and answers the exit status.
+/// Simulates the event file that bytes are, if they are a text in UTF-8, and answers the exit status.
 fn run_bytes<W: Write, E: Write>(
     alloc: Global,
+    file: &str,
     bytes: &[u8],
     output: &mut W,
     errors: &mut E,
 ) -> io::Result<u8>
-    ensures { IfOk result (BytesRan bytes.now (W.contents output.old, W.contents output.new) (E.contents errors.old, E.contents errors.new)) }
+    ensures { IfOk result (BytesRan file.now bytes.now (W.contents output.old, W.contents output.new) (E.contents errors.old, E.contents errors.new)) }
 {
-    match read_event_file(alloc, bytes) {
+    match str::from_utf8(bytes) {
+        Ok(text) => run_text(alloc, text, output, errors),
+        Err(_) => cannot_read(alloc, file, errors),
+    }
+}
+
+/// Simulates the event file that a text is, and answers the exit status.
+fn run_text<W: Write, E: Write>(
+    alloc: Global,
+    text: &str,
+    output: &mut W,
+    errors: &mut E,
+) -> io::Result<u8>
+    ensures { IfOk result (ReadRan (file_of text.now) (W.contents output.old, W.contents output.new) (E.contents errors.old, E.contents errors.new)) }
+{
+    match read_event_file(alloc, text.as_bytes()) {
         Ok(file) => run_file(alloc, file, output, errors),
         Err(EventFileFault::Line(number)) => wrong_line(alloc, number, errors),
         Err(EventFileFault::Memory) => no_memory(errors),

@@ -10,9 +10,8 @@ ghost use Rattle.records.specs.Script.{IsKept, Script, Stands, fates_of};
 ghost use Rattle.paxos.specs.Application.{Application};
 ghost use Rattle.paxos.specs.Records.{Record};
 ghost use Rattle.paxos.specs.World.{World as Whole, Deliver};
-ghost use Rattle.straight_runs.specs.Straight.{AllApplied};
-ghost use Rattle.paxos.proofs.WellFormed.{Sound};
-ghost use Rattle.world.specs.Reached.{Follows, HappenedOver};
+ghost use Rattle.paxos.specs.Smooth.{AllApplied};
+ghost use Rattle.world.specs.Reached.{HasHappened};
 ghost use Rattle.world.specs.Shown.{Shows};
 ghost use Rattle.paxq_sim.specs.Going.{HasCome, IsDelivering};
 
@@ -48,7 +47,7 @@ impl Simulation {
         let _count = group.members.count();
         let stores = stores_of(alloc, group.members, failures)?;
         // These stores never fail when they are read: all that may be refused is memory.
-        match World::new(alloc, group.members, group.names, stores) {
+        match World::new(alloc, group.members, stores) {
             Ok(world) => Ok(Simulation {
                 world,
                 delivered: 0,
@@ -110,7 +109,7 @@ impl Simulation {
         while self.delivered < self.world.messages() as u64 {
             self.deliver_next(alloc)?;
         }
-        self.named.clear();
+        self.named.clear(alloc);
         Ok(())
     }
 
@@ -136,7 +135,7 @@ impl Simulation {
 
 /// Delivers the message of a number. It fails where memory is refused.
 fn deliver(alloc: Global, world: &mut World<ScriptRecords>, number: u64) -> Result<(), AllocError>
-    ensures happened { OnOk result ((app : Application) → KnowsNothing app → Follows Stands IsKept (Sound world.old.members) (HappenedOver (λ (s : Script). s.failures) fates_of world.old.seats world.new.seats app (Deliver number)) world.old world.new) }
+    ensures happened { OnOk result (HasHappened Stands IsKept (λ (s : Script). s.failures) fates_of (Deliver number) world.old world.new) }
     ensures applied { (kept : ℕ → Record) (v : Whole) → Shows world.new kept v → AllApplied v }
 {
     let event = Event::Deliver(number);

@@ -8,7 +8,8 @@ use Rattle.paxos.specs.Application.{Application}
 use Rattle.paxos.specs.Knowledge.{pair_of}
 use Rattle.paxos.specs.Step.{Running}
 use Rattle.paxos.specs.World.{World, told_to}
-use Rattle.straight_runs.specs.Straight.{SmoothRun, closing, closing_sent}
+use Rattle.paxos.specs.Smooth.{SmoothRun}
+use Rattle.straight_runs.specs.Straight.{closing, closing_sent}
 use Rattle.straight_runs.proofs.Phases.{learning}
 use Rattle.straight_runs.proofs.Smooth.{reaches_end}
 use Rattle.straight_runs.proofs.Sums.{closing_all}

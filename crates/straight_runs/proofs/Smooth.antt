@@ -16,7 +16,7 @@ use Rattle.paxos.specs.World.{Member, World, Cast, Told, Event, Deliver, Choice,
 use Rattle.paxos.proofs.Lists.{at_put, at_put_other, at_replicate, length_put}
 use Rattle.paxos.proofs.Worlds.{run_more}
 use Rattle.straight_runs.proofs.Prefixes.{prefix_empty}
-use Rattle.straight_runs.specs.Straight.{AllApplied, AllRun, IsSmooth, SmoothRun}
+use Rattle.paxos.specs.Smooth.{AllApplied, AllRun, IsSmooth, SmoothRun}
 
 -- a member that has heard these messages, leads this, and has applied all
 abbrev pub runs_with : (members : ℕ) → List Packet → Option Leader → Running

@@ -10,7 +10,8 @@ ghost use Rattle.paxos.specs.Examples.{deliveries, request};
 ghost use Rattle.paxos.specs.Knowledge.{pair_of};
 ghost use Rattle.paxos.specs.Step.{Running};
 ghost use Rattle.paxos.specs.World.{World, start, Event, Begin, Deliver, Submits, Choice, told_to, happens, Run};
-ghost use Rattle.straight_runs.specs.Straight.{AllApplied, AllRun, SmoothRun, opening, opening_sent, closing, closing_sent};
+ghost use Rattle.paxos.specs.Smooth.{AllApplied, AllRun, SmoothRun};
+ghost use Rattle.straight_runs.specs.Straight.{opening, opening_sent, closing, closing_sent};
 
 /// A smooth run is one of the protocol. It begins with no event, and goes on by an event at which no store fails, or none that stops
 /// a member, and after which each member has applied all that it has learnt without a gap.

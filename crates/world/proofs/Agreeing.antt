@@ -8,7 +8,7 @@ use Rattle.world.specs.Reached.{Reached}
 use Rattle.world.specs.Runs.{Agrees}
 use Rattle.world.specs.Shown.{World}
 
-pub agrees : {R : Type 0} (stands : R → Record → Record → Type 0) (w : World R) (app : Application) (events : List Happens) → Reached stands app w events → Agrees w
+pub agrees : {R : Type 0} (stands : R → Record → Record → Type 0) (w : World R) (app : Application) (events : List Happens) → Reached stands app w events → Agrees app w events
 agrees stands w app events reached =
     let led = reached.runs reached.first (λ k. inl refl) in
-    (led.0, reached.first, led.2, each_run_agrees app w.members events led.0 led.1)
+    (led.0, reached.first, led.1, led.2, each_run_agrees app w.members events led.0 led.1)

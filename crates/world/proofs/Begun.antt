@@ -10,7 +10,7 @@ use Rattle.paxos.specs.Records.{Record}
 use Rattle.paxos.specs.WellFormed.{IsRecord}
 use Rattle.paxos.specs.World.{World as Whole, Run, fresh, start, started}
 use Rattle.paxos.proofs.Lists.{at_replicate}
-use Rattle.straight_runs.specs.Straight.{SmoothRun}
+use Rattle.paxos.specs.Smooth.{SmoothRun}
 use Rattle.straight_runs.proofs.Smooth.{smooth_none, smooth_run}
 use Rattle.world.specs.Placed.{AreOf, ArePlaced, IsOf, IsPlaced}
 use Rattle.world.specs.Reached.{Reached, ReachedBy, ReachedSmoothly}

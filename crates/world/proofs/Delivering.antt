@@ -10,7 +10,7 @@ use Rattle.paxos.specs.Records.{Record, Write, Nothing, writes}
 use Rattle.paxos.specs.Step.{Running, Effect, on_message}
 use Rattle.paxos.specs.World.{World as Whole, Choice, Deliver, StopInDeliver, acts, delivers, keeps_in, settles, stops_in}
 use Rattle.paxos.proofs.Lists.{at_has}
-use Rattle.paxos.proofs.WellFormed.{Sound}
+use Rattle.paxos.specs.Sound.{Sound}
 use Rattle.world.specs.Reached.{Follows, HappenedIf, reader, write_upon}
 use Rattle.world.specs.Seats.{SkipsAt}
 use Rattle.world.specs.Shown.{World, AreSeats, Shows}

@@ -16,7 +16,8 @@ use Rattle.paxos.specs.WellFormed.{IsMessage, IsSender, IsCalledFor, IsState, Is
 use Rattle.paxos.specs.World.{World as Whole, Member as Part, Choice, acts, may_fail, settles, stops_in, takes}
 use Rattle.paxos.proofs.Lists.{has_flat, has_map}
 use Rattle.paxos.proofs.Steps.{message_is_step, begin_is_step, resend_is_step, catch_up_is_step}
-use Rattle.paxos.proofs.WellFormed.{Sound, at_number}
+use Rattle.paxos.proofs.WellFormed.{at_number}
+use Rattle.paxos.specs.Sound.{Sound}
 use Rattle.world.specs.Seats.{IsFit, IsPart, MayHear, MayStep}
 use Rattle.world.specs.Shown.{World, Shows}
 use Rattle.world.specs.Reached.{IsDue, write_at}

@@ -7,7 +7,7 @@ use Rattle.paxos.specs.Application.{Application}
 use Rattle.paxos.specs.Examples.{silent}
 use Rattle.paxos.specs.Records.{Record, Write}
 use Rattle.paxos.specs.World.{World as Whole, Event as Happens}
-use Rattle.paxos.proofs.WellFormed.{Sound}
+use Rattle.paxos.specs.Sound.{Sound}
 use Rattle.world.specs.Reached.{Follows, Happened, HappenedIf, Reached, ReachedSmoothly, Stays}
 use Rattle.world.specs.Runs.{AllRun, LeadsTo, LeadsSmoothly}
 use Rattle.world.specs.Shown.{World, AreSeats}

@@ -18,7 +18,7 @@ use Rattle.paxos.specs.Records.{Record, Write, writes}
 use Rattle.paxos.specs.Step.{Effect}
 use Rattle.paxos.specs.World.{Member as Part, World as Whole, told_to}
 use Rattle.paxos.proofs.Lists.{at_put, at_put_other, length_put}
-use Rattle.paxos.proofs.WellFormed.{Sound}
+use Rattle.paxos.specs.Sound.{Sound}
 use Rattle.paxos.proofs.Worlds.{put-same}
 use Rattle.world.specs.Posts.{IsWhole, packet_of, sent_in}
 use Rattle.world.specs.declared.mail.Delivery.{Delivery}

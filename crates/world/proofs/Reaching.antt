@@ -9,10 +9,11 @@ use Rattle.paxos.specs.Lists.{at}
 use Rattle.paxos.specs.Records.{Record, Write}
 use Rattle.paxos.specs.Step.{Running}
 use Rattle.paxos.specs.World.{World as Whole, Member as Part, Event as Happens, Run, happens, start}
-use Rattle.paxos.proofs.WellFormed.{Sound, run_sound, start_sound}
+use Rattle.paxos.proofs.WellFormed.{run_sound, start_sound}
+use Rattle.paxos.specs.Sound.{Sound}
 use Rattle.paxos.proofs.Worlds.{Run-more}
-use Rattle.straight_runs.specs.Straight as straight
-use Rattle.straight_runs.specs.Straight.{SmoothRun}
+use Rattle.paxos.specs.Smooth as smooth
+use Rattle.paxos.specs.Smooth.{SmoothRun}
 use Rattle.straight_runs.proofs.Smooth.{smooth_more, smooth_run}
 use Rattle.world.specs.Runs.{AllRun}
 use Rattle.world.specs.Seats.{IsPart, IsSeat}
@@ -50,12 +51,12 @@ module _ {R : Type 0} (new : World R) (size : length new.seats ≡ new.members) 
   seat_of : (now : ℕ → Record) (z : Whole) (m : ℕ) (y : Part) → Shows new now z → at z.members m ≡ Some y → (s : Seat R) × (at new.seats m ≡ Some s) × IsPart s (now m) y
   seat_of now z m y s h = let there = some_at z.members new.seats m y (sym s.size) h in (there.0, there.1, s.parts m there.0 y there.1 h)
 
-  pub all_applied : (now : ℕ → Record) (z : Whole) → Shows new now z → straight.AllApplied z
+  pub all_applied : (now : ℕ → Record) (z : Whole) → Shows new now z → smooth.AllApplied z
   all_applied now z s m y u h r =
       let t = seat_of now z m y s h in
       subst (λ n. u.applied ≡ prefix n (news u.heard)) (sym (s.size ∙ size)) (applied_at t.0 (now m) y u new.members m (seats m t.0 t.1) t.2 r)
 
-  all_run : AllRun new → (now : ℕ → Record) (z : Whole) → Shows new now z → straight.AllRun z
+  all_run : AllRun new → (now : ℕ → Record) (z : Whole) → Shows new now z → smooth.AllRun z
   all_run run now z s m y h =
       let t = seat_of now z m y s h in
       runs_at t.0 (now m) y (run m t.0 t.1) t.2

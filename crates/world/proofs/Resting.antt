@@ -4,7 +4,7 @@ use Rattle.std.specs.Prelude.{if◌then◌else◌}
 use Rattle.ballots.specs.Ballot.{most_members}
 use Rattle.ballots.specs.Messages.{Packet, Submit, packet}
 use Rattle.ballots.specs.Terms.{Request}
-use Rattle.member.specs.Steps.{IsNoQuestion, IsThis, Member}
+use Rattle.member.specs.Steps.{IsNoQuestion, IsThis, Member, ticked}
 use Rattle.member.specs.declared.draft.Draft.{Draft}
 use Rattle.paxos.specs.Lists.{at, Has}
 use Rattle.paxos.specs.Application.{Application}
@@ -12,14 +12,14 @@ use Rattle.paxos.specs.Records.{Record, Write, Nothing, writes}
 use Rattle.paxos.specs.Step.{Running, Effect, quiet, may_begin, begins, on_begin, on_message, on_resend, on_catch_up_tick}
 use Rattle.paxos.specs.World.{World as Whole, Member as Part, Choice, Begin, CatchUp, Deliver, Resend, Start, Stop, StopInBegin, StopInDeliver, Submits, acts, asks, begins_in, delivers, happens, keeps_in, restarts, settles, starts, stops_in}
 use Rattle.paxos.proofs.Lists.{has_cases}
-use Rattle.paxos.proofs.WellFormed.{Sound}
+use Rattle.paxos.specs.Sound.{Sound}
 use Rattle.paxos.proofs.Worlds.{acts-there, quiet-same}
 use Rattle.world.specs.Reached.{Follows, HappenedIf, IsDue, Steps, event_of, is_cut, reader, write_at, write_in, write_upon}
-use Rattle.world.specs.Seats.{IsPlanned, IsSeat, MayStep, Skips, ticked}
+use Rattle.world.specs.Seats.{IsPlanned, IsSeat, MayStep, Skips}
 use Rattle.world.specs.Shown.{World, Shows}
 use Rattle.world.specs.declared.event.Event.TheVariants as event
-use Rattle.world.specs.declared.event.Tick.{Tick}
-use Rattle.world.specs.declared.event.Tick.TheVariants as tick
+use Rattle.member.specs.declared.input.Tick.{Tick}
+use Rattle.member.specs.declared.input.Tick.TheVariants as tick
 use Rattle.world.specs.declared.seat.Seat.{Seat}
 use Rattle.world.proofs.Happening.{begins_step, catches_up, resends}
 use Rattle.world.proofs.Idling.{part_of, stopped_silent, stopped_still}

@@ -7,7 +7,7 @@ use Rattle.paxos.specs.Records.{Record, Write, writes}
 use Rattle.paxos.specs.Step.{Running}
 use Rattle.paxos.specs.World.{World as Whole, Start, Stop, StopInBegin, StopInDeliver}
 use Rattle.paxos.proofs.Lists.{at_has}
-use Rattle.paxos.proofs.WellFormed.{Sound}
+use Rattle.paxos.specs.Sound.{Sound}
 use Rattle.member.specs.Drafts.{IsSpent}
 use Rattle.member.specs.Steps.{Begins, Hears, IsHeard, IsThis, Member}
 use Rattle.world.specs.Posts.{sent_in}

@@ -4,7 +4,7 @@ use Rattle.std.specs.List.{list_all}
 use Rattle.std.proofs.lemmas.Bool.{false≢true, cases_lt, cases_eq, le-leb, lt-leb, eq-eqb, ne_eqb}
 use Rattle.std.proofs.lemmas.Option.{none-some, same_Some}
 use Rattle.ballots.specs.Terms.{Request}
-use Rattle.member.specs.Steps.{KnowsNothing, Member}
+use Rattle.member.specs.Steps.{IsThis, KnowsNothing, Member}
 use Rattle.paxos.specs.Application.{Application}
 use Rattle.paxos.specs.Examples.{deliveries}
 use Rattle.paxos.specs.Lists.{at}
@@ -16,6 +16,7 @@ use Rattle.straight_runs.proofs.Ends.{all_sent, applied, told}
 use Rattle.straight_runs.proofs.Lists.{at-left, at-right}
 use Rattle.world.specs.Reached.{ReachedSmoothly}
 use Rattle.world.specs.Runs.{AllRun, HasDone, IsStraight, LeadsTo, OneStopped, StopsAt, straight_event, straight_run}
+use Rattle.world.specs.Seats.{IsPart}
 use Rattle.world.specs.Shown.{World}
 use Rattle.world.specs.declared.fault.WorldFault.{WorldFault}
 use Rattle.world.specs.declared.fault.WorldFault.TheVariants as fault
@@ -107,6 +108,14 @@ one_stopped {R} w = found w.seats
         by false q rest = (1, t, refl, none_there t.member q)
         by true q rest = let o = rest (sym (ap (λ b. b && list_all (λ (s : Seat R). is_some s.member) seats) q) ∙ h) in (suc o.0, o.1, later o.0 o.1 o.2, o.3)
 
+-- Where the part of a seat runs and has applied one position, so does the member that sits there.
+one_applied : {R : Type 0} (s : Seat R) (kept : Record) (y : Part) → IsPart s kept y → (r : Running) → y.running ≡ Some r → r.applied ≡ 1 → (o : Option (Member R)) → s.member ≡ o
+    → (x : Member R) × (s.member ≡ Some x) × (u : Running) × IsThis u x × (u.applied ≡ 1)
+one_applied s kept y p r q a None e = absurd (none-some r (sym (p.stopped e) ∙ q))
+one_applied s kept y p r q a (Some x) e =
+    let u = p.running x e in
+    (x, e, u.0, u.2, sym (ap (λ (v : Running). v.applied) (same_Some r u.0 (sym q ∙ u.1))) ∙ a)
+
 module _ {R : Type 0} (stands : R → Record → Record → Type 0) (is_kept : R → Type 0) where
   -- What happened before, and an event that a fault stops, are some of the events.
   pub stopped_at : (old mid new : World R) (events : List Happens) (i : ℕ) (e : Happens) (fault : WorldFault) → i < length events → slice_get events i ≡ Some e
@@ -119,11 +128,6 @@ module _ {R : Type 0} (stands : R → Record → Record → Type 0) (is_kept : R
   stopped_at old mid new events i e fault.Store l h was s =
       (suc i, omega arith, subst (LeadsTo stands is_kept old new) (sym (take_more events i e h)) (leads_join stands is_kept old mid new (take i events) (e ∷ []) was s.0), s.1)
 
-  -- All events have happened, and then it stopped.
-  pub stopped_after : (old new : World R) (events : List Happens) (before done : ℕ) → before ≤ done → done ≤ before → done ≡ length events → LeadsTo stands is_kept old new (take before events)
-      → HasDone stands is_kept old new events (fault.Memory done)
-  stopped_after old new events before done least most all l = (omega (arith, all), subst (λ k. LeadsTo stands is_kept old new (take k events)) (omega (arith, least, most)) l)
-
   -- What the straight run of a fresh world has come to.
   pub ends_straight : (app : Application) → KnowsNothing app → (w : World R) (m : ℕ) (q : Request) → 1 ≤ m → m ≤ w.members → length w.seats ≡ w.members
       → ReachedSmoothly stands app w (straight_run w.members m q) → IsStraight w q (w.members * w.members + 3 * w.members + 1)
@@ -132,14 +136,13 @@ module _ {R : Type 0} (stands : R → Record → Record → Type 0) (is_kept : R
       record {
         sent = ap length (sym led.2.sent) ∙ all_sent app w.members m q led.0 least most (nothing [] q.client q.number) led.1;
         told = sym led.2.told ∙ told app w.members m q led.0 least most (nothing [] q.client q.number) led.1;
-        applied = λ k s x h e.
+        size = size;
+        applied = λ k s h.
             let y = some_at w.seats led.0.members k s led.2.size h in
             let p = led.2.parts k s y.0 h y.1 in
-            let u = p.running x e in
             let a = applied app w.members m q k led.0 least most (at_least w.seats k s h) (subst (λ j. k ≤ j) size (at_most w.seats k s h)) (nothing [] q.client q.number) led.1 in
             let same_part : a.1.is ≡ y.0 = same_Some a.1.is y.0 (sym a.1.there ∙ y.1) in
-            let same_running : a.0 ≡ u.0 = same_Some a.0 u.0 (sym a.1.running ∙ ap (λ (z : Part). z.running) same_part ∙ u.1) in
-            (u.0, u.2, sym (ap (λ (v : Running). v.applied) same_running) ∙ a.2);
+            one_applied s (r.first k) y.0 p a.0 (ap (λ (z : Part). z.running) (sym same_part) ∙ a.1.running) a.2 s.member refl;
       }
     where
       at_least : {A : Type 0} (xs : List A) (k : ℕ) (x : A) → at xs k ≡ Some x → 1 ≤ k

@@ -3,18 +3,19 @@ use Rattle.std.specs.Prelude.{◌≡◌, ℕ, Bool, true, false, List, Option, S
 use Rattle.std.specs.Option.{option_and_then}
 use Rattle.records.specs.Law.{Fate}
 use Rattle.ballots.specs.Messages.{Packet}
-use Rattle.member.specs.Steps.{Input, Hears}
+use Rattle.member.specs.Steps.{Input, Hears, KnowsNothing}
 use Rattle.paxos.specs.Lists.{at, Has}
 use Rattle.paxos.specs.Step.{Running, Effect, on_begin, on_message}
 use Rattle.paxos.specs.Application.{Application}
 use Rattle.paxos.specs.Records.{Record, Write, Nothing}
+use Rattle.paxos.specs.Sound.{Sound}
 use Rattle.paxos.specs.World as protocol
 use Rattle.paxos.specs.World.{World as Whole, Member as Part, Event as Happens, Run, after, start}
-use Rattle.straight_runs.specs.Straight.{SmoothRun}
+use Rattle.paxos.specs.Smooth.{SmoothRun}
 use Rattle.world.specs.declared.event.Event.{Event}
 use Rattle.world.specs.declared.event.Event.TheVariants as event
 use Rattle.world.specs.declared.event.Step.TheVariants as step
-use Rattle.world.specs.declared.event.Tick.TheVariants as tick
+use Rattle.member.specs.declared.input.Tick.TheVariants as tick
 use Rattle.world.specs.Seats.{Did, IsPart, fates_of, store_in}
 use Rattle.world.specs.declared.seat.Seat.{Seat}
 use Rattle.world.specs.Shown.{World, AllStand, AreKept, Picks, Shows}
@@ -130,6 +131,14 @@ pub record HaveDone {R : Type 0} (failed : R → ℕ) (fates : R → ℕ → Fat
 -- the event happens, and each store has done in it what was known of it before
 abbrev pub HappenedOver : {R : Type 0} → (failed : R → ℕ) → (fates : R → ℕ → Fate) → (old new : List (Seat R)) → Application → Happens → Whole → Whole → Type 0
 HappenedOver failed fates old new app e v z = HappenedIf (HaveDone failed fates (is_cut e) old new) app e v z
+
+-- nothing that shows has changed
+abbrev pub IsUnmoved : {R : Type 0} → (stands : R → Record → Record → Type 0) → (is_kept : R → Type 0) → (old new : World R) → Type 0
+IsUnmoved stands is_kept old new = Follows stands is_kept (Sound old.members) Stays old new
+
+-- The event has happened, whatever the application answers, as long as it keeps no replies; each store has done in it what was known of it.
+abbrev pub HasHappened : {R : Type 0} → (stands : R → Record → Record → Type 0) → (is_kept : R → Type 0) → (failed : R → ℕ) → (fates : R → ℕ → Fate) → Happens → (old new : World R) → Type 0
+HasHappened stands is_kept failed fates e old new = (app : Application) → KnowsNothing app → Follows stands is_kept (Sound old.members) (HappenedOver failed fates old.seats new.seats app e) old new
 
 -- The member that sits there takes a step with an effect that may be, in a world that is shown.
 pub record Steps {R : Type 0} (old : World R) (s : Seat R) (m : ℕ) (May : Part → Effect → Type 0) (v z : Whole) : Type 0 where

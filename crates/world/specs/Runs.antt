@@ -12,7 +12,7 @@ use Rattle.paxos.specs.Lists.{at}
 use Rattle.paxos.specs.Records.{Record}
 use Rattle.paxos.specs.Step.{Running}
 use Rattle.paxos.specs.World as protocol
-use Rattle.paxos.specs.World.{World as Whole, Event as Happens, fresh, told_to}
+use Rattle.paxos.specs.World.{World as Whole, Event as Happens, Run, fresh, start, told_to}
 use Rattle.straight_runs.specs.Straight.{closing}
 use Rattle.world.specs.Reached.{Reached, ReachedSmoothly}
 use Rattle.world.specs.Shown.{World, AreKept, Shows}
@@ -71,9 +71,10 @@ member_at {R} seats m = option_and_then (λ (s : Seat R). s.member) (at seats m)
 abbrev pub AllRun : {R : Type 0} → World R → Type 0
 AllRun {R} w = (m : ℕ) (s : Seat R) → at w.seats m ≡ Some s → IsSome s.member
 
--- Agreement holds for what code holds, in a world of the protocol that it shows.
-abbrev pub Agrees : {R : Type 0} → World R → Type 0
-Agrees w = (v : Whole) × (kept : ℕ → Record) × Shows w kept v × Agreement v
+-- Agreement holds for what code holds: these events have led to a world of the protocol that it shows, with all votes that were recorded
+-- in them, and there each value that was told is chosen, and no position has two.
+abbrev pub Agrees : {R : Type 0} → Application → World R → List Happens → Type 0
+Agrees app w events = (v : Whole) × (kept : ℕ → Record) × Run app (start w.members) events v × Shows w kept v × Agreement v
 
 -- The straight run of n members: one begins and all is delivered, a request is submitted to it and all is delivered.
 abbrev pub straight_run : (members member : ℕ) → Request → List Happens
@@ -90,9 +91,10 @@ StopsAt stands is_kept old new e i (fault.Memory done) = (done ≡ i) × LeadsTo
 StopsAt stands is_kept old new e i fault.Member = ⊥
 StopsAt stands is_kept old new e i fault.Store = LeadsTo stands is_kept old new (e ∷ []) × OneStopped new
 
--- What a straight run of a fresh world has led to: so many messages, each member was told the request at position 1, once, and has
+-- What a straight run of a fresh world has led to: so many messages; each member was told the request at position 1, once, runs, and has
 -- applied just that.
 pub record IsStraight {R : Type 0} (w : World R) (request : Request) (messages : ℕ) : Type 0 where
   pub sent : length w.sent ≡ messages
   pub told : w.told ≡ map (λ m. told_to m (pair_of 1 (Of request))) (up_to w.members)
-  pub applied : (m : ℕ) (s : Seat R) (x : Member R) → at w.seats m ≡ Some s → s.member ≡ Some x → (u : Running) × IsThis u x × (u.applied ≡ 1)
+  pub size : length w.seats ≡ w.members
+  pub applied : (m : ℕ) (s : Seat R) → at w.seats m ≡ Some s → (x : Member R) × (s.member ≡ Some x) × (u : Running) × IsThis u x × (u.applied ≡ 1)

@@ -5,7 +5,7 @@ use Rattle.ballots.specs.Messages.{Packet}
 use Rattle.ballots.specs.declared.value.Pair.{Pair}
 use Rattle.records.specs.Law.{Fate, Grew, passing}
 use Rattle.member.specs.Drafts.{IsDrafted, IsReady, IsSpent}
-use Rattle.member.specs.Steps.{Input, Begins, Resends, CatchesUp, Member, IsExpected, IsHeard, IsThis, all_packets, effect_of}
+use Rattle.member.specs.Steps.{Input, Member, IsExpected, IsHeard, IsThis, all_packets, effect_of}
 use Rattle.member.specs.declared.draft.Draft.{Draft}
 use Rattle.member.specs.declared.outcome.Outcome.{Outcome}
 use Rattle.paxos.specs.Lists.{at}
@@ -14,8 +14,6 @@ use Rattle.paxos.specs.Records.{Record, Write, Nothing, writes, written}
 use Rattle.paxos.specs.Step.{Running, Effect, quiet}
 use Rattle.paxos.specs.WellFormed.{IsRecord}
 use Rattle.paxos.specs.World.{Member as Part, Choice, keeps_in, settles, started, stops_in}
-use Rattle.world.specs.declared.event.Tick.{Tick}
-use Rattle.world.specs.declared.event.Tick.TheVariants as tick
 use Rattle.world.specs.declared.seat.Seat.{Seat}
 
 -- the member that sits there, if one does, is the one of that number, and its acceptor runs
@@ -105,12 +103,6 @@ IsPlannedAt {R} seats m i d = (s : Seat R) × (at seats m ≡ Some s) × IsPlann
 
 abbrev pub SkipsAt : {R : Type 0} → List (Seat R) → (number : ℕ) → Input → Type 0
 SkipsAt {R} seats m i = (s : Seat R) × (at seats m ≡ Some s) × Skips s i
-
--- the input of a tick
-abbrev pub ticked : Tick → Input
-ticked tick.Begin = Begins
-ticked tick.Resend = Resends
-ticked tick.CatchUp = CatchesUp
 
 -- any member of the protocol's world
 abbrev pub IsAny : Part → Type 0

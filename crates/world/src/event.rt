@@ -5,17 +5,7 @@ ghost use Rattle.std.specs.List.{list_all};
 ghost use Rattle.world.specs.Runs.{is_for, named};
 
 use ballots::{Members, Request};
-
-/// What comes to a member by the clock.
-#[derive(Clone, Copy, PartialEq, Eq, Debug)]
-pub enum Tick {
-    /// Begin a ballot.
-    Begin,
-    /// Say again what may have been lost, at a leader.
-    Resend,
-    /// Ask the others for what is chosen.
-    CatchUp,
-}
+use member::Tick;
 
 /// A step in whose write a member stops.
 #[derive(Clone, Copy, PartialEq, Eq, Debug)]

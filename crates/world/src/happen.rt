@@ -2,21 +2,19 @@
 
 ghost use Rattle.std.specs.Prelude.{◌≡◌, ◌<◌, ◌≤◌, true, None, Some, IfSome, OnErr, OnOk};
 ghost use Rattle.ballots.specs.Messages.{Packet};
-ghost use Rattle.member.specs.Steps.{KnowsNothing};
-ghost use Rattle.paxos.specs.Application.{Application};
 ghost use Rattle.paxos.specs.World.{Deliver, Start, Stop, StopInBegin, StopInDeliver, Submits};
-ghost use Rattle.paxos.proofs.WellFormed.{Sound};
 ghost use Rattle.paxos.specs.Lists.{at};
 ghost use Rattle.world.specs.Posts.{sent_in};
 ghost use Rattle.world.specs.Held.{IsDeliveryOf, IsHeld, shown};
-ghost use Rattle.world.specs.Reached.{Follows, HappenedOver, Stays, event_of};
+ghost use Rattle.world.specs.Reached.{HasHappened, IsUnmoved, event_of};
 ghost use Rattle.world.specs.Runs.{is_for};
 ghost use Rattle.world.specs.declared.event.Event.TheVariants as event;
 
-use crate::event::{Event, Step, Tick};
+use crate::event::{Event, Step};
 use crate::mail::Delivery;
 use crate::state::State;
 use ballots::{Message, Request};
+use member::Tick;
 use records::Records;
 use std::alloc::{AllocError, Global};
 
@@ -41,8 +39,8 @@ impl<R: Records + Drop> State<R> {
     pub(super) fn deliver(&mut self, alloc: Global, number: u64) -> Result<(), AllocError>
         requires held { IsHeld self.old }
         ensures held { IsHeld self.new }
-        ensures happened { OnOk result ((app : Application) → KnowsNothing app → Follows R.stands R.is_kept (Sound self.old.members) (HappenedOver R.failed R.fates self.old.seats.items self.new.seats.items app (Deliver number)) (shown self.old) (shown self.new)) }
-        ensures refused { OnErr result (Follows R.stands R.is_kept (Sound self.old.members) Stays (shown self.old) (shown self.new)) }
+        ensures happened { OnOk result (HasHappened R.stands R.is_kept R.failed R.fates (Deliver number) (shown self.old) (shown self.new)) }
+        ensures refused { OnErr result (IsUnmoved R.stands R.is_kept (shown self.old) (shown self.new)) }
     {
         let Some(delivery) = self.to_member(number) else {
             return Ok(());
@@ -66,8 +64,8 @@ impl<R: Records + Drop> State<R> {
         requires least { 1 ≤ number }
         requires most { number ≤ self.old.members }
         ensures held { IsHeld self.new }
-        ensures happened { OnOk result ((app : Application) → KnowsNothing app → Follows R.stands R.is_kept (Sound self.old.members) (HappenedOver R.failed R.fates self.old.seats.items self.new.seats.items app (event_of (event.Tick number tick))) (shown self.old) (shown self.new)) }
-        ensures refused { OnErr result (Follows R.stands R.is_kept (Sound self.old.members) Stays (shown self.old) (shown self.new)) }
+        ensures happened { OnOk result (HasHappened R.stands R.is_kept R.failed R.fates (event_of (event.Tick number tick)) (shown self.old) (shown self.new)) }
+        ensures refused { OnErr result (IsUnmoved R.stands R.is_kept (shown self.old) (shown self.new)) }
     {
         let Some(draft) = self.tick(alloc, number, tick)? else {
             return Ok(());
@@ -81,7 +79,7 @@ impl<R: Records + Drop> State<R> {
         requires least { 1 ≤ number }
         requires most { number ≤ self.old.members }
         ensures held { IsHeld self.new }
-        ensures happened { (app : Application) → KnowsNothing app → Follows R.stands R.is_kept (Sound self.old.members) (HappenedOver R.failed R.fates self.old.seats.items self.new.seats.items app (Stop number)) (shown self.old) (shown self.new) }
+        ensures happened { HasHappened R.stands R.is_kept R.failed R.fates (Stop number) (shown self.old) (shown self.new) }
     {
         self.stop(number);
     }
@@ -94,8 +92,8 @@ impl<R: Records + Drop> State<R> {
         requires least { 1 ≤ number }
         requires most { number ≤ self.old.members }
         ensures held { IsHeld self.new }
-        ensures happened { OnOk result ((app : Application) → KnowsNothing app → Follows R.stands R.is_kept (Sound self.old.members) (HappenedOver R.failed R.fates self.old.seats.items self.new.seats.items app (StopInBegin number true)) (shown self.old) (shown self.new)) }
-        ensures refused { OnErr result (Follows R.stands R.is_kept (Sound self.old.members) Stays (shown self.old) (shown self.new)) }
+        ensures happened { OnOk result (HasHappened R.stands R.is_kept R.failed R.fates (StopInBegin number true) (shown self.old) (shown self.new)) }
+        ensures refused { OnErr result (IsUnmoved R.stands R.is_kept (shown self.old) (shown self.new)) }
     {
         let Some(draft) = self.tick(alloc, number, Tick::Begin)? else {
             self.stop(number);
@@ -117,8 +115,8 @@ impl<R: Records + Drop> State<R> {
         requires least { 1 ≤ number }
         requires most { number ≤ self.old.members }
         ensures held { IsHeld self.new }
-        ensures happened { OnOk result ((app : Application) → KnowsNothing app → Follows R.stands R.is_kept (Sound self.old.members) (HappenedOver R.failed R.fates self.old.seats.items self.new.seats.items app (StopInBegin number kept)) (shown self.old) (shown self.new)) }
-        ensures refused { OnErr result (Follows R.stands R.is_kept (Sound self.old.members) Stays (shown self.old) (shown self.new)) }
+        ensures happened { OnOk result (HasHappened R.stands R.is_kept R.failed R.fates (StopInBegin number kept) (shown self.old) (shown self.new)) }
+        ensures refused { OnErr result (IsUnmoved R.stands R.is_kept (shown self.old) (shown self.new)) }
     {
         if kept {
             return self.stop_beginning(alloc, number);
@@ -139,8 +137,8 @@ impl<R: Records + Drop> State<R> {
         requires held { IsHeld self.old }
         requires there { IsDeliveryOf (shown self.old) number self.old.mail delivery }
         ensures held { IsHeld self.new }
-        ensures happened { OnOk result ((app : Application) → KnowsNothing app → Follows R.stands R.is_kept (Sound self.old.members) (HappenedOver R.failed R.fates self.old.seats.items self.new.seats.items app (StopInDeliver number true)) (shown self.old) (shown self.new)) }
-        ensures refused { OnErr result (Follows R.stands R.is_kept (Sound self.old.members) Stays (shown self.old) (shown self.new)) }
+        ensures happened { OnOk result (HasHappened R.stands R.is_kept R.failed R.fates (StopInDeliver number true) (shown self.old) (shown self.new)) }
+        ensures refused { OnErr result (IsUnmoved R.stands R.is_kept (shown self.old) (shown self.new)) }
     {
         let Some(draft) = self.hear(alloc, delivery)? else {
             self.stop(delivery.target);
@@ -160,8 +158,8 @@ impl<R: Records + Drop> State<R> {
     ) -> Result<(), AllocError>
         requires held { IsHeld self.old }
         ensures held { IsHeld self.new }
-        ensures happened { OnOk result ((app : Application) → KnowsNothing app → Follows R.stands R.is_kept (Sound self.old.members) (HappenedOver R.failed R.fates self.old.seats.items self.new.seats.items app (StopInDeliver number kept)) (shown self.old) (shown self.new)) }
-        ensures refused { OnErr result (Follows R.stands R.is_kept (Sound self.old.members) Stays (shown self.old) (shown self.new)) }
+        ensures happened { OnOk result (HasHappened R.stands R.is_kept R.failed R.fates (StopInDeliver number kept) (shown self.old) (shown self.new)) }
+        ensures refused { OnErr result (IsUnmoved R.stands R.is_kept (shown self.old) (shown self.new)) }
     {
         let Some(delivery) = self.to_member(number) else {
             return Ok(());
@@ -181,8 +179,8 @@ impl<R: Records + Drop> State<R> {
         requires least { 1 ≤ number }
         requires most { number ≤ self.old.members }
         ensures held { IsHeld self.new }
-        ensures happened { OnOk result ((app : Application) → KnowsNothing app → Follows R.stands R.is_kept (Sound self.old.members) (HappenedOver R.failed R.fates self.old.seats.items self.new.seats.items app (Start number)) (shown self.old) (shown self.new)) }
-        ensures refused { OnErr result (Follows R.stands R.is_kept (Sound self.old.members) Stays (shown self.old) (shown self.new)) }
+        ensures happened { OnOk result (HasHappened R.stands R.is_kept R.failed R.fates (Start number) (shown self.old) (shown self.new)) }
+        ensures refused { OnErr result (IsUnmoved R.stands R.is_kept (shown self.old) (shown self.new)) }
     {
         self.start(alloc, number)
     }
@@ -195,22 +193,22 @@ impl<R: Records + Drop> State<R> {
         requires least { 1 ≤ number }
         requires most { number ≤ self.old.members }
         ensures held { IsHeld self.new }
-        ensures happened { OnOk result ((app : Application) → KnowsNothing app → Follows R.stands R.is_kept (Sound self.old.members) (HappenedOver R.failed R.fates self.old.seats.items self.new.seats.items app (Submits number request.now)) (shown self.old) (shown self.new)) }
-        ensures refused { OnErr result (Follows R.stands R.is_kept (Sound self.old.members) Stays (shown self.old) (shown self.new)) }
+        ensures happened { OnOk result (HasHappened R.stands R.is_kept R.failed R.fates (Submits number request.now) (shown self.old) (shown self.new)) }
+        ensures refused { OnErr result (IsUnmoved R.stands R.is_kept (shown self.old) (shown self.new)) }
     {
         let request = request.clone()?;
         self.mail.ask(number, Message::Submit(request))
     }
 
-    /// What an event does, whose member there is.
+    /// What an event does. The member that it names, if it names one, is one of the world's.
     ///
     /// It fails where memory is refused, and then nothing that shows has changed.
     pub(super) fn happen(&mut self, alloc: Global, event: &Event) -> Result<(), AllocError>
         requires held { IsHeld self.old }
         requires named { is_for self.old.members event.now ≡ true }
         ensures held { IsHeld self.new }
-        ensures happened { OnOk result ((app : Application) → KnowsNothing app → Follows R.stands R.is_kept (Sound self.old.members) (HappenedOver R.failed R.fates self.old.seats.items self.new.seats.items app (event_of event.now)) (shown self.old) (shown self.new)) }
-        ensures refused { OnErr result (Follows R.stands R.is_kept (Sound self.old.members) Stays (shown self.old) (shown self.new)) }
+        ensures happened { OnOk result (HasHappened R.stands R.is_kept R.failed R.fates (event_of event.now) (shown self.old) (shown self.new)) }
+        ensures refused { OnErr result (IsUnmoved R.stands R.is_kept (shown self.old) (shown self.new)) }
     {
         match event {
             Event::Deliver(number) => self.deliver(alloc, *number),

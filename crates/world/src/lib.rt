@@ -13,7 +13,8 @@ mod straight;
 mod told;
 mod world;
 
-pub use event::{Event, Step, Tick};
+pub use event::{Event, Step};
 pub use fault::WorldFault;
+pub use member::Tick;
 pub use told::Told;
 pub use world::World;

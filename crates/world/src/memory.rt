@@ -11,7 +11,6 @@ use crate::world::World;
 use ballots::Members;
 use records::{MemRecords, RecordsFault};
 use std::alloc::{AllocError, Global};
-use trees::Names;
 
 /// Records in memory that nobody has written, for so many members.
 fn stores(alloc: Global, members: Members) -> Result<Vec<MemRecords>, AllocError>
@@ -26,14 +25,10 @@ fn stores(alloc: Global, members: Members) -> Result<Vec<MemRecords>, AllocError
 }
 
 impl World<MemRecords> {
-    /// Members that never did anything, with records in memory, which never fail, and documents of these names.
+    /// Members that never did anything, with records in memory, which never fail.
     ///
     /// It fails where memory is refused.
-    pub fn in_memory(
-        alloc: Global,
-        members: Members,
-        names: Names,
-    ) -> Result<World<MemRecords>, RecordsFault>
+    pub fn in_memory(alloc: Global, members: Members) -> Result<World<MemRecords>, RecordsFault>
         ensures members { IfOk result (λ w. w.members ≡ members) }
         ensures reached { IfOk result (λ w. (app : Application) → Reached (λ s a b. (s ≡ a) ⊎ (s ≡ b)) app w []) }
         ensures smoothly { IfOk result (λ w. (app : Application) → ReachedSmoothly (λ s a b. (s ≡ a) ⊎ (s ≡ b)) app w []) }
@@ -42,6 +37,6 @@ impl World<MemRecords> {
         let Ok(stores) = stores(alloc, members) else {
             return Err(RecordsFault::Memory);
         };
-        World::new(alloc, members, names, stores)
+        World::new(alloc, members, stores)
     }
 }

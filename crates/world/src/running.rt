@@ -100,7 +100,7 @@ impl<R: Records + Drop> State<R> {
         })
     }
 
-    /// All events happen in order, whose members there are.
+    /// All events happen in order. Each member that they name is one of the world's.
     ///
     /// It fails where memory is refused: with how many events have happened.
     pub(super) fn run(&mut self, alloc: Global, events: &[Event]) -> Result<(), WorldFault>
@@ -111,6 +111,7 @@ impl<R: Records + Drop> State<R> {
         ensures smoothly { OnOk result (NeverFails R.failed → LeadsSmoothly R.stands R.is_kept (shown self.old) (shown self.new) (map event_of events.now)) }
         ensures refused { IfErr result (λ fault. HasDone R.stands R.is_kept (shown self.old) (shown self.new) (map event_of events.now) fault) }
         ensures member { IsErrOf result WorldFault.Member → ⊥ }
+        ensures store { IsErrOf result WorldFault.Store → ⊥ }
     {
         for before in 0..events.len() {
             let Ok(()) = self.happen(alloc, &events[before]) else {

@@ -55,7 +55,7 @@ fn may_hear<R: Records + Drop>(member: &Member<R>, input: &Input) -> bool
 {
     match input {
         Input::Message(sender, message) => member.hears(*sender, *message),
-        Input::Begin | Input::Resend | Input::CatchUp => true,
+        Input::Tick(_) => true,
     }
 }
 

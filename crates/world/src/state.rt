@@ -2,24 +2,23 @@
 
 ghost use Rattle.std.specs.Prelude.{◌≡◌, ◌+◌, ◌<◌, ◌≤◌, ◌++◌, ℕ, length, map, vec_capacity, vec_len, None, Some, Ok, Err, IfErr, IfOk, IfSome, IsSome, OnErr, OnOk, false, true};
 ghost use Rattle.member.specs.Drafts.{IsDrafted};
-ghost use Rattle.member.specs.Steps.{Input as InputTerm, Hears, KnowsNothing, input_of};
+ghost use Rattle.member.specs.Steps.{Input as InputTerm, Hears, KnowsNothing, ticked};
 ghost use Rattle.paxos.specs.Application.{Application};
 ghost use Rattle.paxos.specs.Lists.{at};
-ghost use Rattle.paxos.proofs.WellFormed.{Sound};
+ghost use Rattle.paxos.specs.Sound.{Sound};
 ghost use Rattle.paxos.specs.World.{told_to};
 ghost use Rattle.world.specs.Posts.{IsWhole, all_deliveries, packet_of, sent_in};
 ghost use Rattle.world.specs.Tellings.{told_in};
 ghost use Rattle.world.specs.Held.{IsHeld, shown};
-ghost use Rattle.world.specs.Reached.{Follows, IsDue, Stays, Steps, store_at};
-ghost use Rattle.world.specs.Seats.{Did, IsPlanned, IsPlannedAt, MayMake, MayStart, MayStep, MayStop, MayStopIn, SkipsAt, sent_by, ticked, told_by};
+ghost use Rattle.world.specs.Reached.{Follows, IsDue, IsUnmoved, Steps, store_at};
+ghost use Rattle.world.specs.Seats.{Did, IsPlanned, IsPlannedAt, MayMake, MayStart, MayStep, MayStop, MayStopIn, SkipsAt, sent_by, told_by};
 ghost use Rattle.world.specs.declared.seat.Seat.{Seat as SeatTerm};
 
-use crate::event::Tick;
 use crate::mail::{Delivery, Mail};
 use crate::seat::Seat;
 use crate::told::{Told, tell};
 use ballots::Members;
-use member::{Draft, Input, Outcome};
+use member::{Draft, Input, Outcome, Tick};
 use records::Records;
 use std::alloc::{AllocError, Global};
 
@@ -30,17 +29,6 @@ pub(super) struct State<R: Records + Drop> {
     pub(super) seats: Vec<Seat<R>>,
     pub(super) mail: Mail,
     pub(super) told: Vec<Told>,
-}
-
-/// The input of a tick.
-fn input_for(tick: Tick) -> Input<'static>
-    ensures { (m : ℕ) → input_of m result ≡ ticked tick }
-{
-    match tick {
-        Tick::Begin => Input::Begin,
-        Tick::Resend => Input::Resend,
-        Tick::CatchUp => Input::CatchUp,
-    }
 }
 
 /// What is held, and what was found beside it. Where nothing was found, what is held is dropped here, in a function over any type: the
@@ -66,7 +54,7 @@ impl<R: Records + Drop> State<R> {
         requires most { delivery.target ≤ self.old.members }
         requires there { delivery.message < length self.old.mail.messages.items }
         ensures held { IsHeld self.new }
-        ensures stays { Follows R.stands R.is_kept (Sound self.old.members) Stays (shown self.old) (shown self.new) }
+        ensures stays { IsUnmoved R.stands R.is_kept (shown self.old) (shown self.new) }
         ensures stores { (m : ℕ) → store_at self.new.seats.items m ≡ store_at self.old.seats.items m }
         ensures planned { IfOk result (λ o. IfSome o (λ d. IsPlannedAt self.new.seats.items delivery.target (Hears (packet_of self.old.mail.messages.items delivery)) d)) }
         ensures skipped { IfOk result (λ o. o ≡ None → SkipsAt self.new.seats.items delivery.target (Hears (packet_of self.old.mail.messages.items delivery))) }
@@ -92,13 +80,13 @@ impl<R: Records + Drop> State<R> {
         requires least { 1 ≤ number }
         requires most { number ≤ self.old.members }
         ensures held { IsHeld self.new }
-        ensures stays { Follows R.stands R.is_kept (Sound self.old.members) Stays (shown self.old) (shown self.new) }
+        ensures stays { IsUnmoved R.stands R.is_kept (shown self.old) (shown self.new) }
         ensures stores { (m : ℕ) → store_at self.new.seats.items m ≡ store_at self.old.seats.items m }
         ensures planned { IfOk result (λ o. IfSome o (λ d. IsPlannedAt self.new.seats.items number (ticked tick) d)) }
         ensures skipped { IfOk result (λ o. o ≡ None → SkipsAt self.new.seats.items number (ticked tick)) }
         ensures same { (self.new.members ≡ self.old.members) × (self.new.mail ≡ self.old.mail) × (self.new.told ≡ self.old.told) }
     {
-        let input = input_for(tick);
+        let input = Input::Tick(tick);
         self.seats[(number - 1) as usize].draft(alloc, &input)
     }
 
@@ -115,7 +103,7 @@ impl<R: Records + Drop> State<R> {
         ensures taken { OnOk result ((app : Application) (i : InputTerm) (s : SeatTerm R) → KnowsNothing app → at self.old.seats.items number ≡ Some s → IsPlanned s i draft → IsDue (shown self.old) number i
             → Follows R.stands R.is_kept (Sound self.old.members) (Steps (shown self.old) s number (MayStep (Did R.failed R.fates false (store_at self.old.seats.items number) (store_at self.new.seats.items number)) app self.old.members number i)) (shown self.old) (shown self.new)) }
         ensures others { (j : ℕ) → (j ≡ number → ⊥) → store_at self.new.seats.items j ≡ store_at self.old.seats.items j }
-        ensures refused { OnErr result (Follows R.stands R.is_kept (Sound self.old.members) Stays (shown self.old) (shown self.new)) }
+        ensures refused { OnErr result (IsUnmoved R.stands R.is_kept (shown self.old) (shown self.new)) }
     {
         let plan = self.mail.plan(alloc, self.members, number, draft.sends());
         let (draft, plan) = beside(draft, plan)?;
@@ -177,7 +165,7 @@ impl<R: Records + Drop> State<R> {
         ensures stopped { OnOk result ((app : Application) (i : InputTerm) (s : SeatTerm R) → KnowsNothing app → at self.old.seats.items number ≡ Some s → IsPlanned s i draft → IsDue (shown self.old) number i
             → Follows R.stands R.is_kept (Sound self.old.members) (Steps (shown self.old) s number (MayStopIn (Did R.failed R.fates true (store_at self.old.seats.items number) (store_at self.new.seats.items number)) app self.old.members number i true)) (shown self.old) (shown self.new)) }
         ensures others { (j : ℕ) → (j ≡ number → ⊥) → store_at self.new.seats.items j ≡ store_at self.old.seats.items j }
-        ensures refused { OnErr result (Follows R.stands R.is_kept (Sound self.old.members) Stays (shown self.old) (shown self.new)) }
+        ensures refused { OnErr result (IsUnmoved R.stands R.is_kept (shown self.old) (shown self.new)) }
     {
         self.seats[(number - 1) as usize].stop_in(alloc, draft)
     }
@@ -195,7 +183,7 @@ impl<R: Records + Drop> State<R> {
         ensures others { (j : ℕ) → (j ≡ number → ⊥) → store_at self.new.seats.items j ≡ store_at self.old.seats.items j }
         ensures runs { (s : SeatTerm R) → at self.old.seats.items number ≡ Some s → IsSome s.member → shown self.new ≡ shown self.old }
         ensures same { (s : SeatTerm R) → at self.old.seats.items number ≡ Some s → IsSome s.member → (m : ℕ) → store_at self.new.seats.items m ≡ store_at self.old.seats.items m }
-        ensures refused { OnErr result (Follows R.stands R.is_kept (Sound self.old.members) Stays (shown self.old) (shown self.new)) }
+        ensures refused { OnErr result (IsUnmoved R.stands R.is_kept (shown self.old) (shown self.new)) }
     {
         self.seats[(number - 1) as usize].start(alloc, self.members, number)
     }

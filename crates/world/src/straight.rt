@@ -1,17 +1,14 @@
 //! The straight run: one member begins, a request is submitted to it, and all messages are delivered in order.
 
 ghost use Rattle.std.specs.Prelude.{◌≡◌, ◌∷◌, ◌+◌, ◌*◌, ◌≤◌, [], IfErr, IsErrOf, OnErr, OnOk};
-ghost use Rattle.member.specs.Steps.{KnowsNothing};
-ghost use Rattle.paxos.specs.Application.{Application};
-ghost use Rattle.paxos.proofs.WellFormed.{Sound};
 ghost use Rattle.world.specs.Held.{IsHeld, shown};
-ghost use Rattle.world.specs.Reached.{Follows, HappenedOver, Stays};
+ghost use Rattle.world.specs.Reached.{HasHappened, IsUnmoved};
 ghost use Rattle.world.specs.Runs.{HasDone, LeadsSmoothly, StopsAt, straight_event, straight_run};
 
-use crate::event::Tick;
 use crate::fault::WorldFault;
 use crate::state::State;
 use ballots::Request;
+use member::Tick;
 use records::Records;
 use std::alloc::{AllocError, Global};
 
@@ -46,8 +43,8 @@ impl<R: Records + Drop> State<R> {
         requires least { 1 ≤ member }
         requires most { member ≤ self.old.members }
         ensures held { IsHeld self.new }
-        ensures happened { OnOk result ((app : Application) → KnowsNothing app → Follows R.stands R.is_kept (Sound self.old.members) (HappenedOver R.failed R.fates self.old.seats.items self.new.seats.items app (straight_event self.old.members member request.now before)) (shown self.old) (shown self.new)) }
-        ensures refused { OnErr result (Follows R.stands R.is_kept (Sound self.old.members) Stays (shown self.old) (shown self.new)) }
+        ensures happened { OnOk result (HasHappened R.stands R.is_kept R.failed R.fates (straight_event self.old.members member request.now before) (shown self.old) (shown self.new)) }
+        ensures refused { OnErr result (IsUnmoved R.stands R.is_kept (shown self.old) (shown self.new)) }
     {
         let opening = self.opening();
         if before == 0 {
@@ -106,22 +103,6 @@ impl<R: Records + Drop> State<R> {
         for before in 0..events {
             self.go_straight(alloc, member, request, before)?;
         }
-        if self.all_applied() {
-            Ok(())
-        } else {
-            Err(WorldFault::Memory(events))
-        }
-    }
-
-    /// Whether each member that runs has applied a position.
-    fn all_applied(&self) -> bool {
-        for seat in &self.seats {
-            if let Some(member) = &seat.member {
-                if member.prefix() == 0 {
-                    return false;
-                }
-            }
-        }
-        true
+        Ok(())
     }
 }

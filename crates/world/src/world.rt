@@ -4,14 +4,13 @@ ghost use Rattle.std.specs.Prelude.{◌≡◌, ◌↔◌, ◌+◌, ◌*◌, ◌�
 ghost use Rattle.std.specs.List.{list_all};
 ghost use Rattle.std.specs.Option.{option_copied};
 ghost use Rattle.member.specs.Steps.{KnowsNothing};
-ghost use Rattle.paxos.proofs.WellFormed.{Sound};
 ghost use Rattle.paxos.specs.Application.{Application};
 ghost use Rattle.paxos.specs.Lists.{Has};
 ghost use Rattle.paxos.specs.Records.{Record};
 ghost use Rattle.paxos.specs.World.{Event as Happens, World as Whole};
-ghost use Rattle.straight_runs.specs.Straight.{AllApplied};
+ghost use Rattle.paxos.specs.Smooth.{AllApplied};
 ghost use Rattle.world.specs.Placed.{AreOf, OneRefused};
-ghost use Rattle.world.specs.Reached.{Follows, HappenedOver, NeverFails, Reached, ReachedSmoothly, Stays, event_of};
+ghost use Rattle.world.specs.Reached.{HasHappened, IsUnmoved, NeverFails, Reached, ReachedSmoothly, event_of};
 ghost use Rattle.world.specs.Runs.{Agrees, HasDone, IsStraight, IsUnwritten, LeadsSmoothly, LeadsTo, is_for, member_at, straight_run};
 ghost use Rattle.world.specs.Shown.{AreKept, Shows};
 ghost use Rattle.world.specs.Tellings.{told_in};
@@ -25,7 +24,6 @@ use member::Member;
 use records::{Records, RecordsFault};
 use std::alloc::{AllocError, Global};
 use std::marker::Model;
-use trees::Names;
 
 /// All members of a group, every message that was ever sent, and all that members were told to be chosen ("Paxos Made Simple",
 /// section 2.1: messages can take arbitrarily long, can be duplicated, and can be lost; members may stop and restart).
@@ -34,7 +32,6 @@ use trees::Names;
 /// to several. A request of a client is one too. Each can be delivered as often as the events say.
 #[derive(Drop)]
 pub struct World<R: Records + Drop> {
-    names: Names,
     state: State<R>,
 }
 
@@ -50,15 +47,10 @@ impl<R: Records + Drop> Model for World<R> {
 }
 
 impl<R: Records + Drop> World<R> {
-    /// Members that never did anything, each of which starts from its store, with documents of these names.
+    /// Members that never did anything, each of which starts from its store.
     ///
     /// There is one store a member, in order, and nobody has written it. It fails where memory is refused, or where a store fails.
-    pub fn new(
-        alloc: Global,
-        members: Members,
-        names: Names,
-        stores: Vec<R>,
-    ) -> Result<World<R>, RecordsFault>
+    pub fn new(alloc: Global, members: Members, stores: Vec<R>) -> Result<World<R>, RecordsFault>
         requires many { length stores.items ≡ members }
         requires unwritten { (r : R) → Has stores.items r → IsUnwritten R.stands R.is_kept r }
         ensures members { IfOk result (λ w. w.members ≡ members) }
@@ -68,7 +60,6 @@ impl<R: Records + Drop> World<R> {
         ensures refused { IsErrOf result RecordsFault.Store → OneRefused R.stands R.is_kept R.failed R.fates stores.items }
     {
         Ok(World {
-            names,
             state: State::begin(alloc, members, stores)?,
         })
     }
@@ -81,39 +72,35 @@ impl<R: Records + Drop> World<R> {
         self.state.members
     }
 
-    /// The names of the documents.
-    pub fn names(&self) -> &Names {
-        &self.names
-    }
-
-    /// An event happens, whose member there is.
+    /// An event happens. The member that it names, if it names one, is one of the world's.
     ///
     /// Nothing happens by a delivery to a client, an unknown number, any event but a start and a request at a stopped member, the start
     /// of a running one or where its store fails, and a ballot that cannot begin.
     ///
-    /// The store of its member does with what is written what was known of it before, and fails only if its count of failures grows.
-    /// Each member that runs has applied all that it has learnt without a gap then.
+    /// Where the member writes, its store does what was known of it before, and fails only if its count of failures grows. Then each
+    /// member that runs has applied all that it has learnt without a gap.
     ///
     /// It fails where memory is refused, and then nothing that shows has changed.
     pub fn happen(&mut self, alloc: Global, event: &Event) -> Result<(), AllocError>
         requires named { is_for self.old.members event.now ≡ true }
-        ensures happened { OnOk result ((app : Application) → KnowsNothing app → Follows R.stands R.is_kept (Sound self.old.members) (HappenedOver R.failed R.fates self.old.seats self.new.seats app (event_of event.now)) self.old self.new) }
-        ensures refused { OnErr result (Follows R.stands R.is_kept (Sound self.old.members) Stays self.old self.new) }
+        ensures happened { OnOk result (HasHappened R.stands R.is_kept R.failed R.fates (event_of event.now) self.old self.new) }
+        ensures refused { OnErr result (IsUnmoved R.stands R.is_kept self.old self.new) }
         ensures applied { (kept : ℕ → Record) (v : Whole) → Shows self.new kept v → AllApplied v }
     {
         self.state.happen(alloc, event)
     }
 
-    /// All events happen, in order, each as [`World::happen`] says. Over stores that never fail they leave nothing open: no store stops a
-    /// member, and each time all is applied that is learnt without a gap.
+    /// All events happen, in order, each as [`World::happen`] says. A store that fails stops its member, and the events go on. Over stores
+    /// that never fail they leave nothing open: no store stops a member, and each time all is applied that is learnt without a gap.
     ///
-    /// Faults: memory was refused, after that many events, and the next one has changed nothing; an event names a member that there
-    /// isn't, and none has happened.
+    /// Faults: memory was refused, after that many events, and the next one has changed nothing; an event names no member that there is,
+    /// and none has happened. A store's failure is none of them.
     pub fn run(&mut self, alloc: Global, events: &[Event]) -> Result<(), WorldFault>
         ensures done { OnOk result (LeadsTo R.stands R.is_kept self.old self.new (map event_of events.now)) }
         ensures smoothly { OnOk result (NeverFails R.failed → LeadsSmoothly R.stands R.is_kept self.old self.new (map event_of events.now)) }
         ensures refused { IfErr result (λ fault. HasDone R.stands R.is_kept self.old self.new (map event_of events.now) fault) }
         ensures member { IsErrOf result WorldFault.Member ↔ (list_all (is_for self.old.members) events.now ≡ false) }
+        ensures store { IsErrOf result WorldFault.Store → ⊥ }
     {
         if !are_for(self.state.members, events) {
             return Err(WorldFault::Member);
@@ -123,10 +110,10 @@ impl<R: Records + Drop> World<R> {
 
     /// Makes the straight run of a world in which nothing has happened yet, and answers its number of deliveries: n² + 3n + 1 for n
     /// members. The member begins, all is delivered, the request is submitted to it, and all is delivered. Each member has been told the
-    /// request at position 1 then.
+    /// request at position 1 then, runs, and has applied it.
     ///
-    /// Faults: memory was refused, after that many events, or a member has applied nothing at the end; there is no such member, and
-    /// nothing has happened; a store failed, in the last event that happened.
+    /// Faults: memory was refused, after that many events; there is no such member, and nothing has happened; a store failed, in the last
+    /// event that happened.
     pub fn straight(
         &mut self,
         alloc: Global,
@@ -157,7 +144,7 @@ impl<R: Records + Drop> World<R> {
     /// All that members were told, in order: the position and the value, which is chosen there. No two values were told for a position.
     pub fn told(&self) -> &[Told]
         ensures told { told_in result.now ≡ self.now.told }
-        ensures agreed { (app : Application) (events : List Happens) → Reached R.stands app self.now events → Agrees self.now }
+        ensures agreed { (app : Application) (events : List Happens) → Reached R.stands app self.now events → Agrees app self.now events }
     {
         &self.state.told
     }

@@ -1,7 +1,8 @@
 use Rattle.std.proofs.Common.{◌≡◌, ℕ, ◌<◌, ◌≤◌, ◌*◌, arith, sym, subst, ap, ◌∙◌, length}
 use Rattle.paxos.specs.Application.{Application}
 use Rattle.paxos.specs.World.{World}
-use Rattle.straight_runs.specs.Straight.{SmoothRun, opening, opening_sent}
+use Rattle.paxos.specs.Smooth.{SmoothRun}
+use Rattle.straight_runs.specs.Straight.{opening, opening_sent}
 use Rattle.straight_runs.proofs.Smooth.{reaches_end, reaches_run}
 use Rattle.straight_runs.proofs.Sums.{opening_left, opening_all}
 use Rattle.straight_runs.proofs.Whole.{opened}

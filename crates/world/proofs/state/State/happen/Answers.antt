@@ -1,7 +1,7 @@
 use Rattle.std.proofs.Common.{sym, subst}
 use Rattle.member.specs.Steps.{KnowsNothing}
 use Rattle.paxos.specs.Application.{Application}
-use Rattle.paxos.proofs.WellFormed.{Sound}
+use Rattle.paxos.specs.Sound.{Sound}
 use Rattle.world.specs.Held.{shown}
 use Rattle.world.specs.Reached.{Follows, HappenedOver, event_of}
 use Rattle.world.specs.declared.event.Event.{Event}

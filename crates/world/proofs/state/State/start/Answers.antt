@@ -1,7 +1,7 @@
 use Rattle.std.proofs.Common.{false, ◌≤◌, ◌-◌, IsSome, refl, sym, subst, ap, ◌∙◌}
 use Rattle.std.specs.Vec.{with_item}
 use Rattle.std.proofs.lemmas.Option.{same_Some}
-use Rattle.paxos.proofs.WellFormed.{Sound}
+use Rattle.paxos.specs.Sound.{Sound}
 use Rattle.world.specs.Held.{shown}
 use Rattle.world.specs.Reached.{Follows, Steps, store_at}
 use Rattle.world.specs.Seats.{Did, IsFit, MayStart, store_in}

@@ -1,7 +1,7 @@
 use Rattle.std.proofs.Common.{◌≤◌, ◌-◌, IsSome, refl, sym, subst, ap, ◌∙◌}
 use Rattle.std.specs.Vec.{with_item}
 use Rattle.std.proofs.lemmas.Option.{none-some, same_Some}
-use Rattle.paxos.proofs.WellFormed.{Sound}
+use Rattle.paxos.specs.Sound.{Sound}
 use Rattle.world.specs.Held.{shown}
 use Rattle.world.specs.Reached.{Follows, Steps}
 use Rattle.world.specs.Seats.{IsAny, MayStop}

@@ -2,7 +2,7 @@ use Rattle.std.proofs.Common.{true, IfSome, Option, subst, ◌∙◌}
 use Rattle.member.specs.Steps.{Begins}
 use Rattle.member.specs.declared.draft.Draft.{Draft}
 use Rattle.paxos.specs.World.{StopInBegin}
-use Rattle.paxos.proofs.WellFormed.{Sound}
+use Rattle.paxos.specs.Sound.{Sound}
 use Rattle.world.specs.Held.{shown}
 use Rattle.world.specs.Reached.{Follows, HappenedOver, HaveDone, Stays, Steps, store_at}
 use Rattle.world.specs.Seats.{Did, IsPlannedAt, MayStopIn}

@@ -4,7 +4,7 @@ use Rattle.member.specs.declared.draft.Draft.{Draft}
 use Rattle.paxos.specs.Lists.{at}
 use Rattle.paxos.specs.World.{StopInDeliver}
 use Rattle.paxos.proofs.Lists.{at_has}
-use Rattle.paxos.proofs.WellFormed.{Sound}
+use Rattle.paxos.specs.Sound.{Sound}
 use Rattle.world.specs.Held.{shown}
 use Rattle.world.specs.Posts.{packet_of, sent_in}
 use Rattle.world.specs.Reached.{Follows, HappenedOver, HaveDone, Stays, Steps, store_at}

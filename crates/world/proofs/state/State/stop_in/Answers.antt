@@ -3,7 +3,7 @@ use Rattle.std.specs.Vec.{with_item}
 use Rattle.std.proofs.lemmas.Option.{same_Some}
 use Rattle.member.specs.Drafts.{IsDrafted}
 use Rattle.member.specs.Steps.{Member}
-use Rattle.paxos.proofs.WellFormed.{Sound}
+use Rattle.paxos.specs.Sound.{Sound}
 use Rattle.world.specs.Held.{shown}
 use Rattle.world.specs.Reached.{Follows, Steps, store_at}
 use Rattle.world.specs.Seats.{Did, IsPlanned, MayHear, MayStopIn}

@@ -1,5 +1,5 @@
 use Rattle.std.proofs.Common.{true, refl, sym, subst}
-use Rattle.paxos.proofs.WellFormed.{Sound}
+use Rattle.paxos.specs.Sound.{Sound}
 use Rattle.paxos.specs.World.{StopInDeliver}
 use Rattle.world.specs.Held.{shown}
 use Rattle.world.specs.Posts.{packet_of}

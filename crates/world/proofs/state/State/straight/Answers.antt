@@ -4,7 +4,7 @@ use Rattle.std.proofs.lemmas.Result.{err_from_is_err_and}
 use Rattle.world.specs.Held.{shown}
 use Rattle.world.specs.Runs.{LeadsSmoothly, StopsAt, straight_event, straight_run}
 use Rattle.world.proofs.Leading.{smoothly_join, smoothly_none}
-use Rattle.world.proofs.Straightly.{length_straight, stopped_after, stopped_at, straight_at, take_step}
+use Rattle.world.proofs.Straightly.{length_straight, stopped_at, straight_at, take_step}
 use Rattle.world.proofs.state.State.straight.Goals as goal
 
 pub loop-before-init : goal.loop-before-init
@@ -50,22 +50,13 @@ returns-in_err-go_straight-clause-refused g c =
     (subst (λ k. before < k) (sym (length_straight old.members m q)) least) (straight_at old.members m q before least) i.1.leads
     (subst (λ n. StopsAt {R = g.row.R.Denot} g.R.Records.stands g.R.Records.is_kept mid end (straight_event n m q before) before fault) i.1.leads.members c.in_err-go_straight.ensures.refused))
 
-pub returns-then-all_applied-clause-held : goal.returns-then-all_applied-clause-held
-returns-then-all_applied-clause-held g c = c.loop-before.invariant.0
+pub returns-clause-held : goal.returns-clause-held
+returns-clause-held g c = c.loop-before.invariant.0
 
-pub returns-else-all_applied-clause-held : goal.returns-else-all_applied-clause-held
-returns-else-all_applied-clause-held g c = c.loop-before.invariant.0
-
-pub returns-then-all_applied-clause-done : goal.returns-then-all_applied-clause-done
-returns-then-all_applied-clause-done g c =
+pub returns-clause-done : goal.returns-clause-done
+returns-clause-done g c =
     let old = shown c.args.self.now in
     let events = straight_run old.members c.args.member c.args.request.now in
     subst (LeadsSmoothly {R = g.row.R.Denot} g.R.Records.stands g.R.Records.is_kept old (shown c.loop-before.self))
     (take_all c.loop-before.before events (omega (arith, length_straight old.members c.args.member c.args.request.now, c.straight_events-events.ensures, c.loop-before-test.false)))
     c.loop-before.invariant.1
-
-pub returns-else-all_applied-clause-refused : goal.returns-else-all_applied-clause-refused
-returns-else-all_applied-clause-refused g c =
-    let old = shown c.args.self.now in
-    stopped_after {R = g.row.R.Denot} g.R.Records.stands g.R.Records.is_kept old (shown c.loop-before.self) (straight_run old.members c.args.member c.args.request.now) c.loop-before.before c.straight_events-events.result
-    c.loop-before.auto.before-end (omega (arith, c.loop-before-test.false)) (c.straight_events-events.ensures ∙ sym (length_straight old.members c.args.member c.args.request.now)) c.loop-before.invariant.1.leads

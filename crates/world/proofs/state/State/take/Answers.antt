@@ -6,7 +6,7 @@ use Rattle.std.proofs.lemmas.Result.{IfOk-at_ok}
 use Rattle.member.specs.Drafts.{IsDrafted, IsReady}
 use Rattle.member.specs.Steps.{Member}
 use Rattle.paxos.specs.World.{told_to}
-use Rattle.paxos.proofs.WellFormed.{Sound}
+use Rattle.paxos.specs.Sound.{Sound}
 use Rattle.world.specs.Held.{shown}
 use Rattle.world.specs.Reached.{Follows, Steps, store_at}
 use Rattle.world.specs.Seats.{Did, IsAny, IsPlanned, MayStay, MayStep, Moves, sent_by, told_by}

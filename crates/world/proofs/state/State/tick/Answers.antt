@@ -1,5 +1,6 @@
 use Rattle.std.proofs.Common.{◌≤◌, ◌-◌, refl, sym, subst}
 use Rattle.member.specs.Steps.{input_of}
+use Rattle.member.specs.declared.input.Input.TheVariants as input
 use Rattle.std.specs.Vec.{with_item}
 use Rattle.world.proofs.Placing.{stores_after, planned_after, read_there, held_after, skipped_after, stays_after}
 use Rattle.world.proofs.state.State.tick.Goals as goal
@@ -53,7 +54,7 @@ returns-clause-planned g c =
     (subst (λ n. number ≤ n) (sym held.size) c.requires.most) c.index_mut.ensures.value in
     planned_after {R = g.row.R.Denot} g.R.Records.stands g.R.Records.is_kept self
     (record { members = self.members; seats = with_item self.seats (number - 1) c.draft.new.self; mail = self.mail; told = self.told }) number c.index_mut.result.now c.draft.new.self
-    held c.requires.least there refl refl c.draft.result (λ k. input_of k c.input_for-input.result) _ (c.input_for-input.ensures number) c.draft.ensures.drafted
+    held c.requires.least there refl refl c.draft.result (λ k. input_of k (input.Tick c.args.tick)) _ refl c.draft.ensures.drafted
 
 pub returns-clause-skipped : goal.returns-clause-skipped
 returns-clause-skipped g c =
@@ -64,4 +65,4 @@ returns-clause-skipped g c =
     (subst (λ n. number ≤ n) (sym held.size) c.requires.most) c.index_mut.ensures.value in
     skipped_after {R = g.row.R.Denot} g.R.Records.stands g.R.Records.is_kept self
     (record { members = self.members; seats = with_item self.seats (number - 1) c.draft.new.self; mail = self.mail; told = self.told }) number c.index_mut.result.now c.draft.new.self
-    held c.requires.least there refl refl c.draft.result (λ k. input_of k c.input_for-input.result) _ (c.input_for-input.ensures number) c.draft.ensures.skipped
+    held c.requires.least there refl refl c.draft.result (λ k. input_of k (input.Tick c.args.tick)) _ refl c.draft.ensures.skipped

@@ -1,9 +1,10 @@
 use Rattle.std.proofs.Common.{false, IfSome, Option, sym, subst, ◌∙◌}
 use Rattle.member.specs.declared.draft.Draft.{Draft}
-use Rattle.paxos.proofs.WellFormed.{Sound}
+use Rattle.paxos.specs.Sound.{Sound}
 use Rattle.world.specs.Held.{shown}
 use Rattle.world.specs.Reached.{Follows, HappenedOver, HaveDone, Stays, Steps, event_of, is_cut, store_at}
-use Rattle.world.specs.Seats.{Did, IsPlannedAt, IsSeat, MayStep, ticked}
+use Rattle.member.specs.Steps.{ticked}
+use Rattle.world.specs.Seats.{Did, IsPlannedAt, IsSeat, MayStep}
 use Rattle.world.specs.declared.event.Event.TheVariants as event
 use Rattle.world.proofs.Happening.{step_so, steps_so}
 use Rattle.world.proofs.Placing.{have_done, nothing_done}
