@@ -7,7 +7,7 @@ use Rattle.std.specs.Fmt.{signed_decimal}
 use Rattle.std.specs.List.{AllZip, list_all}
 use Rattle.std.specs.Str.{bytes_eq, str_to_ascii_lowercase}
 use Rattle.trees.specs.Characters.{is_name, is_xml_character}
-use Rattle.trees.specs.Tidy.{is_xml_text, is_tidy_content, holds_text}
+use Rattle.trees.specs.Tidy.{is_xml_text, holds_text}
 use Rattle.trees.specs.Trees.{Trees, no_trees, tree}
 use Rattle.trees.specs.declared.node.Kind.{Kind as NodeKind}
 use Rattle.trees.specs.declared.node.Kind.TheVariants as node
@@ -16,7 +16,7 @@ use Rattle.query_tokens.specs.Reading.{Gives}
 use Rattle.query_tokens.specs.Lexing.{is_separated, mark_token, max_integer, most_bytes}
 use Rattle.query_tokens.specs.declared.kind.Kind.TheVariants as k
 use Rattle.query_tokens.specs.declared.token.Token.{Token}
-use Rattle.printed_trees.specs.Constructors.{IsPrintable}
+use Rattle.printed_trees.specs.Constructors.{IsPrintable, is_tidy_root}
 use Rattle.printed_trees.proofs.Spelling.{word, string, number, braced, parens, others_listed, integer_spelling}
 use Rattle.printed_trees.proofs.Spelling as spelling
 use Rattle.printed_trees.proofs.Turns.{Reads, nothing, one, after, not_separated}
@@ -142,15 +142,14 @@ integer_lexed (negsuc n) h = record {
 
 -- Nodes.
 
-pub constructor_lexed : (kind : NodeKind) (name text : List ℕ) (ts : List (List ℕ)) (ss : List (List Token)) → is_tidy_content kind name text ≡ true → IsPrintable text → AllZip IsLexed ts ss
+pub constructor_lexed : (kind : NodeKind) (name text : List ℕ) (ts : List (List ℕ)) (ss : List (List Token)) → is_tidy_root kind name text ≡ true → IsPrintable text → AllZip IsLexed ts ss
     → IsLexed (constructor kind name (chars text) ts) (spelling.constructor kind name text ss)
 constructor_lexed node.Document name text ts ss r w h = document (document_content ts) (spelling.document_content ss) (document_lexed ts ss h)
 constructor_lexed node.Element name text ts ss r w h = element (listed ts) (spelling.listed ss) (content_lexed ts ss h) name (and_parts (is_name name) _ r).0
 constructor_lexed node.Attribute name text ts ss r w h =
     let rules = and_parts (is_name name) (is_xml_text text) r in attribute (literal (chars text)) (string text ∷ []) (literal_lexed text w rules.1) name rules.0
 constructor_lexed node.Text name text ts ss r w h =
-    let rules = and_parts (bytes_eq name []) (is_xml_text text) (and_parts (bytes_eq name [] && is_xml_text text) _ r).0 in
-    text_node (literal (chars text)) (string text ∷ []) (literal_lexed text w rules.1)
+    let rules = and_parts (bytes_eq name []) (is_xml_text text) r in text_node (literal (chars text)) (string text ∷ []) (literal_lexed text w rules.1)
 constructor_lexed node.Comment name text ts ss r w h =
     let front = and_parts (bytes_eq name [] && is_xml_text text) _ (and_parts (bytes_eq name [] && is_xml_text text && not (holds_text (codes "--") text)) _ r).0 in
     comment (literal (chars text)) (string text ∷ []) (literal_lexed text w (and_parts (bytes_eq name []) (is_xml_text text) front.0).1)

@@ -10,12 +10,13 @@ use Rattle.std.specs.Fmt.{signed_decimal}
 use Rattle.std.specs.List.{AllZip, list_all}
 use Rattle.trees.specs.Characters.{is_digit, is_name, is_name_character}
 use Rattle.std.specs.Str.{bytes_eq, str_to_ascii_lowercase}
-use Rattle.trees.specs.Tidy.{is_tidy_content, is_xml_text, holds_text}
+use Rattle.trees.specs.Tidy.{is_xml_text, holds_text}
 use Rattle.trees.specs.declared.node.Kind.{Kind as NodeKind}
 use Rattle.trees.specs.declared.node.Kind.TheVariants as node
 use Rattle.values.specs.Printing.{escaped, literal, listed, document_content, constructor}
 use Rattle.values.proofs.Escapes.{plain}
 use Rattle.query_tokens.specs.Lexing.{max_integer}
+use Rattle.printed_trees.specs.Constructors.{is_tidy_root}
 use Rattle.printed_trees.proofs.Numerals.{digits_of}
 use Rattle.printed_trees.proofs.Pieces.{has_name}
 
@@ -166,7 +167,7 @@ with_name front name bs cs w n h =
     (joined (front ++ name) (codes " {") (front ++ name) (codes " {") (joined front name front name (written front w) (named name n)) (written (codes " {") refl)) h)
     (written (codes "}") refl)
 
-pub constructor_text : (kind : NodeKind) (name text : List ℕ) (bss css : List (List ℕ)) → is_tidy_content kind name text ≡ true → IsUtf8 text → AllZip IsText bss css
+pub constructor_text : (kind : NodeKind) (name text : List ℕ) (bss css : List (List ℕ)) → is_tidy_root kind name text ≡ true → IsUtf8 text → AllZip IsText bss css
     → IsText (constructor kind name text bss) (constructor kind name (chars text) css)
 constructor_text node.Document name text bss css r u h = unnamed (codes "document {") (document_content bss) (document_content css) refl (document_text bss css h)
 constructor_text node.Element name text bss css r u h = with_name (codes "element ") name (listed bss) (listed css) refl (and_parts (is_name name) _ r).0 (content_text bss css h)

@@ -1,14 +1,16 @@
 -- The printed text of an item is the text of its expression.
 use Rattle.std.proofs.Common.{◌≡◌, ℕ, zero, suc, ◌≤◌, Bool, true, false, cond, not, ◌&&◌, All, List, [], ◌∷◌, ◌++◌, chars, eqb, Option, Some, None, IsSome, refl, ap, sym, ◌∙◌, subst, arith, append-nil, Ok, Err}
-use Rattle.std.proofs.lemmas.Bool.{and_parts, cond-false, false≢true}
-use Rattle.std.proofs.lemmas.List.Elements.{All-nil, All-cons, All-head, All-tail}
+use Rattle.std.proofs.lemmas.Bool.{and_parts, and_from, cond-false, false≢true}
+use Rattle.std.proofs.lemmas.List.Elements.{All-nil, All-cons, All-head, All-tail, All-append}
 use Rattle.std.specs.Fmt.{signed_decimal}
 use Rattle.std.specs.List.{AllZip}
+use Rattle.std.specs.Str.{bytes_eq}
 use Rattle.trees.specs.Tidy.{is_tidy_content, is_xml_text, are_tidy, may_be_attribute, may_be_child, has_distinct_names, begins_with_text}
 use Rattle.trees.specs.Trees.{Trees, no_trees, tree, Content, Place, is_text, first, find_below, find, height, listing}
 use Rattle.trees.specs.declared.node.Kind.{Kind as NodeKind}
 use Rattle.trees.specs.declared.node.Kind.TheVariants as node
 use Rattle.values.specs.Printing.{literal, constructor, tree_texts, place_text, atom_text, item_text}
+use Rattle.values.specs.Items.{IsThere}
 use Rattle.values.specs.declared.atom.Atom.{Atom}
 use Rattle.values.specs.declared.atom.Atom.TheVariants as a
 use Rattle.values.specs.declared.atom.Item.{Item}
@@ -20,11 +22,12 @@ use Rattle.query_grammar.specs.declared.ast.Expr.{Expr}
 use Rattle.query_grammar.specs.declared.ast.Expr.TheVariants as e
 use Rattle.query_grammar.specs.Reader as reader
 use Rattle.query_grammar.proofs.Forms.{complete_query}
+use Rattle.static_checks.specs.Brackets.{most_open}
 use Rattle.static_checks.specs.Categories.{judged}
 use Rattle.static_checks.specs.Functions.{has_unknown_call}
 use Rattle.static_checks.specs.Variables.{binds_a_name_twice, has_unbound}
 use Rattle.static_checks.specs.Static.{IsExpression, parsed, of_read, of_grammar}
-use Rattle.printed_trees.specs.Constructors.{IsPrintable, ArePrintable, IsPrintableAtom, IsPrintableItem, tree_expressions, place_expression, atom_expression, item_expression}
+use Rattle.printed_trees.specs.Constructors.{IsPrintable, is_tidy_root, IsPrintableTree, IsPrintableAtom, IsPrintableItem, tree_expressions, place_expression, atom_expression, item_expression}
 use Rattle.printed_trees.proofs.Spelling.{string, node_spelling, tree_spellings, integer_spelling, atom_spelling}
 use Rattle.printed_trees.proofs.Spelt.{IsSpelt, string_spelt, integer_spelt, boolean_spelt, constructor_spelt, trees_spelt, query}
 use Rattle.printed_trees.proofs.Spelt as spelt
@@ -47,15 +50,25 @@ right : {A : Type 0} (P : A → Type 0) (xs ys : List A) → All P (xs ++ ys) �
 right P [] ys h = h
 right P (x ∷ xs) ys h = right P xs ys (All-tail P x (xs ++ ys) h)
 
+-- what fits below a root fits as a root
+fits_as_root : (kind : NodeKind) (name text : List ℕ) → is_tidy_content kind name text ≡ true → is_tidy_root kind name text ≡ true
+fits_as_root node.Document name text h = h
+fits_as_root node.Element name text h = h
+fits_as_root node.Attribute name text h = h
+fits_as_root node.Text name text h = (and_parts (bytes_eq name [] && is_xml_text text) _ h).0
+fits_as_root node.Comment name text h = h
+fits_as_root node.Instruction name text h = h
+
 -- trees whose nodes can be printed, each alone
-record AreRuled (may : NodeKind → Bool) (ts : Trees) : Type 0 where
-  tidy : are_tidy may ts ≡ true
-  texts : All (λ c. IsPrintable c.text) (listing ts)
+pub record AreRuled (may : NodeKind → Bool) (ts : Trees) : Type 0 where
+  pub tidy : are_tidy may ts ≡ true
+  pub texts : All (λ c. IsPrintable c.text) (listing ts)
 
 -- those of a first tree, and what it says of itself
 record ArePartsRuled (may : NodeKind → Bool) (c : Content) (bs cs rest : Trees) : Type 0 where
   allowed : may c.kind ≡ true
-  tidy : is_tidy_content c.kind c.name c.text ≡ true
+  tidy : is_tidy_root c.kind c.name c.text ≡ true
+  distinct : has_distinct_names bs ≡ true
   printable : IsPrintable c.text
   attributes : AreRuled (may_be_attribute c.kind) bs
   children : AreRuled (may_be_child c.kind) cs
@@ -75,7 +88,8 @@ parts_ruled may c bs cs rest h =
     let node = left P (c ∷ listing bs) (listing cs) front in
     record {
       allowed = one.0;
-      tidy = one.1;
+      tidy = fits_as_root c.kind c.name c.text one.1;
+      distinct = three.1;
       printable = All-head P c (listing bs) node;
       attributes = record { tidy = four.1; texts = All-tail P c (listing bs) node };
       children = record { tidy = five.1; texts = right P (c ∷ listing bs) (listing cs) front };
@@ -151,12 +165,31 @@ printed level bytes x p =
 
 -- a node and the trees of its parts
 record IsNodePrintable (x : Place) : Type 0 where
-  tidy : is_tidy_content x.content.kind x.content.name x.content.text ≡ true
+  tidy : is_tidy_root x.content.kind x.content.name x.content.text ≡ true
   printable : IsPrintable x.content.text
   attributes : AreRuled (may_be_attribute x.content.kind) x.attributes
   children : AreRuled (may_be_child x.content.kind) x.children
   attributes_low : height x.attributes ≤ 199
   children_low : height x.children ≤ 199
+
+-- those of a tree that can be printed
+of_tree : (x : Place) → IsPrintableTree x.content x.attributes x.children → IsNodePrintable x
+of_tree x h =
+    let c = x.content in
+    let bs = x.attributes in
+    let ds = x.children in
+    let P : Content → Type 0 = λ d. IsPrintable d.text in
+    let root = is_tidy_root c.kind c.name c.text in
+    let three = and_parts (root && has_distinct_names bs && are_tidy (may_be_attribute c.kind) bs) (are_tidy (may_be_child c.kind) ds) h.tidy in
+    let two = and_parts (root && has_distinct_names bs) (are_tidy (may_be_attribute c.kind) bs) three.0 in
+    record {
+      tidy = (and_parts root (has_distinct_names bs) two.0).0;
+      printable = h.text;
+      attributes = record { tidy = two.1; texts = left P (listing bs) (listing ds) h.texts };
+      children = record { tidy = three.1; texts = right P (listing bs) (listing ds) h.texts };
+      attributes_low = omega (arith, h.depth);
+      children_low = omega (arith, h.depth);
+    }
 
 node_printed : (level : ℕ) (x : Place) → IsNodePrintable x → IsPrinted level (place_text (Some x)) (place_expression (Some x))
 node_printed level x p =
@@ -179,10 +212,10 @@ node_printed level x p =
       plain = plain_constructor c.kind c.name c.text (tree_expressions bs ++ tree_expressions ds) (faultless.both (tree_expressions bs) (tree_expressions ds) (plain_trees bs) (plain_trees ds));
     }
 
--- what is found is printable
+-- what is found can be printed
 abbrev OfPlace : Option Place → Type 0
 OfPlace None = Unit {0}
-OfPlace (Some x) = IsNodePrintable x
+OfPlace (Some x) = IsPrintableTree x.content x.attributes x.children
 
 of_first : (x y : Option Place) → OfPlace x → OfPlace y → OfPlace (first x y)
 of_first None y h g = g
@@ -196,21 +229,25 @@ found : (may : NodeKind → Bool) (p : Option ℕ) (i : ℕ) (ts : Trees) → Ar
 found may p i no_trees h l = tt
 found may p i (tree c bs cs rest) h l =
     let parts = parts_ruled may c bs cs rest h in
-    let here : IsNodePrintable (record { parent = p; content = c; attributes = bs; children = cs }) = record {
-      tidy = parts.tidy;
-      printable = parts.printable;
-      attributes = parts.attributes;
-      children = parts.children;
-      attributes_low = omega (arith, l);
-      children_low = omega (arith, l);
+    let root = is_tidy_root c.kind c.name c.text in
+    let here : IsPrintableTree c bs cs = record {
+      tidy = and_from (root && has_distinct_names bs && are_tidy (may_be_attribute c.kind) bs) (are_tidy (may_be_child c.kind) cs)
+          (and_from (root && has_distinct_names bs) (are_tidy (may_be_attribute c.kind) bs) (and_from root (has_distinct_names bs) parts.tidy parts.distinct) parts.attributes.tidy) parts.children.tidy;
+      text = parts.printable;
+      texts = All-append (λ d. IsPrintable d.text) (listing bs) (listing cs) parts.attributes.texts parts.children.texts;
+      depth = omega (arith, l);
     } in
     of_cond (eqb i c.identity) (Some (record { parent = p; content = c; attributes = bs; children = cs })) _ here
     (of_first (find_below (Some c.identity) i bs) _ (found (may_be_attribute c.kind) (Some c.identity) i bs parts.attributes (omega (arith, l)))
     (of_first (find_below (Some c.identity) i cs) (find_below p i rest) (found (may_be_child c.kind) (Some c.identity) i cs parts.children (omega (arith, l))) (found may p i rest parts.others (omega (arith, l)))))
 
-place_printed : (level : ℕ) (o : Option Place) → IsSome o → OfPlace o → IsPrinted level (place_text o) (place_expression o)
-place_printed level None h g = absurd (false≢true h)
-place_printed level (Some x) h g = node_printed level x g
+place_printable : (o : Option Place) → IsSome o → OfPlace o → (x : Place) × (o ≡ Some x) × IsPrintableTree x.content x.attributes x.children
+place_printable None h g = absurd (false≢true h)
+place_printable (Some x) h g = (x, refl, g)
+
+-- each node of tidy trees, where literals can have its texts, and which nest no deeper than brackets may
+pub nodes_are_printable : (may : NodeKind → Bool) (ts : Trees) → AreRuled may ts → height ts ≤ most_open → (i : ℕ) → IsThere ts (item.Node i) → IsPrintableItem ts (item.Node i)
+nodes_are_printable may ts h l i there = place_printable (find i ts) there (found may None i ts h l)
 
 string_printed : (level : ℕ) (text : List ℕ) → IsPrintable text → is_xml_text text ≡ true → IsPrinted level (literal text) (e.String text)
 string_printed level text w x = record {
@@ -248,9 +285,11 @@ atom_printed level (a.Integer z) h = record {
   plain = plain_integer z;
 }
 
-pub item_is_expression : (level : ℕ) (may : NodeKind → Bool) (ts : Trees) (i : Item) → ArePrintable may ts → IsPrintableItem ts i → IsExpression level (chars (item_text ts i)) (item_expression ts i)
-item_is_expression level may ts (item.Node i) t h = printed level (place_text (find i ts)) (place_expression (find i ts)) (place_printed level (find i ts) h (found may None i ts (record { tidy = t.tidy; texts = t.texts }) t.depth))
-item_is_expression level may ts (item.Atomic x) t h = printed level (atom_text x) (atom_expression x) (atom_printed level x h)
+pub item_is_expression : (level : ℕ) (ts : Trees) (i : Item) → IsPrintableItem ts i → IsExpression level (chars (item_text ts i)) (item_expression ts i)
+item_is_expression level ts (item.Node i) h =
+    let x = h.0 in
+    subst (λ o. IsExpression level (chars (place_text o)) (place_expression o)) (sym h.1) (printed level (place_text (Some x)) (place_expression (Some x)) (node_printed level x (of_tree x h.2)))
+item_is_expression level ts (item.Atomic x) h = printed level (atom_text x) (atom_expression x) (atom_printed level x h)
 
 pub expression_is_parsed : (level : ℕ) (text : List ℕ) (x : Expr) → IsExpression level text x → parsed level text ≡ Ok x
 expression_is_parsed level text x h =
@@ -260,5 +299,5 @@ expression_is_parsed level text x h =
     ∙ cond-false (has_unbound x []) (Err XPST0008) _ h.faultless.variables
     ∙ cond-false (judged x).is_misplaced (Err XUST0001) (Ok x) h.faultless.categories
 
-pub item_is_parsed : (level : ℕ) (may : NodeKind → Bool) (ts : Trees) (i : Item) → ArePrintable may ts → IsPrintableItem ts i → parsed level (chars (item_text ts i)) ≡ Ok (item_expression ts i)
-item_is_parsed level may ts i t h = expression_is_parsed level (chars (item_text ts i)) (item_expression ts i) (item_is_expression level may ts i t h)
+pub item_is_parsed : (level : ℕ) (ts : Trees) (i : Item) → IsPrintableItem ts i → parsed level (chars (item_text ts i)) ≡ Ok (item_expression ts i)
+item_is_parsed level ts i h = expression_is_parsed level (chars (item_text ts i)) (item_expression ts i) (item_is_expression level ts i h)

@@ -1,11 +1,11 @@
 -- The expression that makes an item again: the computed constructors of its nodes (XQuery 1.0, section 3.7.3), and literals (section 3.1.1).
-use Rattle.std.specs.Prelude.{◌≡◌, ℕ, suc, ◌≤◌, ℤ, pos, negsuc, unsigned_abs, Bool, true, if◌then◌else◌, List, [], ◌∷◌, ◌++◌, length, Option, Some, None, codes, IsUtf8}
+use Rattle.std.specs.Prelude.{◌≡◌, ℕ, suc, ◌≤◌, ℤ, pos, negsuc, unsigned_abs, Bool, true, ◌&&◌, if◌then◌else◌, List, [], ◌∷◌, ◌++◌, length, Option, Some, None, codes, IsUtf8}
 use Rattle.std.specs.List.{All}
-use Rattle.trees.specs.Tidy.{is_xml_text, are_tidy}
+use Rattle.std.specs.Str.{bytes_eq}
+use Rattle.trees.specs.Tidy.{is_tidy_content, is_xml_text, are_tidy, may_be_attribute, may_be_child, has_distinct_names}
 use Rattle.trees.specs.Trees.{Trees, no_trees, tree, Content, Place, find, listing, height}
 use Rattle.trees.specs.declared.node.Kind.{Kind}
 use Rattle.trees.specs.declared.node.Kind.TheVariants.{Document, Element, Attribute, Text, Comment, Instruction}
-use Rattle.values.specs.Items.{IsThere}
 use Rattle.values.specs.declared.atom.Atom.{Atom}
 use Rattle.values.specs.declared.atom.Atom.TheVariants as a
 use Rattle.values.specs.declared.atom.Item.{Item}
@@ -62,11 +62,18 @@ pub record IsPrintable (text : List ℕ) : Type 0 where
   pub utf8 : IsUtf8 text
   pub short : length text ≤ most_bytes
 
--- Trees that can be printed: tidy ones with roots of such kinds, whose texts literals can have, and which nest no deeper than brackets may.
-pub record ArePrintable (may : Kind → Bool) (ts : Trees) : Type 0 where
-  pub tidy : are_tidy may ts ≡ true
-  pub texts : All (λ c. IsPrintable c.text) (listing ts)
-  pub depth : height ts ≤ most_open
+-- the name and the text of a tree's root fit its kind, as those of any node; but a text that has no parent may be empty
+abbrev pub is_tidy_root : Kind → List ℕ → List ℕ → Bool
+is_tidy_root Text name text = bytes_eq name [] && is_xml_text text
+is_tidy_root kind name text = is_tidy_content kind name text
+
+-- A tree that can be printed, by its root's content, attributes and children: it is tidy, literals can have its texts, and it nests no deeper
+-- than brackets may. Nothing is said of what stands around it.
+pub record IsPrintableTree (c : Content) (bs cs : Trees) : Type 0 where
+  pub tidy : (is_tidy_root c.kind c.name c.text && has_distinct_names bs && are_tidy (may_be_attribute c.kind) bs && are_tidy (may_be_child c.kind) cs) ≡ true
+  pub text : IsPrintable c.text
+  pub texts : All (λ d. IsPrintable d.text) (listing bs ++ listing cs)
+  pub depth : height (tree c bs cs no_trees) ≤ most_open
 
 -- The text of a string has characters of XML 1.0 alone, and an integer is within the limit of literals, whatever its sign: so the least of
 -- 64 bits is out, whose digits spell a number past that limit.
@@ -76,7 +83,7 @@ IsPrintableAtom (a.Untyped text) = IsPrintable text × (is_xml_text text ≡ tru
 IsPrintableAtom (a.Boolean b) = Unit {0}
 IsPrintableAtom (a.Integer z) = unsigned_abs z ≤ max_integer
 
--- a node that stands in the trees, or such an atomic value
+-- a node that stands in the trees, whose own tree can be printed, or such an atomic value
 abbrev pub IsPrintableItem : Trees → Item → Type 0
-IsPrintableItem ts (item.Node i) = IsThere ts (item.Node i)
+IsPrintableItem ts (item.Node i) = (x : Place) × (find i ts ≡ Some x) × IsPrintableTree x.content x.attributes x.children
 IsPrintableItem ts (item.Atomic x) = IsPrintableAtom x

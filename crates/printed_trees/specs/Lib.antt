@@ -1,1 +1,2 @@
 pub mod Constructors
+pub mod Examples

@@ -1,0 +1,8 @@
+-- The data of the worked examples.
+use Rattle.std.specs.Prelude.{[], codes}
+use Rattle.trees.specs.Trees.{Trees, no_trees, tree, leaf}
+use Rattle.trees.specs.declared.node.Kind.TheVariants.{Text}
+
+-- two texts that have no parent: 1 is empty, and 2 stands next to it
+abbrev pub lone_texts : Trees
+lone_texts = tree (record { identity = 1; kind = Text; name = []; text = [] }) no_trees no_trees (leaf (record { identity = 2; kind = Text; name = []; text = codes "t" }))
