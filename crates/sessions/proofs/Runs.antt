@@ -7,7 +7,8 @@ use Rattle.trees.specs.Forest.{ForestTerm, IsForest, IsDocument}
 use Rattle.trees.specs.declared.node.Part.TheVariants.{Children}
 use Rattle.trees.proofs.Makes.{size-make-below}
 use Rattle.values.specs.declared.code.Code.TheVariants.{PXQ0003}
-use Rattle.sessions.specs.Run.{Ran, done, fault, document_of, element, inserted, is_too_large, judged, insertion_ran, text_ran, run}
+use Rattle.sessions.specs.declared.execute.Outcome.TheVariants.{Done, Fault}
+use Rattle.sessions.specs.Run.{Ran, document_of, element, inserted, is_too_large, judged, insertion_ran, text_ran, run}
 use Rattle.sessions.proofs.Insertions.{count-found, children-inserted}
 
 some-at : (o : Option Place) (P : Content → Type 0) → IsAt o P → IsSome o
@@ -28,11 +29,11 @@ module _ (f : ForestTerm) (sound : IsForest f) (d : ℕ) (there : IsSome (find d
   one-node : size (inserted f d name).trees ≡ size f.trees + 1
   one-node = size-make-below Children (length (children_of d f.trees)) d (element (f.next + 1) name) f.trees one-here
 
-  judged-large : (t : Bool) → is_too_large (inserted f d name) d ≡ t → t ≡ true → judged f (inserted f d name) d ≡ record { forest = f; outcome = fault PXQ0003 }
+  judged-large : (t : Bool) → is_too_large (inserted f d name) d ≡ t → t ≡ true → judged f (inserted f d name) d ≡ record { forest = f; outcome = Fault PXQ0003 }
   judged-large t e h = rw (e, h) refl
 
   -- too many children
-  pub ran-full : 10000 ≤ length (children_of d f.trees) → insertion_ran f name (Some d) ≡ record { forest = f; outcome = fault PXQ0003 }
+  pub ran-full : 10000 ≤ length (children_of d f.trees) → insertion_ran f name (Some d) ≡ record { forest = f; outcome = Fault PXQ0003 }
   ran-full full =
       let more : nat_lt 10000 (length (children_of d (inserted f d name).trees)) ≡ true = rw one-child (grind (arith, nat_tests)) in
       judged-large true (rw more refl) refl
@@ -42,7 +43,7 @@ module _ (f : ForestTerm) (sound : IsForest f) (d : ℕ) (there : IsSome (find d
   or-true false b h = h
 
   -- too many nodes
-  pub ran-many : 100000 ≤ size f.trees → insertion_ran f name (Some d) ≡ record { forest = f; outcome = fault PXQ0003 }
+  pub ran-many : 100000 ≤ size f.trees → insertion_ran f name (Some d) ≡ record { forest = f; outcome = Fault PXQ0003 }
   ran-many many =
       let more : nat_lt 100000 (size (inserted f d name).trees) ≡ true = rw one-node (grind (arith, nat_tests)) in
       judged-large true (or-true (nat_lt 10000 (length (children_of d (inserted f d name).trees))) _ more) refl
@@ -51,14 +52,14 @@ module _ (f : ForestTerm) (sound : IsForest f) (d : ℕ) (there : IsSome (find d
   or-false a b h k = rw (h, k) refl
 
   -- it fits
-  pub ran-inserted : length (children_of d f.trees) < 10000 → size f.trees < 100000 → insertion_ran f name (Some d) ≡ record { forest = inserted f d name; outcome = done }
+  pub ran-inserted : length (children_of d f.trees) < 10000 → size f.trees < 100000 → insertion_ran f name (Some d) ≡ record { forest = inserted f d name; outcome = Done }
   ran-inserted few small =
       let a : nat_lt 10000 (length (children_of d (inserted f d name).trees)) ≡ false = rw one-child (grind (arith, nat_tests)) in
       let b : nat_lt 100000 (size (inserted f d name).trees) ≡ false = rw one-node (grind (arith, nat_tests)) in
       rw (or-false _ _ a b) refl
 
 -- ---- identities
-judged-next : (t : Bool) (old new : ForestTerm) (n : ℕ) → old.next ≤ n → new.next ≤ n → (cond {A = Ran} t (record { forest = old; outcome = fault PXQ0003 }) (record { forest = new; outcome = done })).forest.next ≤ n
+judged-next : (t : Bool) (old new : ForestTerm) (n : ℕ) → old.next ≤ n → new.next ≤ n → (cond {A = Ran} t (record { forest = old; outcome = Fault PXQ0003 }) (record { forest = new; outcome = Done })).forest.next ≤ n
 judged-next true old new n h k = h
 judged-next false old new n h k = k
 

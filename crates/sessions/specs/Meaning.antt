@@ -6,9 +6,11 @@ use Rattle.ballots.specs.declared.value.Value.{Value}
 use Rattle.ballots.specs.declared.value.Value.TheVariants.{NoOp, Request}
 use Rattle.ballots.specs.declared.request.RequestId.{RequestId}
 use Rattle.ballots.specs.declared.reply.Reply.{Reply}
-use Rattle.ballots.specs.declared.reply.Reply.TheVariants.{Done, Fault}
+use Rattle.ballots.specs.declared.reply.Reply.TheVariants as reply
 use Rattle.sessions.specs.Terms.{id_of, is_of}
-use Rattle.sessions.specs.Run.{Outcome, done, fault, run}
+use Rattle.sessions.specs.Run.{run}
+use Rattle.sessions.specs.declared.execute.Outcome.{Outcome}
+use Rattle.sessions.specs.declared.execute.Outcome.TheVariants as outcome
 
 -- the texts of a value that comes after others: its text where it is the first occurrence of its request, none where it is a later one or no request
 abbrev pub new_texts : List Value → Value → List (List ℕ)
@@ -33,8 +35,8 @@ unfoldable pub store_of : List (List ℕ) → List Value → ForestTerm
 store_of names values = all_run (opening_forest names) (once values)
 
 abbrev pub reply_for : Outcome → ℕ → Reply
-reply_for done position = Done position
-reply_for (fault code) position = Fault code position
+reply_for outcome.Done position = reply.Done position
+reply_for (outcome.Fault code) position = reply.Fault code position
 
 abbrev pub text_of_value : Value → List ℕ
 text_of_value NoOp = []

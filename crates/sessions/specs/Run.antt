@@ -7,15 +7,9 @@ use Rattle.trees.specs.Trees.{Trees, Content, leaf, size, children_of}
 use Rattle.trees.specs.Changes.{with_children, splice}
 use Rattle.trees.specs.Forest.{ForestTerm}
 use Rattle.trees.specs.declared.node.Kind.TheVariants.{Element}
-use Rattle.sessions.specs.declared.execute.Ending.{Ending}
-use Rattle.sessions.specs.declared.execute.Ending.TheVariants.{Done, Fault}
-use Rattle.values.specs.declared.code.Code.{Code}
+use Rattle.sessions.specs.declared.execute.Outcome.{Outcome}
+use Rattle.sessions.specs.declared.execute.Outcome.TheVariants.{Done, Fault}
 use Rattle.values.specs.declared.code.Code.TheVariants.{FODC0002, PXQ0003}
-
--- how a request ends
-pub data Outcome : Type 0 where
-  done : Outcome
-  fault : Code → Outcome
 
 -- the store that a request leaves, and how it ends
 pub record Ran : Type 0 where
@@ -44,23 +38,18 @@ is_too_large forest document = nat_lt 10000 (length (children_of document forest
 
 -- the new store, or the old one where the new one is too large
 abbrev pub judged : ForestTerm → ForestTerm → ℕ → Ran
-judged old new document = cond (is_too_large new document) (record { forest = old; outcome = fault PXQ0003 }) (record { forest = new; outcome = done })
+judged old new document = cond (is_too_large new document) (record { forest = old; outcome = Fault PXQ0003 }) (record { forest = new; outcome = Done })
 
 -- an insertion into the document that was found, or into none
 abbrev pub insertion_ran : ForestTerm → List ℕ → Option ℕ → Ran
-insertion_ran forest name None = record { forest = forest; outcome = fault FODC0002 }
+insertion_ran forest name None = record { forest = forest; outcome = Fault FODC0002 }
 insertion_ran forest name (Some document) = judged forest (inserted forest document name) document
 
 -- a text that is an insertion, or one of another form, which does nothing
 abbrev pub text_ran : ForestTerm → Option Insertion → Ran
-text_ran forest None = record { forest = forest; outcome = done }
+text_ran forest None = record { forest = forest; outcome = Done }
 text_ran forest (Some i) = insertion_ran forest i.name (document_of forest i.document)
 
 -- what a request of that text does
 unfoldable pub run : ForestTerm → List ℕ → Ran
 run forest text = text_ran forest (insertion_of text)
-
--- how the code says that a request ended
-abbrev pub outcome_of : Ending → Outcome
-outcome_of Done = done
-outcome_of (Fault code) = fault code

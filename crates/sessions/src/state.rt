@@ -8,11 +8,10 @@ ghost use Rattle.sessions.specs.Session.{Means, IsReplyTo, reply_in, after_repea
 ghost use Rattle.ballots.specs.Replies.{answered};
 ghost use Rattle.sessions.specs.Answers.{answer};
 ghost use Rattle.sessions.specs.Meaning.{kept_reply, store_of, reply_for};
-ghost use Rattle.sessions.specs.Run.{outcome_of};
 ghost use Rattle.ballots.specs.declared.reply.Reply.{Reply as ReplyTerm};
 
 use super::answer::answer_text;
-use super::execute::{Ending, execute};
+use super::execute::{Outcome, execute};
 use ballots::{Answer, Reply, Request, RequestId, Value};
 use indexmap::IndexMap;
 use std::alloc::Global;
@@ -159,11 +158,11 @@ impl State {
 }
 
 /// The reply to a request that ended so at that position.
-fn reply_at(ending: Ending, position: u32) -> Reply
-    ensures { result ≡ reply_for (outcome_of ending) position }
+fn reply_at(ending: Outcome, position: u32) -> Reply
+    ensures { result ≡ reply_for ending position }
 {
     match ending {
-        Ending::Done => Reply::Done(position),
-        Ending::Fault(code) => Reply::Fault(code, position),
+        Outcome::Done => Reply::Done(position),
+        Outcome::Fault(code) => Reply::Fault(code, position),
     }
 }

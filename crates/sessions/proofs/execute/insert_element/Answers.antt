@@ -4,13 +4,14 @@ use Rattle.trees.specs.Changes.{with_children, splice}
 use Rattle.trees.specs.declared.node.Kind.TheVariants.{Element}
 use Rattle.values.specs.declared.code.Code.TheVariants.{PXQ0003}
 use Rattle.trees.specs.Forest.{ForestTerm}
-use Rattle.sessions.specs.Run.{Ran, done, fault, inserted, insertion_ran, document_of}
+use Rattle.sessions.specs.declared.execute.Outcome.TheVariants.{Done, Fault}
+use Rattle.sessions.specs.Run.{Ran, inserted, insertion_ran, document_of}
 use Rattle.sessions.proofs.Runs.{document-found, ran-full, ran-many, ran-inserted}
 use Rattle.sessions.proofs.execute.insert_element.Goals as goal
 use Rattle.sessions.proofs.execute.insert_element.Goals.{then-index-ge-MAX_CHILDREN-via-then-index-ge-MAX_CHILDREN, then-index-ge-MAX_CHILDREN-via-else-index-ge-MAX_CHILDREN+then-len-ge-MAX_NODES}
 
 -- where it is too large
-refused : (c : goal.Joined-then-index-ge-MAX_CHILDREN) → insertion_ran c.args.forest.now c.args.name.now (document_of c.args.forest.now c.args.document.now) ≡ record { forest = c.args.forest.now; outcome = fault PXQ0003 }
+refused : (c : goal.Joined-then-index-ge-MAX_CHILDREN) → insertion_ran c.args.forest.now c.args.name.now (document_of c.args.forest.now c.args.document.now) ≡ record { forest = c.args.forest.now; outcome = Fault PXQ0003 }
 refused c =
     let f = c.args.forest.now in
     let d = c.in-Some.parent in
@@ -29,7 +30,7 @@ pub returns-then-index-ge-MAX_CHILDREN-clause-ended : goal.returns-then-index-ge
 returns-then-index-ge-MAX_CHILDREN-clause-ended c = ap (λ (r : Ran). r.outcome) (sym (refused c))
 
 -- where it fits
-made : (c : goal.In_ok-make_child) → insertion_ran c.args.forest.now c.args.name.now (document_of c.args.forest.now c.args.document.now) ≡ record { forest = c.make_child.new.self; outcome = done }
+made : (c : goal.In_ok-make_child) → insertion_ran c.args.forest.now c.args.name.now (document_of c.args.forest.now c.args.document.now) ≡ record { forest = c.make_child.new.self; outcome = Done }
 made c =
     let f = c.args.forest.now in
     let d = c.in-Some.parent in
@@ -48,7 +49,7 @@ made c =
     c.in_ok-make_child.ensures.made
     ∙ (λ i. record { trees = with_children d (splice (len i) (leaf (record { identity = id i; kind = Element; name = named i; text = bare i }))) f.trees; documents = f.documents; next = after i })
     in
-    rw found (ran-inserted f c.document.ensures.sound d there c.args.name.now (omega arith) (omega arith) ∙ ap (λ (x : ForestTerm). let r : Ran = record { forest = x; outcome = done } in r) (sym is))
+    rw found (ran-inserted f c.document.ensures.sound d there c.args.name.now (omega arith) (omega arith) ∙ ap (λ (x : ForestTerm). let r : Ran = record { forest = x; outcome = Done } in r) (sym is))
 
 pub returns-clause-store : goal.returns-clause-store
 returns-clause-store c = ap (λ (r : Ran). r.forest) (sym (made c))

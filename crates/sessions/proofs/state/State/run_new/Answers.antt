@@ -2,7 +2,7 @@ use Rattle.std.proofs.Common.{◌≡◌, Bool, ◌+◌, ◌++◌, ◌∷◌, [],
 use Rattle.trees.specs.Forest.{ForestTerm}
 use Rattle.ballots.specs.declared.request.RequestId.{RequestId}
 use Rattle.sessions.specs.Terms.{id_of}
-use Rattle.sessions.specs.Run.{run, outcome_of}
+use Rattle.sessions.specs.Run.{run}
 use Rattle.sessions.specs.Meaning.{reply_for}
 use Rattle.sessions.specs.Session.{SessionTerm, reply_to_new}
 use Rattle.ballots.specs.contracts.request.RequestIdPartialEq as requests
@@ -41,7 +41,7 @@ returns-clause-after c =
     let kept : m.entries ≡ s.replies = c.reserve.ensures.entries ∙ ap (λ (t : SessionTerm). t.replies) c.self.view_is in
     let id : c.id.result ≡ id_of r = c.id.ensures in
     let none : get same m c.id.result ≡ None = (λ i. lookup (same (id i)) (kept i)) ∙ c.requires.absent in
-    let ended : outcome_of c.in-Ok.ending ≡ (run s.forest r.text).outcome = c.in-Ok.ensures.ended ∙ (λ i. (run (store c i) (c.text.ensures.text i)).outcome) in
+    let ended : c.in-Ok.ending ≡ (run s.forest r.text).outcome = c.in-Ok.ensures.ended ∙ (λ i. (run (store c i) (c.text.ensures.text i)).outcome) in
     let reply : c.reply_at-reply.result ≡ reply_to_new s r = c.reply_at-reply.ensures ∙ (λ i. reply_for (ended i) (count c i + 1)) in
     inserted ∙ insert_entry-new same m c.id.result c.reply_at-reply.result none ∙ (λ i. kept i ++ (id i, reply i) ∷ [])) in
     let applied : c.self.inside.applied + 1 ≡ s.applied + 1 = ap (λ n. n + 1) (count c) in
