@@ -1,4 +1,4 @@
-//! Runs of scripts: what is printed, the exit statuses, and files that cannot be read or written.
+//! Runs of scripts: files that cannot be read or written, and the child past the limit.
 
 use crate::ran::{Ran, expect, lacked_memory};
 use paxq_run::run_script;
@@ -29,59 +29,6 @@ fn run_at_last(rt: &impl Abort, alloc: Global, script: &[u8]) -> Ran {
     }
     reader = script;
     run_of(alloc, &mut reader)
-}
-
-#[test]
-fn prints_replies_and_answers(rt: HostRuntime) {
-    for (script, output) in [
-        (
-            "submit 1 1 insert node element a {} into doc(\"db\")\nask doc(\"db\")/a\n",
-            "done 1\nat 1\n  element a {}\n",
-        ),
-        // Each request is run once.
-        (
-            "\
-submit 1 1 insert node element a {} into doc(\"db\")
-submit 1 1 insert node element b {} into doc(\"db\")
-ask doc(\"db\")/b
-submit 1 2 insert node element a {} into doc(\"no\")
-submit 1 2 insert node element a {} into doc(\"db\")
-ask doc(\"db\")/a
-ask doc(\"no\")/a
-",
-            "done 1\ndone 1\nat 1\nfault FODC0002 2\nfault FODC0002 2\nat 2\n  element a {}\nat 2 fault FODC0002\n",
-        ),
-        // Answers are in document order.
-        (
-            "\
-# two documents
-docs x y
-
-submit 7 1 insert node element a {} into doc(\"x\")
-submit 7 2 insert node element b {} into doc(\"x\")
-submit 7 3 insert node element a {} into doc(\"x\")
-ask doc(\"x\")/a
-ask doc(\"y\")/a",
-            "done 1\ndone 2\ndone 3\nat 3\n  element a {}\n  element a {}\nat 3\n",
-        ),
-    ] {
-        let ran = run_at_last(&rt, rt.alloc(), script.as_bytes());
-        expect(&rt, script, &ran, 0, output, "");
-    }
-}
-
-#[test]
-fn runs_nothing_of_what_is_no_script(rt: HostRuntime) {
-    for (bytes, report) in [
-        (
-            b"submit 1 1 insert node element a {} into doc(\"db\")\nask count(1)\n".as_slice(),
-            "paxq: line 2\n",
-        ),
-        (b"\xff", "paxq: cannot read script.pxq\n"),
-    ] {
-        let ran = run_at_last(&rt, rt.alloc(), bytes);
-        expect(&rt, report, &ran, 1, "", report);
-    }
 }
 
 // Gives some bytes, and then fails.
