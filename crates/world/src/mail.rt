@@ -29,7 +29,9 @@ pub(super) struct Mail {
     pub(super) deliveries: Vec<Delivery>,
 }
 
-/// The deliveries of a message to all members.
+/// Adds the deliveries of a message to all members.
+///
+/// It fails where memory is refused.
 fn deliver_to_all(
     plan: &mut Vec<Delivery>,
     members: Members,
@@ -48,7 +50,9 @@ fn deliver_to_all(
     Ok(())
 }
 
-/// The deliveries of a message to all others than its sender.
+/// Adds the deliveries of a message to all others than its sender.
+///
+/// It fails where memory is refused.
 fn deliver_to_others(
     plan: &mut Vec<Delivery>,
     members: Members,
@@ -70,7 +74,9 @@ fn deliver_to_others(
     Ok(())
 }
 
-/// The deliveries of a message.
+/// Adds the deliveries of a message.
+///
+/// It fails where memory is refused.
 fn deliver_to(
     plan: &mut Vec<Delivery>,
     members: Members,

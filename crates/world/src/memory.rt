@@ -13,6 +13,8 @@ use records::{MemRecords, RecordsFault};
 use std::alloc::{AllocError, Global};
 
 /// Records in memory that nobody has written, for so many members.
+///
+/// It fails where memory is refused.
 fn stores(alloc: Global, members: Members) -> Result<Vec<MemRecords>, AllocError>
     ensures many { IfOk result (λ stores. length stores.items ≡ members) }
     ensures unwritten { IfOk result (λ stores. (r : Record) → Has stores.items r → r ≡ fresh.kept) }

@@ -22,6 +22,8 @@ use records::{Records, RecordsFault};
 use std::alloc::Global;
 
 /// A member at its seat, which starts from the records of a store.
+///
+/// It fails where memory is refused, or where the store fails.
 fn place<R: Records + Drop>(
     alloc: Global,
     members: Members,
@@ -45,6 +47,8 @@ fn place<R: Records + Drop>(
 }
 
 /// The members at their seats, each of which starts from the records of its store.
+///
+/// It fails where memory is refused, or where one of the stores fails.
 fn place_all<R: Records + Drop>(
     alloc: Global,
     members: Members,

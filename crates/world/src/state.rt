@@ -31,8 +31,10 @@ pub(super) struct State<R: Records + Drop> {
     pub(super) told: Vec<Told>,
 }
 
-/// What is held, and what was found beside it. Where nothing was found, what is held is dropped here, in a function over any type: the
-/// proof of a function that drops a draft itself is many times as dear.
+/// What is held, and what was found beside it.
+///
+/// It fails where memory was refused to what should be found. Then what is held is dropped here, in a function over any type: the proof
+/// of a function that drops a draft itself is many times as dear.
 fn beside<A: Drop, B: Drop>(held: A, found: Result<B, AllocError>) -> Result<(A, B), AllocError>
     ensures ok { IfOk result (λ both. (both.0 ≡ held) × (found ≡ Ok both.1)) }
     ensures err { IfErr result (λ fault. found ≡ Err fault) }

@@ -59,6 +59,9 @@ impl<R: Records + Drop> State<R> {
     }
 
     /// That event, in which no store may stop a member.
+    ///
+    /// Faults: memory was refused, after `before` events, and nothing that shows has changed; a member is stopped after the event, as it is
+    /// where its store failed.
     fn go_straight(
         &mut self,
         alloc: Global,
@@ -85,6 +88,9 @@ impl<R: Records + Drop> State<R> {
     }
 
     /// Makes a straight run.
+    ///
+    /// Faults: memory was refused, after that many events, and the next one has changed nothing; a member is stopped after the last event
+    /// that happened, as it is where its store failed.
     pub(super) fn straight(
         &mut self,
         alloc: Global,
