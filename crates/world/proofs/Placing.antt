@@ -7,7 +7,7 @@ use Rattle.std.proofs.lemmas.Bool.{cases_eq}
 use Rattle.std.proofs.lemmas.Option.{same_Some, slice_get_read}
 use Rattle.records.specs.Law.{Fate, Grew, passing}
 use Rattle.ballots.specs.Messages.{CatchUp, Packet, packet, body_of}
-use Rattle.member.specs.Steps.{Input, Hears, IsNoQuestion, Member}
+use Rattle.member.specs.Steps.{Input, Hears, IsNoQuestion}
 use Rattle.member.specs.declared.outcome.Outcome.{Outcome}
 use Rattle.paxos.specs.Application.{Application}
 use Rattle.member.specs.declared.draft.Draft.{Draft}

@@ -1,5 +1,5 @@
 -- From a change of what code holds to the lists of events that lead to it.
-use Rattle.std.proofs.Common.{◌≡◌, ℕ, Bool, ◌≤◌, refl, sym, subst, ◌∙◌, inl, inr, ⊎_elim, List, [], ◌∷◌, ◌++◌, length, IsSome, Some, None, Option}
+use Rattle.std.proofs.Common.{◌≡◌, ℕ, Bool, ◌≤◌, refl, sym, subst, ◌∙◌, inl, inr, List, [], ◌∷◌, ◌++◌, length, IsSome, Some, None, Option}
 use Rattle.std.proofs.lemmas.Option.{none-some, same_Some}
 use Rattle.ballots.specs.Ballot.{most_members}
 use Rattle.member.specs.Steps.{Member}
