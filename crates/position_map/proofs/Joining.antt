@@ -73,7 +73,7 @@ kept_joined k v rooms es fs gs h i l m n same j =
     }
 
 -- what has values at the same positions has the same runs
-knows_same : {V : Type 0} (es fs : List (ℕ × V)) (end mid : ℕ → ℕ) → ((q : ℕ) → is_some (value_at q fs) ≡ is_some (value_at q es)) → ((q : ℕ) → mid q ≡ end q) → KnowsEnds es end → KnowsEnds fs mid
+pub knows_same : {V : Type 0} (es fs : List (ℕ × V)) (end mid : ℕ → ℕ) → ((q : ℕ) → is_some (value_at q fs) ≡ is_some (value_at q es)) → ((q : ℕ) → mid q ≡ end q) → KnowsEnds es end → KnowsEnds fs mid
 knows_same {V} es fs end mid h m k = record {
   first = λ p n s. rw (m (suc p)) (run p (end (suc p)) (k.first p (none p n) (sym (h (suc p)) ∙ s)));
   last = λ q s n. let r = k.last q (sym (h q) ∙ s) (none (suc q) n) in (r.0, m q ∙ r.1, none_there _ (h r.0 ∙ ap is_some r.2), run r.0 q r.3);

@@ -3,3 +3,4 @@ pub mod Runs
 pub mod Keeping
 pub mod Ahead
 pub mod Joining
+pub mod Copying

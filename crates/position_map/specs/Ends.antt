@@ -1,9 +1,13 @@
 -- Slots as they are kept: each with the other end of its run.
-use Rattle.std.specs.Prelude.{◌≡◌, ◌≢◌, ◌≤◌, ◌-◌, ◌^◌, ◌==◌, ℕ, suc, true, if◌then◌else◌, List, [], ◌∷◌, Option, Some, None, IsSome, is_some}
+use Rattle.std.specs.Prelude.{◌≡◌, ◌≢◌, ◌≤◌, ◌-◌, ◌^◌, ◌==◌, ℕ, suc, true, if◌then◌else◌, List, [], ◌∷◌, Option, Some, None, IsSome, IsSomeAnd, MatchOption, is_some}
 use Rattle.std.specs.List.{list_any}
 use Rattle.std.specs.Option.{unwrap_or}
 use Rattle.position_map.specs.declared.slot.Slot.{Slot as KeptSlot}
 use Rattle.position_map.specs.Slots.{Slot, value_at, filled, Rise, IsRunEnd}
+
+-- the one slot is a copy of the other, with a clone of its value if it has one
+abbrev pub IsSlotCopy : {V : Type 0} → (V → V → Type 0) → KeptSlot V → KeptSlot V → Type 0
+IsSlotCopy C s t = (t.other_end ≡ s.other_end) × MatchOption s.value (t.value ≡ None) (λ v. IsSomeAnd t.value (C v))
 
 -- the slots without what they know of their runs
 abbrev pub shown : {V : Type 0} → List (ℕ × KeptSlot V) → List (Slot V)

@@ -1,17 +1,17 @@
 //! Values by position, in a map that knows its runs of positions without a gap.
 
-ghost use Rattle.std.specs.Prelude.{◌≡◌, ◌≢◌, ◌≤◌, ◌<◌, ◌==◌, ℕ, if◌then◌else◌, [], None, Some, IsSome, MatchOption, OnErr, OnOk};
+ghost use Rattle.std.specs.Prelude.{◌≡◌, ◌≢◌, ◌≤◌, ◌<◌, ◌==◌, ℕ, suc, if◌then◌else◌, [], None, Some, IsSome, MatchOption, OnErr, OnOk};
 ghost use Rattle.std.specs.Option.{option_copied};
 ghost use Rattle.position_map.specs.Slots.{filled, value_at, HasSlot, IsNext, IsRunEnd, Rise};
 
-use super::slot::{Slot, join, last_after, make_room, put, remove_room};
+use super::slot::{Slot, first_after, first_from, join, last_after, make_room, put, remove_room};
 use std::alloc::{AllocError, Global};
 use std::collections::BTreeMap;
 use std::marker::Model;
 
 /// Values by position. A position may also have room for a value that is to come, so that it takes no memory then.
 ///
-/// Each call takes a few look-ups in a map, however many values there are. `next_from`, `last` and `forget_rooms` take at most one
+/// Each call takes a few look-ups in a map, however many values there are. `next_from`, `next_after`, `last` and `forget_rooms` take at most one
 /// more for each position where room was made since the last `forget_rooms`.
 #[derive(Drop)]
 pub struct PositionMap<V: Drop> {
@@ -58,12 +58,14 @@ impl<V: Drop> PositionMap<V> {
     pub fn next_from(&self, position: u32) -> Option<u32>
         ensures { MatchOption result ((q : ℕ) → position ≤ q → value_at q (filled self.now) ≡ None) (λ next. IsNext (filled self.now) position next) }
     {
-        for (next, slot) in self.slots.range(position..) {
-            if slot.value.is_some() {
-                return Some(*next);
-            }
-        }
-        None
+        first_from(&self.slots, position)
+    }
+
+    /// The lowest position above this one that has a value.
+    pub fn next_after(&self, position: u32) -> Option<u32>
+        ensures { MatchOption result ((q : ℕ) → position < q → value_at q (filled self.now) ≡ None) (λ next. IsNext (filled self.now) (suc position) next) }
+    {
+        first_after(&self.slots, position)
     }
 
     /// The last of the positions after this one that have values without a gap, or this one where the next has none. The position
@@ -97,6 +99,7 @@ impl<V: Drop> PositionMap<V> {
         ensures others { (q : ℕ) → HasSlot q self.old → HasSlot q self.new }
         ensures elsewhere { (q : ℕ) → q ≢ position → value_at q self.new ≡ value_at q self.old }
         ensures refused { OnErr result (self.new ≡ self.old) }
+        ensures rise { Rise 0 self.new }
     {
         if self.slots.contains_key(&position) {
             return Ok(());
@@ -110,6 +113,7 @@ impl<V: Drop> PositionMap<V> {
     pub fn forget_rooms(&mut self)
         ensures same { filled self.new ≡ filled self.old }
         ensures full { (q : ℕ) → HasSlot q self.new → IsSome (value_at q (filled self.new)) }
+        ensures rise { Rise 0 self.new }
     {
         while let Some(room) = self.rooms.pop() {
             remove_room(&mut self.slots, room);
@@ -121,9 +125,22 @@ impl<V: Drop> PositionMap<V> {
         requires room { HasSlot position self.old }
         ensures put { (q : ℕ) → value_at q (filled self.new) ≡ (if q == position then Some value else value_at q (filled self.old)) }
         ensures others { (q : ℕ) → HasSlot q self.old → HasSlot q self.new }
+        ensures rise { Rise 0 self.new }
     {
         if put(&mut self.slots, position, value) {
             join(&mut self.slots, position);
         }
+    }
+}
+
+/// Where the clones of values equal them, the clone of a map equals the map.
+impl<V: Drop + Clone> Clone for PositionMap<V> {
+    ghost is_clone = { λ m n. ((x y : V) → V.is_clone x y → y ≡ x) → n ≡ m };
+
+    fn clone(&self) -> Result<PositionMap<V>, AllocError> {
+        Ok(PositionMap {
+            slots: self.slots.clone()?,
+            rooms: self.rooms.clone()?,
+        })
     }
 }

@@ -1,9 +1,9 @@
 //! Slots by position: each has a value or the room for one, and at an end of a run the other end.
 
-ghost use Rattle.std.specs.Prelude.{◌≡◌, ◌≢◌, ◌≤◌, ◌↔◌, ◌^◌, ◌==◌, ℕ, List, [], ◌∷◌, ◌++◌, if◌then◌else◌, true, None, Some, IsTrue, OnErr, OnOk};
+ghost use Rattle.std.specs.Prelude.{◌≡◌, ◌≢◌, ◌≤◌, ◌<◌, ◌↔◌, ◌^◌, ◌==◌, ℕ, suc, List, [], ◌∷◌, ◌++◌, if◌then◌else◌, true, None, Some, IsTrue, MatchOption, OnErr, OnOk};
 ghost use Rattle.std.specs.List.{list_any};
-ghost use Rattle.position_map.specs.Slots.{filled, value_at, HasSlot, Rise};
-ghost use Rattle.position_map.specs.Ends.{end_at, end_known, first_of, last_of, shown, IsFilled, IsKept, Joins};
+ghost use Rattle.position_map.specs.Slots.{filled, value_at, HasSlot, IsNext, Rise};
+ghost use Rattle.position_map.specs.Ends.{end_at, end_known, first_of, last_of, shown, IsFilled, IsKept, IsSlotCopy, Joins};
 
 use std::alloc::AllocError;
 use std::collections::BTreeMap;
@@ -16,6 +16,21 @@ use std::collections::BTreeMap;
 pub(super) struct Slot<V: Drop> {
     pub(super) value: Option<V>,
     pub(super) other_end: u32,
+}
+
+impl<V: Drop + Clone> Clone for Slot<V> {
+    ghost is_clone = { λ s t. IsSlotCopy V.is_clone s t };
+
+    fn clone(&self) -> Result<Slot<V>, AllocError> {
+        let value = match &self.value {
+            Some(value) => Some(value.clone()?),
+            None => None,
+        };
+        Ok(Slot {
+            value,
+            other_end: self.other_end,
+        })
+    }
 }
 
 /// Makes an empty slot at a position that has none.
@@ -58,6 +73,31 @@ fn is_empty<V: Drop>(slots: &BTreeMap<u32, Slot<V>>, position: u32) -> bool
     match slots.get(&position) {
         Some(slot) => slot.value.is_none(),
         None => false,
+    }
+}
+
+/// The lowest position at or above this one whose slot has a value.
+pub(super) fn first_from<V: Drop>(slots: &BTreeMap<u32, Slot<V>>, position: u32) -> Option<u32>
+    requires rise { Rise 0 (shown slots.now.entries) }
+    ensures { MatchOption result ((q : ℕ) → position ≤ q → value_at q (filled (shown slots.now.entries)) ≡ None) (λ next. IsNext (filled (shown slots.now.entries)) position next) }
+{
+    for (next, slot) in slots.range(position..) {
+        if slot.value.is_some() {
+            return Some(*next);
+        }
+    }
+    None
+}
+
+/// The lowest position above this one whose slot has a value.
+pub(super) fn first_after<V: Drop>(slots: &BTreeMap<u32, Slot<V>>, position: u32) -> Option<u32>
+    requires rise { Rise 0 (shown slots.now.entries) }
+    requires fits { (q : ℕ) → 2 ^ 32 ≤ q → value_at q (shown slots.now.entries) ≡ None }
+    ensures { MatchOption result ((q : ℕ) → position < q → value_at q (filled (shown slots.now.entries)) ≡ None) (λ next. IsNext (filled (shown slots.now.entries)) (suc position) next) }
+{
+    match position.checked_add(1) {
+        Some(from) => first_from(slots, from),
+        None => None,
     }
 }
 

@@ -10,3 +10,6 @@ make_room-requires-clause-absent g c = none_there _ (is_there c.args.position c.
 
 pub invariant_of-self-2 : goal.invariant_of-self-2
 invariant_of-self-2 g c = rw c.in_ok-push.ensures.items (c.make_room.ensures.kept _ (last_among c.args.position c.self.inside.rooms.items) (kept_more c.args.position c.self.inside.rooms.items c.self.inside.slots.entries c.self.invariant))
+
+pub returns-clause-rise : goal.returns-clause-rise
+returns-clause-rise g c = (c.make_room.ensures.kept c.push.new.self.items (rw c.in_ok-push.ensures.items (last_among c.args.position c.self.inside.rooms.items)) (rw c.in_ok-push.ensures.items (kept_more c.args.position c.self.inside.rooms.items c.self.inside.slots.entries c.self.invariant))).rise

@@ -1,12 +1,12 @@
 use Rattle.std.proofs.Common.{◌∙◌, sym}
 use Rattle.position_map.proofs.Ahead.{ahead_first, ahead_found, ahead_more}
-use Rattle.position_map.proofs.map.PositionMap.next_from.Goals as goal
+use Rattle.position_map.proofs.slot.first_from.Goals as goal
 
 pub loop-next-init : goal.loop-next-init
 loop-next-init g c = record {
   can = tt;
   finite = tt;
-  ahead = rw (c.into_iter-next-iterator.ensures.into_iter_gives, c.range-next-items.ensures.between tt, ← c.self.view_is) (ahead_first c.args.position c.self.inside.slots.entries c.self.invariant.rise);
+  ahead = rw (c.into_iter-next-iterator.ensures.into_iter_gives, c.range-next-items.ensures.between tt) (ahead_first c.args.position c.args.slots.now.entries c.requires.rise);
 }
 
 pub loop-next-preserved : goal.loop-next-preserved
