@@ -2,6 +2,7 @@
 use Rattle.std.specs.Prelude.{◌<◌, ℕ, List, [], ◌∷◌, refl}
 use Rattle.std.specs.Coded.{Coded, code_by, coded×, coded_list}
 use Rattle.ballots.specs.declared.ballot.Ballot.{Ballot}
+use Rattle.ballots.specs.declared.value.Vote.{Vote}
 use Rattle.ballots.specs.declared.value.Entry.{Entry}
 use Rattle.ballots.specs.contracts.ballot.Ballot as ballot
 use Rattle.ballots.specs.contracts.value.Entry as entry
@@ -11,6 +12,11 @@ use Rattle.paxos.specs.Records.{Record}
 abbrev pub record_code : Coded Record
 record_code =
     code_by (Ballot × List Entry) (coded× ballot.the_row.coded (coded_list entry.the_row.coded)) (λ r. (r.promise, r.votes)) (λ p. record { promise = p.0; votes = p.1 }) (λ _. refl)
+
+-- votes with their positions, as entries
+abbrev pub entries_of : List (ℕ × Vote) → List Entry
+entries_of [] = []
+entries_of (e ∷ es) = record { position = e.0; vote = e.1 } ∷ entries_of es
 
 -- all positions are above p, and rise
 abbrev pub AreAbove : ℕ → List Entry → Type 0

@@ -1,4 +1,3 @@
 pub mod Law
 pub mod Kept
-pub mod Slots
 pub mod Script

@@ -4,21 +4,28 @@ ghost use Rattle.std.specs.Prelude.{◌≡◌, ◌≤◌, false, [], IfOk, OnErr
 ghost use Rattle.ballots.specs.Ballot.{IsBallot, below, no_ballot};
 ghost use Rattle.ballots.specs.Values.{positions};
 ghost use Rattle.ballots.specs.Messages.{window_of};
-ghost use Rattle.paxos.specs.Records.{NewPromise, NewVote, has_vote, vote_at, window, written};
-ghost use Rattle.records.specs.Kept.{IsRising};
+ghost use Rattle.paxos.specs.Records.{NewPromise, NewVote, has_vote, vote_at, window, with_vote, written};
+ghost use Rattle.position_map.specs.Slots.{HasSlot, Rise, filled};
+ghost use Rattle.records.specs.Kept.{IsRising, entries_of};
 ghost use Rattle.records.specs.Law.{Counts, Goes, Puts};
 
 use super::records::{Records, RecordsFault};
-use super::slots::Slots;
-use ballots::{Ballot, Vote, Window};
+use ballots::{Ballot, Entry, Vote, Window};
+use position_map::PositionMap;
 use std::alloc::{AllocError, Global};
 use std::marker::Model;
+
+/// The votes that a window has at most.
+const MOST_ENTRIES: usize = 8;
+
+/// The last position.
+const POSITIONS: u32 = 1_000_000;
 
 /// What an acceptor keeps over stops ("Paxos Made Simple", sections 2.2 and 2.5): its promise, and its last vote at each position.
 #[derive(Drop)]
 pub struct Record {
     promise: Ballot,
-    votes: Slots,
+    votes: PositionMap<Vote>,
 }
 
 impl Model for Record {
@@ -29,9 +36,10 @@ impl Model for Record {
 
     ghost coded = { record_code };
 
-    ghost use Rattle.records.specs.Slots.{Rise, filled};
+    ghost use Rattle.position_map.specs.Slots.{Rise, filled};
+    ghost use Rattle.records.specs.Kept.{entries_of};
 
-    ghost view = { λ r. record { promise = r.promise; votes = filled r.votes } };
+    ghost view = { λ r. record { promise = r.promise; votes = entries_of (filled r.votes) } };
 
     ghost invariant = { λ r. Rise 0 r.votes };
 }
@@ -43,7 +51,7 @@ impl Record {
     {
         Record {
             promise: Ballot::NONE,
-            votes: Slots::new(alloc),
+            votes: PositionMap::new(alloc),
         }
     }
 
@@ -71,7 +79,32 @@ impl Record {
     pub fn window(&self, alloc: Global, ballot: Ballot, from: u32) -> Result<Window, AllocError>
         ensures { IfOk result (λ w. window_of w ≡ window ballot from self.now.votes) }
     {
-        self.votes.window(alloc, ballot, from)
+        let mut entries: Vec<Entry> = Vec::new(alloc);
+        let mut next = self.votes.next_from(from);
+        while let Some(position) = next {
+            if entries.len() == MOST_ENTRIES {
+                let covered = entries[MOST_ENTRIES - 1].position;
+                return Ok(Window {
+                    ballot,
+                    from,
+                    covered,
+                    entries,
+                });
+            }
+            if let Some(vote) = self.votes.get(position) {
+                entries.push(Entry {
+                    position,
+                    vote: vote.clone()?,
+                })?;
+            }
+            next = self.votes.next_after(position);
+        }
+        Ok(Window {
+            ballot,
+            from,
+            covered: POSITIONS,
+            entries,
+        })
     }
 
     /// Promises a ballot.
@@ -88,6 +121,7 @@ impl Record {
         requires least { 1 ≤ position }
         ensures same { self.new ≡ self.old }
     {
+        self.votes.forget_rooms();
         self.votes.reserve(position)
     }
 
@@ -101,7 +135,7 @@ impl Record {
     {
         self.votes.reserve(position)?;
         self.promise = vote.ballot;
-        self.votes.fill(position, vote);
+        fill(&mut self.votes, position, vote);
         Ok(())
     }
 
@@ -168,9 +202,20 @@ impl Record {
         }
         records.put_vote(alloc, vote.ballot, position, &vote.value)?;
         self.promise = vote.ballot;
-        self.votes.fill(position, vote);
+        fill(&mut self.votes, position, vote);
         Ok(())
     }
+}
+
+/// Puts a vote where there is room or a vote. Room that is left is taken away.
+fn fill(votes: &mut PositionMap<Vote>, position: u32, vote: Vote)
+    requires room { HasSlot position votes.old }
+    requires rise { Rise 0 votes.old }
+    ensures put { entries_of (filled votes.new) ≡ with_vote position vote (entries_of (filled votes.old)) }
+    ensures rise { Rise 0 votes.new }
+{
+    votes.fill(position, vote);
+    votes.forget_rooms();
 }
 
 impl Clone for Record {

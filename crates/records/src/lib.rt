@@ -5,7 +5,6 @@ mod kept;
 mod memory;
 mod records;
 mod script;
-mod slots;
 
 pub use kept::Record;
 pub use memory::MemRecords;

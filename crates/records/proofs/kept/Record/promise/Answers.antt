@@ -1,4 +1,4 @@
-use Rattle.records.proofs.Filled.{above_filled}
+use Rattle.records.proofs.Votes.{above_filled}
 use Rattle.records.proofs.kept.Record.promise.Goals as goal
 
 pub returns-clause-rising : goal.returns-clause-rising
