@@ -4,3 +4,4 @@ pub mod Values
 pub mod Replies
 pub mod Messages
 pub mod Spelling
+pub mod Limits

@@ -2,12 +2,10 @@
 
 ghost use Rattle.std.specs.Prelude.{◌≡◌, ◌≢◌, ◌<◌, ◌≤◌, ◌↔◌, IfOk, IsErrOf, length};
 
-use super::request::{MAX_TEXT, RequestId};
+use super::limits::{MOST_BYTES, POSITIONS};
+use super::request::RequestId;
 use std::alloc::Global;
 use std::marker::Model;
-
-/// The positions that there are.
-const POSITIONS: u32 = 1_000_000;
 
 /// Why a question is refused.
 #[derive(Clone, Copy, PartialEq, Eq, Debug)]
@@ -72,7 +70,7 @@ impl Ask {
         if level != 1 {
             return Err(AskFault::Level);
         }
-        if text.len() > MAX_TEXT {
+        if text.len() > MOST_BYTES {
             return Err(AskFault::TextTooLong);
         }
         if floor > POSITIONS {

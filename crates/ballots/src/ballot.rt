@@ -3,6 +3,7 @@
 ghost use Rattle.std.specs.Prelude.{◌≡◌, ◌≤◌, ◌<◌, ◌⊎◌, ◌↔◌, None, IfSome};
 ghost use Rattle.ballots.specs.Ballot.{below, is_majority, has_member};
 
+use super::limits::MOST_MEMBERS;
 use std::marker::Model;
 
 /// A round, and the member that began it: a proposal number of "Paxos Made Simple", section 2.2. The round decides first.
@@ -53,7 +54,7 @@ impl Members {
         ensures made { IfSome result (λ n. n ≡ count) }
         ensures range { (result ≡ None) ↔ ((count ≡ 0) ⊎ (63 < count)) }
     {
-        if count == 0 || count > 63 {
+        if count == 0 || count > MOST_MEMBERS {
             return None;
         }
         Some(Members(count))

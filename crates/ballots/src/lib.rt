@@ -6,6 +6,7 @@
 mod ask;
 mod ballot;
 pub mod laws;
+pub mod limits;
 mod message;
 mod reply;
 mod request;
@@ -15,9 +16,10 @@ mod value;
 
 pub use ask::{Ask, AskFault};
 pub use ballot::{Ballot, Members};
+pub use limits::MOST_BYTES as MAX_TEXT;
 pub use message::{Message, Window};
 pub use reply::{Answer, Reply};
-pub use request::{MAX_TEXT, Request, RequestFault, RequestId};
+pub use request::{Request, RequestFault, RequestId};
 pub use setup::{Setup, SetupFault};
 pub use spelling::{ValueFault, put_value, take_value};
 pub use value::{Entry, Pair, Value, Vote};

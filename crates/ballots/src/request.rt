@@ -3,11 +3,9 @@
 ghost use Rattle.std.specs.Prelude.{◌≡◌, ◌≢◌, ◌<◌, ◌≤◌, ◌↔◌, IfOk, IsErrOf, length};
 ghost use Rattle.ballots.specs.Terms.{same_request};
 
+use super::limits::MOST_BYTES;
 use std::alloc::{AllocError, Global};
 use std::marker::Model;
-
-/// The bytes that the text of a request or a question has at most.
-pub const MAX_TEXT: usize = 4096;
 
 /// Who made a request, and the number that the client gave it: the same pair is the same request.
 #[derive(Clone, Copy, PartialEq, Eq, Hash, Debug)]
@@ -74,7 +72,7 @@ impl Request {
         if level != 1 {
             return Err(RequestFault::Level);
         }
-        if text.len() > MAX_TEXT {
+        if text.len() > MOST_BYTES {
             return Err(RequestFault::TextTooLong);
         }
         match String::from_str(alloc, text) {

@@ -4,7 +4,8 @@ ghost use Rattle.std.specs.Prelude.{◌≡◌, ◌≤◌, ◌++◌, [], ◌∷�
 ghost use Rattle.byteorder.specs.Endian.{big_bytes};
 ghost use Rattle.ballots.specs.Spelling.{Gives, Fails, IsAfter, IsRequest, IsValue, bytes_read, number_read, text_read, request_read, request_spelling, value_read, value_spelling};
 
-use super::request::{MAX_TEXT, Request, RequestFault, RequestId};
+use super::limits::MOST_BYTES;
+use super::request::{Request, RequestFault, RequestId};
 use super::value::Value;
 use byteorder::{BigEndian, ByteOrder};
 use std::alloc::{AllocError, Global};
@@ -139,7 +140,7 @@ fn split_text(bytes: &[u8]) -> Result<(&str, &[u8]), ValueFault>
 {
     let (length, rest) = split_u16(bytes)?;
     let length = usize::from(length);
-    if length > MAX_TEXT {
+    if length > MOST_BYTES {
         return Err(ValueFault::Number);
     }
     let (text, rest) = split(rest, length)?;

@@ -22,16 +22,11 @@ ghost use Rattle.proposer.specs.Terms.{cover_of, is_learnt_of, proposing, report
 use super::draft::News;
 use super::sends::{Asked, Sends};
 use super::view::{Made, View};
+use ballots::limits::{MOST_OPEN, POSITIONS};
 use ballots::{Ballot, Entry, Members, Pair, Value, Vote, Window};
 use position_map::PositionMap;
 use std::alloc::{AllocError, Global};
 use std::marker::Model;
-
-/// The last position.
-pub(super) const POSITIONS: u32 = 1_000_000;
-
-/// The proposals that are open at most.
-pub(super) const MOST_OPEN: usize = 16;
 
 /// What a proposer has while it leads.
 #[derive(Drop)]

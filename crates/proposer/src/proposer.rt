@@ -20,14 +20,12 @@ ghost use Rattle.proposer.specs.Terms.{Leading, is_open, proposing, yielded};
 
 use super::draft::{Change, Draft};
 use super::fault::ProposerFault;
-use super::lead::{Lead, POSITIONS, copy_entries};
+use super::lead::{Lead, copy_entries};
 use super::sends::Sends;
+use ballots::limits::{LAST_ROUND, POSITIONS};
 use ballots::{Ballot, Members, Request, Value, Window};
 use std::alloc::{AllocError, Global};
 use std::marker::Model;
-
-/// The last round.
-const LAST_ROUND: u64 = (1 << 40) - 1;
 
 /// A proposer ("Paxos Made Simple", section 2.2), which leads from the moment that it begins a ballot until it yields to a higher one.
 #[derive(Drop)]

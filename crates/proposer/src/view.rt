@@ -11,7 +11,8 @@ ghost use Rattle.proposer.specs.Beginning.{is_in, IsRising};
 ghost use Rattle.proposer.specs.Views.{View as ViewTerm, AreRising, cover_in, report_in_view, is_learnt_in, IsLastIn};
 ghost use Rattle.proposer.specs.Turning.{HasGone, IsTurn};
 
-use super::lead::{Lead, MOST_OPEN, POSITIONS};
+use super::lead::Lead;
+use ballots::limits::{MOST_OPEN, POSITIONS};
 use ballots::{Entry, Members, Pair, Value, Vote};
 use std::alloc::{AllocError, Global};
 use std::marker::Model;
