@@ -16,7 +16,6 @@ mod value;
 
 pub use ask::{Ask, AskFault};
 pub use ballot::{Ballot, Members};
-pub use limits::MOST_BYTES as MAX_TEXT;
 pub use message::{Message, Window};
 pub use reply::{Answer, Reply};
 pub use request::{Request, RequestFault, RequestId};

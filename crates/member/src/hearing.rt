@@ -6,16 +6,8 @@ ghost use Rattle.ballots.specs.Values.{positions};
 ghost use Rattle.paxos.specs.WellFormed.{ArePairs, AreVotes, IsBallotOf, IsBody, IsPosition, IsSender, IsWindow, last_position};
 ghost use Rattle.member.specs.Steps.{Hears, IsHeard, IsNoQuestion};
 
+use ballots::limits::{LAST_ROUND, MOST_ENTRIES, POSITIONS};
 use ballots::{Ballot, Entry, Members, Message, Pair, Window};
-
-/// The last position.
-const POSITIONS: u32 = 1_000_000;
-
-/// The last round.
-const LAST_ROUND: u64 = (1 << 40) - 1;
-
-/// How many votes or values one message has at the most.
-const MOST_ENTRIES: usize = 8;
 
 /// Whether a ballot is one of the members'.
 #[tactic(auto, unfolding(ballots::specs::Ballot::last_round))]

@@ -31,18 +31,13 @@ use super::outcome::{Outcome, Target};
 use super::sends::{accepts_first, prepares_first, prepares_then_accepts, quiet, say};
 use super::told::{told_among, told_at};
 use acceptor::Acceptor;
+use ballots::limits::{LAST_ROUND, POSITIONS};
 use ballots::{Ballot, Members, Message, Pair, Request, Value, Vote, Window};
 use learner::Learner;
 use proposer::{Draft as ProposerDraft, Proposer, ProposerFault};
 use records::{Records, RecordsFault};
 use std::alloc::Global;
 use std::marker::Model;
-
-/// The last position.
-const POSITIONS: u32 = 1_000_000;
-
-/// The last round.
-const LAST_ROUND: u64 = (1 << 40) - 1;
 
 /// One of the members: an acceptor, a proposer and a learner ("Paxos Made Simple", section 2.5: each server plays every part).
 #[derive(Drop)]

@@ -10,7 +10,8 @@ ghost use Rattle.paxq_files.specs.Script.{ask_of, command_of, has_text_length, n
 
 use crate::lines::cut_at;
 use crate::script::Command;
-use ballots::{MAX_TEXT, Request, RequestFault};
+use ballots::limits::MOST_BYTES;
+use ballots::{Request, RequestFault};
 use query_forms::{read_insertion, read_path};
 use std::alloc::{AllocError, Global};
 
@@ -101,7 +102,7 @@ pub fn new_request(
 pub fn has_text_length(text: &str) -> bool
     ensures { result ≡ has_text_length text.now }
 {
-    !text.is_empty() && text.len() <= MAX_TEXT
+    !text.is_empty() && text.len() <= MOST_BYTES
 }
 
 /// A client's number, up to 2^32 - 1, in decimal and without a sign; leading zeros are taken.

@@ -12,15 +12,13 @@ ghost use Rattle.paxq_files.specs.Script.{submit, ask};
 ghost use Rattle.paxq_run.specs.Play.{turn_of, commands_run, text_run, unreadable_run, Ran, Wrote, line_feed, IsTurn, IsPlayed, IsCut, IfMemory, FileRan, BytesRan};
 
 use super::print::{answer_text, reply_text};
+use ballots::limits::POSITIONS;
 use ballots::{Request, Value};
 use paxq_files::{Command, Script, ScriptFault, read_script};
 use sessions::{NoMemory, State};
 use std::alloc::{AllocError, Global};
 use std::io;
 use std::io::{Read, Write};
-
-/// The positions that there are.
-const POSITIONS: u32 = 1_000_000;
 
 /// The language level of a script's questions.
 const LEVEL: u8 = 1;
