@@ -1,5 +1,5 @@
 -- Values and votes, and when two are the same.
-use Rattle.std.specs.Prelude.{ℕ, Bool, true, false, ◌&&◌}
+use Rattle.std.specs.Prelude.{◌+◌, ◌≤◌, ℕ, Bool, true, false, ◌&&◌, List, [], ◌∷◌}
 use Rattle.ballots.specs.Terms.{Request, same_request, same_number}
 use Rattle.ballots.specs.Ballot.{same_ballot}
 use Rattle.ballots.specs.declared.value.Value.{Value}
@@ -9,6 +9,11 @@ use Rattle.ballots.specs.declared.value.Vote.{Vote}
 -- positions are 1 to this (our own choice); each is an instance of the algorithm, as in section 3 of "Paxos Made Simple"
 unfoldable pub positions : ℕ
 positions = 1000000
+
+-- positions rise from `least` on, and are at most the last that there is
+abbrev pub IsRising : (least : ℕ) → List ℕ → Type 0
+IsRising least [] = Unit {0}
+IsRising least (p ∷ ps) = (least ≤ p) × (p ≤ positions) × IsRising (p + 1) ps
 
 -- the two are one value
 abbrev pub same_value : Value → Value → Bool

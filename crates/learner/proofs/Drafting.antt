@@ -4,13 +4,13 @@ use Rattle.std.specs.Prelude.{IfOk}
 use Rattle.std.specs.List.{All}
 use Rattle.std.proofs.lemmas.List.Elements.{All-filter, filter_more}
 use Rattle.ballots.specs.Ballot.{is_majority}
-use Rattle.ballots.specs.Values.{positions}
+use Rattle.ballots.specs.Values.{positions, IsRising}
 use Rattle.ballots.specs.declared.value.Vote.{Vote}
 use Rattle.ballots.specs.declared.value.Pair.{Pair}
 use Rattle.paxos.specs.Knowledge.{AcceptedBy, Heard, pair_of, value_at}
 use Rattle.learner.specs.Changes.{Change, Counts, HasCounted, IsAsWas, IsChanged, IsDue, Learns, Nothing, change_of, not_learnt, positions_in, positions_of, with_member}
 use Rattle.learner.specs.Drafts.{Draft}
-use Rattle.learner.specs.Hearing.{AreAbove, HasHeard, IsRising, news_at}
+use Rattle.learner.specs.Hearing.{AreAbove, HasHeard, news_at}
 use Rattle.learner.specs.Polls.{IsAdded}
 use Rattle.learner.specs.Slots.{IsPosition}
 use Rattle.learner.specs.Terms.{Learner, Tally, learnt_of}

@@ -1,8 +1,8 @@
 -- When a learner is one that has heard some messages ("Paxos Made Simple", section 2.3); lists of what was heard have the newest first.
-use Rattle.std.specs.Prelude.{◌≡◌, ◌≢◌, ◌+◌, ◌<◌, ◌≤◌, ℕ, Bool, false, ◌&&◌, ◌==◌, List, [], ◌∷◌, map, None, IsSome}
+use Rattle.std.specs.Prelude.{◌≡◌, ◌≢◌, ◌<◌, ◌≤◌, ℕ, Bool, false, ◌&&◌, ◌==◌, List, [], ◌∷◌, map, None, IsSome}
 use Rattle.std.specs.List.{list_any}
 use Rattle.ballots.specs.Ballot.{has_member}
-use Rattle.ballots.specs.Values.{positions, same_vote}
+use Rattle.ballots.specs.Values.{same_vote}
 use Rattle.ballots.specs.declared.value.Vote.{Vote}
 use Rattle.ballots.specs.declared.value.Pair.{Pair}
 use Rattle.paxos.specs.Lists.{Has}
@@ -30,11 +30,6 @@ AreDistinct (t ∷ ts) = (list_any (is_of t.position t.vote) ts ≡ false) × Ar
 abbrev pub AreAbove : ℕ → List Pair → Type 0
 AreAbove p [] = Unit {0}
 AreAbove p (e ∷ es) = (p < e.position) × AreAbove e.position es
-
--- positions rise from `least` on, and are at most the last that there is
-abbrev pub IsRising : (least : ℕ) → List ℕ → Type 0
-IsRising least [] = Unit {0}
-IsRising least (p ∷ ps) = (least ≤ p) × (p ≤ positions) × IsRising (p + 1) ps
 
 -- what a learner that heard this knows: the values learnt; of the other positions a tally for each vote heard there, and no others
 pub record HasHeard (heard : List Heard) (l : Learner) : Type 0 where

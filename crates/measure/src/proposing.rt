@@ -2,8 +2,7 @@
 
 ghost use Rattle.std.specs.Prelude.{◌≡◌, ◌≤◌, IfSome};
 ghost use Rattle.ballots.specs.Messages.{window_of};
-ghost use Rattle.ballots.specs.Values.{positions};
-ghost use Rattle.proposer.specs.Beginning.{IsRising};
+ghost use Rattle.ballots.specs.Values.{positions, IsRising};
 ghost use Rattle.proposer.specs.Hearing.{IsWindow};
 
 use ballots::{Ballot, Members, Request, Window};

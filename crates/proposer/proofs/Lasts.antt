@@ -2,10 +2,10 @@
 use Rattle.std.proofs.Common.{◌≡◌, ℕ, zero, suc, ◌+◌, ◌-◌, ◌≤◌, ◌<◌, Bool, true, false, ◌||◌, arith, refl, List, [], ◌∷◌, length, Some, None, IsSome, eqb}
 use Rattle.std.specs.Prelude.{slice_get}
 use Rattle.std.proofs.lemmas.Bool.{eq-eqb, ne_eqb}
-use Rattle.ballots.specs.Values.{positions}
+use Rattle.ballots.specs.Values.{positions, IsRising}
 use Rattle.ballots.specs.declared.value.Entry.{Entry}
 use Rattle.paxos.specs.Records.{vote_at}
-use Rattle.proposer.specs.Beginning.{is_in, IsRising}
+use Rattle.proposer.specs.Beginning.{is_in}
 use Rattle.proposer.specs.Views.{AreRising}
 use Rattle.proposer.proofs.Positions.{some_one}
 

@@ -3,7 +3,7 @@ use Rattle.std.proofs.Common.{◌≡◌, ◌≢◌, ℕ, zero, suc, ◌+◌, ◌
 use Rattle.std.specs.Prelude.{remove}
 use Rattle.std.proofs.Math.Seq.{drop-cons}
 use Rattle.std.proofs.lemmas.Bool.{eq-eqb, ne_eqb, cases_eq}
-use Rattle.ballots.specs.Values.{positions}
+use Rattle.ballots.specs.Values.{positions, IsRising}
 use Rattle.ballots.specs.declared.value.Entry.{Entry}
 use Rattle.ballots.specs.declared.value.Pair.{Pair}
 use Rattle.ballots.specs.declared.value.Vote.{Vote}
@@ -12,7 +12,7 @@ use Rattle.paxos.specs.Proposing.{still_open}
 use Rattle.paxos.specs.Records.{vote_at}
 use Rattle.position_map.specs.Slots.{Slot, filled, value_at, HasSlot}
 use Rattle.proposer.specs.Merging.{HaveRoom, HavePlaces, IsMerged, IsLearning}
-use Rattle.proposer.specs.Beginning.{is_in, IsRising}
+use Rattle.proposer.specs.Beginning.{is_in}
 use Rattle.proposer.specs.Inside.{IsWithin}
 use Rattle.proposer.proofs.Positions.{rising_below}
 use Rattle.proposer.specs.Views.{AreRising}

@@ -3,10 +3,10 @@ use Rattle.std.proofs.Common.{◌≡◌, ℕ, zero, suc, ◌+◌, ◌≤◌, ◌
 use Rattle.std.proofs.Math.Seq.{drop-cons}
 use Rattle.std.proofs.lemmas.Bool.{ne_eqb}
 use Rattle.std.specs.Option.{unwrap_or}
-use Rattle.ballots.specs.Values.{positions}
+use Rattle.ballots.specs.Values.{positions, IsRising}
 use Rattle.paxos.specs.Lists.{at}
 use Rattle.position_map.specs.Slots.{value_at}
-use Rattle.proposer.specs.Beginning.{is_in, IsRising}
+use Rattle.proposer.specs.Beginning.{is_in}
 
 -- positions that rise from somewhere rise from below
 pub rising_below : (k n : ℕ) (ps : List ℕ) → k ≤ n → IsRising n ps → IsRising k ps

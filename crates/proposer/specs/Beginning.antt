@@ -1,8 +1,7 @@
 -- What is given where a member begins a ballot ("Paxos Made Simple", sections 2.2 and 3).
-use Rattle.std.specs.Prelude.{◌≡◌, ◌+◌, ◌≤◌, ℕ, suc, Bool, false, ◌==◌, List, [], ◌∷◌, length, None}
+use Rattle.std.specs.Prelude.{◌≡◌, ◌≤◌, ℕ, suc, Bool, false, ◌==◌, List, [], length, None}
 use Rattle.std.specs.List.{list_any}
 use Rattle.ballots.specs.Ballot.{same_ballot}
-use Rattle.ballots.specs.Values.{positions}
 use Rattle.ballots.specs.declared.ballot.Ballot.{Ballot}
 use Rattle.ballots.specs.Messages.{Packet}
 use Rattle.paxos.specs.Knowledge.{Promised, windows}
@@ -12,11 +11,6 @@ use Rattle.proposer.specs.Terms.{Leading, cover_of, report_of, is_learnt_of}
 -- the position is in the list
 abbrev pub is_in : (position : ℕ) → List ℕ → Bool
 is_in p ps = list_any (λ q. p == q) ps
-
--- positions rise from `least` on, and are at most the last that there is
-abbrev pub IsRising : (least : ℕ) → List ℕ → Type 0
-IsRising least [] = Unit {0}
-IsRising least (p ∷ ps) = (least ≤ p) × (p ≤ positions) × IsRising (p + 1) ps
 
 -- From this position on the list has the positions that are learnt, and nothing was promised to the ballot yet.
 pub record IsFresh (members : ℕ) (heard : List Packet) (ballot : Ballot) (from : ℕ) (known : List ℕ) : Type 0 where

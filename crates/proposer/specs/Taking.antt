@@ -2,13 +2,13 @@
 use Rattle.std.specs.Prelude.{◌≡◌, ◌≤◌, ◌+◌, ◌&&◌, ℕ, suc, nat_lt, if◌then◌else◌, List, [], ◌∷◌, ◌++◌, length}
 use Rattle.ballots.specs.declared.value.Pair.{Pair}
 use Rattle.ballots.specs.declared.value.Entry.{Entry}
-use Rattle.ballots.specs.Values.{positions}
+use Rattle.ballots.specs.Values.{positions, IsRising}
 use Rattle.position_map.specs.Slots.{filled}
 use Rattle.paxos.specs.Proposing.{still_open}
 use Rattle.proposer.specs.declared.draft.News.{News}
 use Rattle.proposer.specs.declared.sends.Asked.{Asked}
 use Rattle.proposer.specs.declared.sends.Sends.{Sends}
-use Rattle.proposer.specs.Beginning.{is_in, IsRising}
+use Rattle.proposer.specs.Beginning.{is_in}
 use Rattle.proposer.specs.Merging.{HaveRoom, HavePlaces, with_learnt, with_reports}
 use Rattle.proposer.specs.Terms.{Leading, cover_of, report_of, is_learnt_of}
 use Rattle.proposer.specs.Views.{View, AreRising, cover_in, report_in_view, is_learnt_in}

@@ -1,11 +1,11 @@
 -- What a leader knows once it takes in one more message.
 use Rattle.std.specs.Prelude.{◌≡◌, ◌<◌, ◌≤◌, ◌+◌, ◌⊎◌, ℕ, Bool, true, false, ◌||◌, ◌==◌, if◌then◌else◌, List, [], ◌∷◌, Option, None, IsSome}
-use Rattle.ballots.specs.Values.{positions}
+use Rattle.ballots.specs.Values.{positions, IsRising}
 use Rattle.ballots.specs.declared.value.Entry.{Entry}
 use Rattle.ballots.specs.declared.value.Vote.{Vote}
 use Rattle.paxos.specs.Knowledge.{higher}
 use Rattle.paxos.specs.Records.{vote_at}
-use Rattle.proposer.specs.Beginning.{is_in, IsRising}
+use Rattle.proposer.specs.Beginning.{is_in}
 use Rattle.proposer.specs.Terms.{Leading, cover_of, report_of, is_learnt_of}
 
 -- what was known; the member that promises (0 where none does), how far it covers then, and what it reports; what is newly learnt

@@ -4,13 +4,13 @@ ghost use Rattle.std.specs.Prelude.{◌≡◌, ◌≢◌, ◌≤◌, ◌<◌, �
 ghost use Rattle.ballots.specs.Ballot.{last_round};
 ghost use Rattle.ballots.specs.Messages.{Packet, Prepare, Promise, packet, to_all, window_of};
 ghost use Rattle.ballots.specs.Terms.{Request as RequestTerm};
-ghost use Rattle.ballots.specs.Values.{positions};
+ghost use Rattle.ballots.specs.Values.{positions, IsRising};
 ghost use Rattle.ballots.specs.declared.value.Pair.{Pair};
 ghost use Rattle.ballots.specs.declared.value.Value.{Value};
 ghost use Rattle.paxos.specs.Knowledge.{Heard, newly, news, news_of, prefix};
 ghost use Rattle.paxos.specs.Records.{Record};
 ghost use Rattle.paxos.specs.Step.{Leader, begins, on_new_request, on_news, on_promise, on_resend, yields};
-ghost use Rattle.proposer.specs.Beginning.{IsBegun, IsFresh, IsRising};
+ghost use Rattle.proposer.specs.Beginning.{IsBegun, IsFresh};
 ghost use Rattle.proposer.specs.Hearing.{IsUnchanged, IsWindow, TakesLearnt, TakesPromise};
 ghost use Rattle.proposer.specs.Knowing.{IsStopped, Knows, TookPart, accepts_first, prepares_first};
 ghost use Rattle.proposer.specs.declared.draft.News.{News};

@@ -3,11 +3,11 @@
 ghost use Rattle.std.specs.Prelude.{◌≡◌, ◌≤◌, ◌<◌, ◌+◌, ℕ, nat_le, List, length, true, false, None, IsSome, IfOk};
 ghost use Rattle.std.specs.Option.{option_copied};
 ghost use Rattle.ballots.specs.Ballot.{count};
-ghost use Rattle.ballots.specs.Values.{positions};
+ghost use Rattle.ballots.specs.Values.{positions, IsRising};
 ghost use Rattle.ballots.specs.declared.value.Pair.{Pair as PairTerm};
 ghost use Rattle.paxos.specs.Proposing.{Turn as TurnTerm, has_place, turn};
 ghost use Rattle.paxos.specs.Records.{vote_at};
-ghost use Rattle.proposer.specs.Beginning.{is_in, IsRising};
+ghost use Rattle.proposer.specs.Beginning.{is_in};
 ghost use Rattle.proposer.specs.Views.{View as ViewTerm, AreRising, cover_in, report_in_view, is_learnt_in, IsLastIn};
 ghost use Rattle.proposer.specs.Turning.{HasGone, IsTurn};
 

@@ -8,8 +8,7 @@
 // no-op). `-` stands where there are no messages to send, and a refusal stands there too.
 ghost use Rattle.std.specs.Prelude.{◌≡◌, ◌≤◌, true};
 ghost use Rattle.ballots.specs.Messages.{window_of};
-ghost use Rattle.ballots.specs.Values.{positions};
-ghost use Rattle.proposer.specs.Beginning.{IsRising};
+ghost use Rattle.ballots.specs.Values.{positions, IsRising};
 ghost use Rattle.proposer.specs.Hearing.{AreBetween, IsWindow};
 
 use crate::words::{Words, cut};

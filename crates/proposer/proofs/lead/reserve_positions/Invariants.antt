@@ -1,6 +1,6 @@
 use Rattle.std.proofs.Common.{◌≡◌, drop}
 use Rattle.position_map.specs.Slots.{filled}
-use Rattle.proposer.specs.Beginning.{IsRising}
+use Rattle.ballots.specs.Values.{IsRising}
 use Rattle.proposer.proofs.Merging.{Places}
 use Rattle.proposer.proofs.lead.reserve_positions.Given as goal
 
