@@ -10,16 +10,11 @@ ghost use Rattle.records.specs.Kept.{IsRising, entries_of};
 ghost use Rattle.records.specs.Law.{Counts, Goes, Puts};
 
 use super::records::{Records, RecordsFault};
+use ballots::limits::{MOST_ENTRIES, POSITIONS};
 use ballots::{Ballot, Entry, Vote, Window};
 use position_map::PositionMap;
 use std::alloc::{AllocError, Global};
 use std::marker::Model;
-
-/// The votes that a window has at most.
-const MOST_ENTRIES: usize = 8;
-
-/// The last position.
-const POSITIONS: u32 = 1_000_000;
 
 /// What an acceptor keeps over stops ("Paxos Made Simple", sections 2.2 and 2.5): its promise, and its last vote at each position.
 #[derive(Drop)]
