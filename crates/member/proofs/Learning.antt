@@ -4,7 +4,7 @@ use Rattle.std.specs.Prelude.{flat_map, ◌&&◌, ◌==◌}
 use Rattle.std.proofs.lemmas.Bool.{eq-eqb, ne_eqb}
 use Rattle.ballots.specs.Ballot.{is_majority}
 use Rattle.ballots.specs.Messages.{Accepted, Chosen, Packet, packet}
-use Rattle.ballots.specs.Values.{positions}
+use Rattle.ballots.specs.Values.{positions, IsRising}
 use Rattle.ballots.specs.declared.value.Pair.{Pair}
 use Rattle.ballots.specs.declared.value.Value.{Value}
 use Rattle.ballots.specs.declared.value.Vote.{Vote}
@@ -21,7 +21,6 @@ use Rattle.paxos.specs.Step.{Effect, Leader, Running, learns, on_news}
 use Rattle.paxos.specs.WellFormed.{ArePairs}
 use Rattle.proposer.specs.declared.draft.Draft.{Draft as ProposerDraft}
 use Rattle.proposer.specs.declared.sends.Sends.{Sends}
-use Rattle.proposer.specs.Beginning.{IsRising}
 use Rattle.proposer.specs.Hearing.{TakesLearnt}
 use Rattle.proposer.specs.Knowing.{TookPart, prepares_first}
 use Rattle.proposer.proofs.Learned.{learned_took}

@@ -1,10 +1,10 @@
 //! What a learner has learnt from a position on.
 
 ghost use Rattle.std.specs.Prelude.{◌≡◌, ◌≤◌, ℕ, suc, IfOk, take, is_some};
-ghost use Rattle.ballots.specs.Values.{positions};
+ghost use Rattle.ballots.specs.Values.{positions, IsRising};
 ghost use Rattle.learner.specs.Terms.{learnt_of};
 ghost use Rattle.paxos.specs.Knowledge.{value_at};
-ghost use Rattle.proposer.specs.Beginning.{IsRising, is_in};
+ghost use Rattle.proposer.specs.Beginning.{is_in};
 ghost use Rattle.member.specs.Learnt.{IsFirst, pairs_from};
 
 use ballots::Pair;

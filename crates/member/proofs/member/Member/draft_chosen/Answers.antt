@@ -3,7 +3,7 @@ use Rattle.ballots.specs.Messages.{Chosen, packet}
 use Rattle.learner.proofs.Hearing.{change_as_was}
 use Rattle.learner.specs.Changes.{positions_of}
 use Rattle.learner.specs.Terms.{learnt_of}
-use Rattle.proposer.specs.Beginning.{IsRising}
+use Rattle.ballots.specs.Values.{IsRising}
 use Rattle.paxos.specs.Knowledge.{ChosenAre}
 use Rattle.proposer.specs.Hearing.{TakesLearnt}
 use Rattle.member.specs.declared.draft.Change.TheVariants.{News}
