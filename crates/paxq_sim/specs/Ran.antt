@@ -1,5 +1,6 @@
 -- What is written for an event file, and the exit status.
-use Rattle.std.specs.Prelude.{◌≡◌, ℕ, ◌⊎◌, ¬, IfSome, IsUtf8, List, [], ◌++◌, Option, codes}
+use Rattle.std.specs.Prelude.{◌≡◌, ℕ, ◌⊎◌, IfSome, List, [], ◌++◌, Option, codes}
+use Rattle.std.specs.Str.{IsUtf8}
 use Rattle.std.specs.Fmt.{decimal}
 use Rattle.event_files.specs.EventFiles.{EventFileRead, EventFileTerm, event_file, wrong, file_of}
 use Rattle.paxq_run.specs.Play.{Ran, Run, Wrote, line_feed, unreadable_run}

@@ -41,7 +41,7 @@ impl Numbers {
         self.set.contains(&number)
     }
 
-    /// Adds the number, if it is not among them.
+    /// Adds the number, if it is not among them. It fails where memory is refused.
     fn add(&mut self, number: u64) -> Result<(), AllocError>
         ensures { OnOk result ((k : ℕ) → is_among self.new k ≡ (is_among self.old k || is_among (number ∷ []) k)) }
     {
@@ -49,7 +49,8 @@ impl Numbers {
         Ok(())
     }
 
-    /// Adds the number of the message that an event names, if it is after those delivered and so many were sent.
+    /// Adds the number of the message that an event names, if it is after those delivered and so many were sent. It fails where memory is
+    /// refused.
     pub(crate) fn note(
         &mut self,
         delivered: u64,
@@ -66,7 +67,7 @@ impl Numbers {
         }
     }
 
-    /// Adds a number, if it is after those delivered and so many were sent.
+    /// Adds a number, if it is after those delivered and so many were sent. It fails where memory is refused.
     fn add_waiting(&mut self, delivered: u64, sent: u64, number: u64) -> Result<(), AllocError>
         ensures { OnOk result ((k : ℕ) → is_among self.new k ≡ (is_among self.old k || is_among (if_waiting delivered sent number) k)) }
     {

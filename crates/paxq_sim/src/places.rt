@@ -33,7 +33,7 @@ impl Places {
         }
     }
 
-    /// Adds a member's position, and answers whether it was not among them.
+    /// Adds a member's position, and answers whether it was not among them. It fails where memory is refused.
     pub(crate) fn add(&mut self, member: u8, position: u32) -> Result<bool, AllocError>
         ensures added { IfOk result (λ is_new. is_new ≡ not (is_place self.old member position)) }
         ensures places { OnOk result ((m p : ℕ) → is_place self.new m p ≡ ((m == member) && (p == position) || is_place self.old m p)) }

@@ -28,7 +28,7 @@ pub(crate) fn report(alloc: Global, world: &World<ScriptRecords>) -> Result<Stri
     Ok(out)
 }
 
-/// Appends what members were told, each thing once.
+/// Appends what members were told, each thing once. It fails where memory is refused.
 fn push_told(alloc: Global, out: &mut String, told: &[Told]) -> Result<(), AllocError>
     ensures { OnOk result (string_bytes out.new ≡ string_bytes out.old ++ flat_map told_line (first_told [] (told_in told.now))) }
 {
@@ -39,7 +39,7 @@ fn push_told(alloc: Global, out: &mut String, told: &[Told]) -> Result<(), Alloc
     Ok(())
 }
 
-/// Appends what a member was told, if it was not told of that position before.
+/// Appends what a member was told, if it was not told of that position before. It fails where memory is refused.
 fn push_new(
     alloc: Global,
     out: &mut String,
@@ -55,7 +55,7 @@ fn push_new(
     push_telling(alloc, out, told)
 }
 
-/// Appends what a member was told.
+/// Appends what a member was told. It fails where memory is refused.
 fn push_telling(alloc: Global, out: &mut String, told: &Told) -> Result<(), AllocError>
     ensures { OnOk result (string_bytes out.new ≡ string_bytes out.old ++ told_line (told_to told.now.member told.now.pair)) }
 {
@@ -65,7 +65,7 @@ fn push_telling(alloc: Global, out: &mut String, told: &Told) -> Result<(), Allo
     out.push_str(format!(in alloc; "told {member} {position} {value}\n")?.as_str())
 }
 
-/// `CLIENT NUMBER` of a request, or `noop`.
+/// `CLIENT NUMBER` of a request, or `noop`. It fails where memory is refused.
 fn value_words(alloc: Global, value: &Value) -> Result<String, AllocError>
     ensures { IfOk result (λ text. string_bytes text ≡ value_words value.now) }
 {
@@ -75,7 +75,7 @@ fn value_words(alloc: Global, value: &Value) -> Result<String, AllocError>
     }
 }
 
-/// `CLIENT NUMBER`.
+/// `CLIENT NUMBER`. It fails where memory is refused.
 fn request_words(alloc: Global, id: RequestId) -> Result<String, AllocError>
     ensures { IfOk result (λ text. string_bytes text ≡ request_words id.client id.number) }
 {
@@ -84,7 +84,7 @@ fn request_words(alloc: Global, id: RequestId) -> Result<String, AllocError>
     format!(in alloc; "{client} {number}")
 }
 
-/// Appends how far each member is.
+/// Appends how far each member is. It fails where memory is refused.
 fn push_members(
     alloc: Global,
     out: &mut String,
@@ -98,7 +98,7 @@ fn push_members(
     Ok(())
 }
 
-/// How far a member is.
+/// How far a member is. It fails where memory is refused.
 fn member_text(
     alloc: Global,
     world: &World<ScriptRecords>,
@@ -112,14 +112,14 @@ fn member_text(
     }
 }
 
-/// `member M applied P`, with its line feed.
+/// `member M applied P`, with its line feed. It fails where memory is refused.
 fn applied_line(alloc: Global, member: u8, positions: u32) -> Result<String, AllocError>
     ensures { IfOk result (λ text. string_bytes text ≡ applied_line member positions) }
 {
     format!(in alloc; "member {member} applied {positions}\n")
 }
 
-/// `member M stopped`, with its line feed.
+/// `member M stopped`, with its line feed. It fails where memory is refused.
 fn stopped_line(alloc: Global, member: u8) -> Result<String, AllocError>
     ensures { IfOk result (λ text. string_bytes text ≡ stopped_line member) }
 {

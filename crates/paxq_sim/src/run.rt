@@ -35,7 +35,8 @@ pub fn run_events<R: Read, W: Write, E: Write>(
     }
 }
 
-/// Simulates the event file that bytes are, if they are a text in UTF-8, and answers the exit status.
+/// Simulates the event file that bytes are, if they are a text in UTF-8, and answers the exit status. An `Err` says that `output` or
+/// `errors` could not be written.
 fn run_bytes<W: Write, E: Write>(
     alloc: Global,
     file: &str,
@@ -46,28 +47,28 @@ fn run_bytes<W: Write, E: Write>(
     ensures { IfOk result (BytesRan file.now bytes.now (W.contents output.old, W.contents output.new) (E.contents errors.old, E.contents errors.new)) }
 {
     match str::from_utf8(bytes) {
-        Ok(text) => run_text(alloc, text, output, errors),
+        Ok(_) => run_text(alloc, bytes, output, errors),
         Err(_) => cannot_read(alloc, file, errors),
     }
 }
 
-/// Simulates the event file that a text is, and answers the exit status.
+/// Simulates the event file that the bytes of a text are, and answers the exit status. An `Err` says that `output` or `errors` could not be written.
 fn run_text<W: Write, E: Write>(
     alloc: Global,
-    text: &str,
+    bytes: &[u8],
     output: &mut W,
     errors: &mut E,
 ) -> io::Result<u8>
-    ensures { IfOk result (ReadRan (file_of text.now) (W.contents output.old, W.contents output.new) (E.contents errors.old, E.contents errors.new)) }
+    ensures { IfOk result (ReadRan (file_of bytes.now) (W.contents output.old, W.contents output.new) (E.contents errors.old, E.contents errors.new)) }
 {
-    match read_event_file(alloc, text.as_bytes()) {
+    match read_event_file(alloc, bytes) {
         Ok(file) => run_file(alloc, file, output, errors),
         Err(EventFileFault::Line(number)) => wrong_line(alloc, number, errors),
         Err(EventFileFault::Memory) => no_memory(errors),
     }
 }
 
-/// Simulates an event file, and answers the exit status.
+/// Simulates an event file, and answers the exit status. An `Err` says that `output` or `errors` could not be written.
 fn run_file<W: Write, E: Write>(
     alloc: Global,
     file: EventFile,

@@ -34,7 +34,7 @@ pub(crate) struct Simulation {
 }
 
 impl Simulation {
-    /// Members that never did anything, whose writes fail as the file says.
+    /// Members that never did anything, whose writes fail as the file says. It fails where memory is refused.
     pub(crate) fn begin(
         alloc: Global,
         group: Group,

@@ -8,7 +8,7 @@ use event_files::Failure;
 use records::ScriptRecords;
 use std::alloc::{AllocError, Global};
 
-/// The writes of a member that fail, in the order of the file.
+/// The writes of a member that fail, in the order of the file. It fails where memory is refused.
 fn plan_of(alloc: Global, member: u8, failures: &[Failure]) -> Result<Vec<(u64, bool)>, AllocError>
     ensures { IfOk result (λ plan. plan.items ≡ plan_of member failures.now) }
 {
@@ -21,7 +21,7 @@ fn plan_of(alloc: Global, member: u8, failures: &[Failure]) -> Result<Vec<(u64, 
     Ok(plan)
 }
 
-/// A member's store, which nobody has written.
+/// A member's store, which nobody has written. It fails where memory is refused.
 fn store_of(alloc: Global, member: u8, failures: &[Failure]) -> Result<ScriptRecords, AllocError>
     ensures { IfOk result (λ store. store ≡ store_of failures.now member) }
 {
@@ -29,7 +29,7 @@ fn store_of(alloc: Global, member: u8, failures: &[Failure]) -> Result<ScriptRec
     ScriptRecords::new(alloc, &plan)
 }
 
-/// The stores of the members, in order, whose writes fail as the file says.
+/// The stores of the members, in order, whose writes fail as the file says. It fails where memory is refused.
 pub(crate) fn stores_of(
     alloc: Global,
     members: Members,
