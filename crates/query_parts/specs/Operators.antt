@@ -1,10 +1,12 @@
--- Operators, by how tightly they bind (XQuery 1.0, appendix A.4).
+-- Operators, by how tightly they bind (XQuery 1.0, appendix A.4), and how loosely tokens stand after an operand.
 use Rattle.std.specs.Prelude.{ℕ, Bool, true, false, Option, Some, None}
 use Rattle.query_tokens.specs.declared.kind.Kind.{Kind}
 use Rattle.query_grammar.specs.declared.ast.Binary.{Binary}
 use Rattle.query_grammar.specs.Words.{intersect_operator, union_operator, multiply_operator, add_operator, range_operator, comparison_operator, and_operator, or_operator}
 use Rattle.query_parts.specs.declared.precedence.Precedence.{Precedence}
 use Rattle.query_parts.specs.declared.precedence.Precedence.TheVariants as precedence
+use Rattle.query_parts.specs.declared.looseness.Looseness.{Looseness}
+use Rattle.query_parts.specs.declared.looseness.Looseness.TheVariants as looseness
 
 abbrev pub operator_at : Precedence → Kind → Option Binary
 operator_at precedence.Intersection = intersect_operator
@@ -36,6 +38,19 @@ looseness_at precedence.Range = 7
 looseness_at precedence.Comparison = 8
 looseness_at precedence.Conjunction = 9
 looseness_at precedence.Disjunction = 10
+
+-- the level of what stands so loosely, in the grammar's numbers
+abbrev pub level_of : Looseness → ℕ
+level_of looseness.Never = 0
+level_of looseness.Predicate = 1
+level_of looseness.Step = 2
+level_of (looseness.Operator p) = looseness_at p
+level_of looseness.Direction = 11
+level_of looseness.Comma = 12
+level_of looseness.Clause = 13
+level_of looseness.Where = 14
+level_of looseness.Order = 15
+level_of looseness.End = 16
 
 -- whether at most one of them stands between operands
 abbrev pub is_once : Precedence → Bool

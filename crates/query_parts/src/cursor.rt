@@ -5,10 +5,12 @@
 
 ghost use Rattle.std.specs.Prelude.{◌≡◌};
 ghost use Rattle.query_parts.specs.Gives.{Gives};
+ghost use Rattle.query_parts.specs.Operators as part;
 ghost use Rattle.query_grammar.specs.Reader as read;
 ghost use Rattle.query_grammar.specs.Reading as reading;
 ghost use Rattle.query_grammar.specs.Words as table;
 
+use crate::looseness::Looseness;
 use crate::words::{axis_of, is_function, kind_test_of, looseness, sign_of};
 use query_grammar::{KindTest, Sign};
 use query_tokens::{Kind, ParseFault, Token, Tokens};
@@ -32,13 +34,12 @@ pub fn sees(tokens: &Tokens, n: usize, kind: Kind) -> bool
     same_kind(tokens.peek_at(n), kind)
 }
 
-/// Whether the next token stands so loosely after an operand: as the operators of a level do, from 1 (`[`) up to 16 (what ends an
-/// expression). What stands after no operand is at 0.
+/// Whether the next token stands so loosely after an operand.
 #[tactic(auto, unfolding(query_grammar::specs::Reading::at_level))]
-pub fn at_level(tokens: &Tokens, level: u8) -> bool
-    ensures { result ≡ reading.at_level level tokens.now }
+pub fn at_level(tokens: &Tokens, level: Looseness) -> bool
+    ensures { result ≡ reading.at_level (part.level_of level) tokens.now }
 {
-    looseness(tokens.peek_at(0)) == level
+    looseness(tokens.peek_at(0)).level() == level.level()
 }
 
 /// Takes the next token, which must be of this kind.

@@ -5,8 +5,10 @@
 pub mod cursor;
 pub mod held;
 pub mod lists;
+mod looseness;
 mod precedence;
 pub mod steps;
 pub mod words;
 
+pub use looseness::Looseness;
 pub use precedence::Precedence;

@@ -153,8 +153,8 @@ impl Precedence {
         }
     }
 
-    /// How loosely its operators stand after an operand: from 3, the tightest, to 10 (`cursor::at_level`).
-    pub fn looseness(self) -> u8
+    /// How loosely its operators stand after an operand: from 3, the tightest, to 10.
+    pub(crate) fn looseness(self) -> u8
         ensures { result ≡ part.looseness_at self }
     {
         match self {

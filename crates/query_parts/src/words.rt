@@ -3,23 +3,26 @@
 ghost use Rattle.std.specs.Prelude.{◌≡◌};
 ghost use Rattle.query_grammar.specs.Loose as loose;
 ghost use Rattle.query_grammar.specs.Words as table;
+ghost use Rattle.query_parts.specs.Operators as part;
 
+use crate::looseness::Looseness;
+use crate::precedence::Precedence;
 use query_grammar::{KindTest, Sign};
 use query_tokens::Kind;
 use trees::Axis;
 
 /// How loosely a token of this kind stands after an operand.
-pub(crate) fn looseness(kind: Kind) -> u8
-    ensures { result ≡ loose.looseness kind }
+pub(crate) fn looseness(kind: Kind) -> Looseness
+    ensures { part.level_of result ≡ loose.looseness kind }
 {
     match kind {
-        Kind::OpenBracket => 1,
-        Kind::Slash | Kind::SlashSlash => 2,
-        Kind::Intersect | Kind::Except => 3,
-        Kind::Union | Kind::Bar => 4,
-        Kind::Star | Kind::Idiv | Kind::Mod => 5,
-        Kind::Plus | Kind::Minus => 6,
-        Kind::To => 7,
+        Kind::OpenBracket => Looseness::Predicate,
+        Kind::Slash | Kind::SlashSlash => Looseness::Step,
+        Kind::Intersect | Kind::Except => Looseness::Operator(Precedence::Intersection),
+        Kind::Union | Kind::Bar => Looseness::Operator(Precedence::Union),
+        Kind::Star | Kind::Idiv | Kind::Mod => Looseness::Operator(Precedence::Multiplication),
+        Kind::Plus | Kind::Minus => Looseness::Operator(Precedence::Addition),
+        Kind::To => Looseness::Operator(Precedence::Range),
         Kind::Equal
         | Kind::NotEqual
         | Kind::Less
@@ -34,14 +37,14 @@ pub(crate) fn looseness(kind: Kind) -> u8
         | Kind::Ge
         | Kind::Is
         | Kind::Precedes
-        | Kind::Follows => 8,
-        Kind::And => 9,
-        Kind::Or => 10,
-        Kind::Ascending | Kind::Descending => 11,
-        Kind::Comma => 12,
-        Kind::For | Kind::Let => 13,
-        Kind::Where => 14,
-        Kind::Order => 15,
+        | Kind::Follows => Looseness::Operator(Precedence::Comparison),
+        Kind::And => Looseness::Operator(Precedence::Conjunction),
+        Kind::Or => Looseness::Operator(Precedence::Disjunction),
+        Kind::Ascending | Kind::Descending => Looseness::Direction,
+        Kind::Comma => Looseness::Comma,
+        Kind::For | Kind::Let => Looseness::Clause,
+        Kind::Where => Looseness::Where,
+        Kind::Order => Looseness::Order,
         Kind::End
         | Kind::CloseParen
         | Kind::CloseBracket
@@ -55,8 +58,8 @@ pub(crate) fn looseness(kind: Kind) -> u8
         | Kind::After
         | Kind::Before
         | Kind::With
-        | Kind::Modify => 16,
-        _ => 0,
+        | Kind::Modify => Looseness::End,
+        _ => Looseness::Never,
     }
 }
 

@@ -7,6 +7,7 @@ ghost use Rattle.query_rules.specs.Stages as stage;
 
 use crate::pending::{Last, Pending, Progress, word};
 use query_grammar::{Binding, Clause, Expr, Quantifier, SortKey};
+use query_parts::Looseness;
 use query_parts::cursor::{at_level, eat, sees, variable};
 use query_parts::held::pair;
 use query_parts::lists::push;
@@ -65,7 +66,7 @@ pub(crate) fn to_keys(
 ) -> Result<Progress, ParseFault>
     ensures { Gives (stage.to_keys found condition tokens.old) result tokens.new }
 {
-    if at_level(tokens, 15) {
+    if at_level(tokens, Looseness::Order) {
         eat(tokens, Kind::Order)?;
         word(
             tokens,
@@ -84,7 +85,7 @@ fn to_condition(
 ) -> Result<Progress, ParseFault>
     ensures { Gives (stage.to_condition found tokens.old) result tokens.new }
 {
-    if at_level(tokens, 14) {
+    if at_level(tokens, Looseness::Where) {
         word(tokens, Kind::Where, Pending::Where(found))
     } else {
         to_keys(alloc, tokens, found, None)
@@ -135,7 +136,7 @@ fn to_clauses(
 ) -> Result<Progress, ParseFault>
     ensures { Gives (stage.to_clauses found tokens.old) result tokens.new }
 {
-    if at_level(tokens, 13) {
+    if at_level(tokens, Looseness::Clause) {
         to_clause(tokens, found)
     } else {
         to_condition(alloc, tokens, found)
@@ -150,7 +151,7 @@ fn past_binding(
 ) -> Result<Progress, ParseFault>
     ensures { Gives (stage.past_binding iterates found tokens.old) result tokens.new }
 {
-    if at_level(tokens, 12) {
+    if at_level(tokens, Looseness::Comma) {
         eat(tokens, Kind::Comma)?;
         to_binding(tokens, iterates, found)
     } else {
@@ -217,7 +218,7 @@ pub(crate) fn past_key(
 {
     let (key, is_descending) = pair(key, direction(tokens))?;
     push(alloc, &mut keys, SortKey { key, is_descending })?;
-    if at_level(tokens, 12) {
+    if at_level(tokens, Looseness::Comma) {
         word(tokens, Kind::Comma, Pending::Key(found, condition, keys))
     } else {
         to_return(tokens, found, condition, keys)
@@ -247,7 +248,7 @@ pub(crate) fn past_in(
     ensures { Gives (stage.past_in quantifier (found ++ stage.bound variable source ∷ []) tokens.old) result tokens.new }
 {
     push(alloc, &mut found, Binding { variable, source })?;
-    if at_level(tokens, 12) {
+    if at_level(tokens, Looseness::Comma) {
         eat(tokens, Kind::Comma)?;
         to_in(tokens, quantifier, found)
     } else {

@@ -12,11 +12,11 @@ ghost use Rattle.query_grammar.specs.Words as table;
 
 use crate::rules::Rules;
 use query_grammar::{Binary, Expr, Operation, Sign};
-use query_parts::Precedence;
 use query_parts::cursor::{REFUSED, at_level, sign};
 use query_parts::held::pair;
 use query_parts::lists::push;
 use query_parts::words::sign_of;
+use query_parts::{Looseness, Precedence};
 use query_tokens::{ParseFault, Tokens};
 use sqlite_items::{Boxed, Items};
 use std::alloc::{AllocError, Global};
@@ -142,7 +142,7 @@ impl<F: Fn(Global, u8, &mut Tokens, usize) -> Result<Expr, ParseFault>> Rules<F>
     {
         let mut found = Items::new(self.alloc);
         for _turn in 0..turns(tokens, precedence) {
-            if !at_level(tokens, precedence.looseness()) {
+            if !at_level(tokens, Looseness::Operator(precedence)) {
                 return Ok(found);
             }
             let operation = self.operation(tokens, precedence)?;

@@ -11,6 +11,7 @@ ghost use Rattle.query_grammar.specs.Reader as read;
 use crate::primaries::sees_primary;
 use crate::rules::Rules;
 use query_grammar::Expr;
+use query_parts::Looseness;
 use query_parts::cursor::{at_level, eat};
 use query_parts::held::{followed, pair};
 use query_parts::lists::{append, push};
@@ -48,7 +49,7 @@ impl<F: Fn(Global, u8, &mut Tokens, usize) -> Result<Expr, ParseFault>> Rules<F>
     {
         let mut found = Items::new(self.alloc);
         for _turn in 0..tokens.left() {
-            if !at_level(tokens, 1) {
+            if !at_level(tokens, Looseness::Predicate) {
                 return Ok(found);
             }
             let x = self.predicate(tokens)?;
@@ -91,7 +92,7 @@ impl<F: Fn(Global, u8, &mut Tokens, usize) -> Result<Expr, ParseFault>> Rules<F>
     {
         let mut found = Items::new(self.alloc);
         for _turn in 0..tokens.left() {
-            if !at_level(tokens, 2) {
+            if !at_level(tokens, Looseness::Step) {
                 return Ok(found);
             }
             let steps = self.segment(tokens)?;

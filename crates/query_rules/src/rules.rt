@@ -8,6 +8,7 @@ ghost use Rattle.query_grammar.specs.Grammar as grammar;
 ghost use Rattle.query_grammar.specs.Reader as read;
 
 use query_grammar::Expr;
+use query_parts::Looseness;
 use query_parts::cursor::{at_level, eat};
 use query_parts::held::pair;
 use query_parts::lists::{one, push};
@@ -74,7 +75,7 @@ impl<F: Fn(Global, u8, &mut Tokens, usize) -> Result<Expr, ParseFault>> Rules<F>
     {
         let mut found = Items::new(self.alloc);
         for _turn in 0..tokens.left() {
-            if !at_level(tokens, 12) {
+            if !at_level(tokens, Looseness::Comma) {
                 return Ok(found);
             }
             let x = self.next_single(tokens)?;

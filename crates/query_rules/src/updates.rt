@@ -7,6 +7,7 @@ ghost use Rattle.query_rules.specs.Stages as stage;
 
 use crate::pending::{Last, Pending, Progress, word};
 use query_grammar::{Binding, Expr, Place};
+use query_parts::Looseness;
 use query_parts::cursor::{REFUSED, at_level, eat, sees, variable};
 use query_parts::lists::push;
 use query_tokens::{Kind, ParseFault, Token, Tokens};
@@ -120,7 +121,7 @@ pub(crate) fn past_copy(
     ensures { Gives (stage.past_copy (found ++ stage.bound variable source ∷ []) tokens.old) result tokens.new }
 {
     push(alloc, &mut found, Binding { variable, source })?;
-    if at_level(tokens, 12) {
+    if at_level(tokens, Looseness::Comma) {
         eat(tokens, Kind::Comma)?;
         to_copy(tokens, found)
     } else {
