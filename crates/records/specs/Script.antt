@@ -3,6 +3,7 @@ use Rattle.std.specs.Prelude.{◌≡◌, ◌+◌, ◌-◌, ◌^◌, ◌==◌, �
 use Rattle.std.specs.Map.{lookup}
 use Rattle.std.specs.Coded.{Coded, code_by, coded×, coded_ℕ, coded_bool, coded_list}
 use Rattle.paxos.specs.Records.{Record, Write, written}
+use Rattle.position_map.specs.Slots.{value_at}
 use Rattle.records.specs.Kept.{record_code}
 use Rattle.records.specs.Law.{Fate, passing}
 use Rattle.records.specs.declared.records.RecordsFault.{RecordsFault}
@@ -35,6 +36,15 @@ one_more n = min (n + 1) (2 ^ 64 - 1)
 -- whether the write of a number fails: where it does, whether it is made
 abbrev pub fails_at : (number : ℕ) → List (ℕ × Bool) → Option Bool
 fails_at n plan = lookup (λ m. n == m) plan
+
+-- the first of the two that there is
+abbrev pub first_of : {A : Type 0} → Option A → Option A → Option A
+first_of None o = o
+first_of (Some x) o = Some x
+
+-- a map has of each number what the plan says of it
+abbrev pub AreFates : List (ℕ × Bool) → (plan : List (ℕ × Bool)) → Type 0
+AreFates fates plan = (n : ℕ) → value_at n fates ≡ fails_at n plan
 
 -- what comes of the writes: the next one, and those after it
 abbrev pub fates_of : Script → ℕ → Fate

@@ -1,17 +1,19 @@
 //! A record in memory whose writes fail by a plan.
 
-ghost use Rattle.std.specs.Prelude.{◌≡◌, ◌⊎◌, ◌≤◌, ℕ, Bool, cond, false, [], IfErr, IfOk, is_some, Ok, Err};
+ghost use Rattle.std.specs.Prelude.{◌≡◌, ◌⊎◌, ◌≤◌, ◌==◌, ℕ, Bool, if◌then◌else◌, cond, false, [], None, Some, IfErr, IfOk, OnOk, is_some, Ok, Err};
 ghost use Rattle.ballots.specs.Ballot.{below, no_ballot};
 ghost use Rattle.ballots.specs.Values.{positions};
+ghost use Rattle.position_map.specs.Slots.{value_at};
 ghost use Rattle.paxos.specs.Records.{Record as RecordTerm, NewPromise, NewVote, written};
 ghost use Rattle.records.specs.Law.{Counts, Goes, Puts};
-ghost use Rattle.records.specs.Script.{Script, GoesBy, IsKept, Stands, fails_at, fates_of, next_fate, one_more, stopping};
+ghost use Rattle.records.specs.Script.{Script, GoesBy, IsKept, Stands, fails_at, fates_of, first_of, next_fate, one_more, stopping};
 
 use super::kept::Record;
 use super::memory::copy_vote;
 use super::records::{Records, RecordsFault};
 use ballots::{Ballot, Value, Vote};
 use std::alloc::{AllocError, Global};
+use std::collections::BTreeMap;
 use std::marker::Model;
 
 /// A record in memory whose writes fail by a plan, to try what a failing store does.
@@ -21,13 +23,15 @@ use std::marker::Model;
 pub struct ScriptRecords {
     kept: Record,
     plan: Vec<(u64, bool)>,
+    /// What the plan says of each number that stands there.
+    fates: BTreeMap<u64, bool>,
     writes: u64,
     failures: u64,
     passes: bool,
 }
 
 impl Model for ScriptRecords {
-    ghost use Rattle.records.specs.Script.{Script, script_code};
+    ghost use Rattle.records.specs.Script.{AreFates, Script, script_code};
 
     ghost Value = { Script };
 
@@ -41,6 +45,8 @@ impl Model for ScriptRecords {
           failures = s.failures;
           passes = s.passes;
         } };
+
+    ghost invariant = { λ s. AreFates s.fates.entries s.plan.items };
 }
 
 impl ScriptRecords {
@@ -51,9 +57,14 @@ impl ScriptRecords {
     pub fn new(alloc: Global, plan: &[(u64, bool)]) -> Result<ScriptRecords, AllocError>
         ensures { IfOk result (λ s. s ≡ record { kept = record { promise = no_ballot; votes = [] }; plan = plan.now; writes = 0; failures = 0; passes = false }) }
     {
+        let mut fates: BTreeMap<u64, bool> = BTreeMap::new(alloc);
+        for (number, is_made) in plan.iter() {
+            note(&mut fates, *number, *is_made)?;
+        }
         Ok(ScriptRecords {
             kept: Record::new(alloc),
             plan: Vec::from_slice(alloc, plan)?,
+            fates,
             writes: 0,
             failures: 0,
             passes: false,
@@ -71,12 +82,10 @@ impl ScriptRecords {
     pub fn fails_at(&self, number: u64) -> Option<bool>
         ensures { result ≡ fails_at number self.now.plan }
     {
-        for (at, is_made) in self.plan.iter() {
-            if *at == number {
-                return Some(*is_made);
-            }
+        match self.fates.get(&number) {
+            Some(is_made) => Some(*is_made),
+            None => None,
         }
-        None
     }
 
     /// Where the next write fails: whether its record is left. No more is let pass then.
@@ -102,6 +111,19 @@ impl ScriptRecords {
         }
         self.failures = self.failures.saturating_add(1);
         Err(RecordsFault::Store)
+    }
+}
+
+/// Notes whether the write of a number is made, where nothing is noted of it yet.
+fn note(fates: &mut BTreeMap<u64, bool>, number: u64, is_made: bool) -> Result<(), AllocError>
+    ensures { OnOk result ((n : ℕ) → value_at n fates.new.entries ≡ first_of (value_at n fates.old.entries) (if n == number then Some is_made else None)) }
+{
+    if fates.contains_key(&number) {
+        return Ok(());
+    }
+    match fates.insert(number, is_made) {
+        Ok(_) => Ok(()),
+        Err(_) => Err(AllocError),
     }
 }
 
