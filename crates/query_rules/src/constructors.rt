@@ -1,7 +1,7 @@
 //! Computed constructors (XQuery 1.0, section 3.7.3).
 
 ghost use Rattle.query_parts.specs.Gives.{Gives};
-ghost use Rattle.query_rules.specs.Reads.{Nests};
+ghost use Rattle.query_rules.specs.Reads.{HasReader};
 ghost use Rattle.query_rules.specs.Parts as part;
 ghost use Rattle.query_grammar.specs.Reader as read;
 ghost use Rattle.query_grammar.specs.declared.ast.Expr.TheVariants as e;
@@ -18,7 +18,7 @@ use std::alloc::Global;
 impl<F: Fn(Global, u8, &mut Tokens, usize) -> Result<Expr, ParseFault>> Rules<F> {
     #[tactic(auto, unfolding(query_grammar::specs::Reader::braces))]
     fn braces(&self, tokens: &mut Tokens) -> Result<Boxed<Expr>, ParseFault>
-        requires { Nests self.now.level self.now.depth (F.pre self.now.single) (F.post self.now.single) }
+        requires { HasReader F.pre F.post self.now }
         ensures { Gives (read.braces (read.single self.now.level self.now.depth) tokens.old) result tokens.new }
     {
         eat(tokens, Kind::OpenBrace)?;
@@ -28,7 +28,7 @@ impl<F: Fn(Global, u8, &mut Tokens, usize) -> Result<Expr, ParseFault>> Rules<F>
 
     #[tactic(auto, unfolding(query_grammar::specs::Reader::body))]
     fn body(&self, tokens: &mut Tokens) -> Result<Boxed<Expr>, ParseFault>
-        requires { Nests self.now.level self.now.depth (F.pre self.now.single) (F.post self.now.single) }
+        requires { HasReader F.pre F.post self.now }
         ensures { Gives (read.body (read.single self.now.level self.now.depth) tokens.old) result tokens.new }
     {
         eat(tokens, Kind::OpenBrace)?;
@@ -38,7 +38,7 @@ impl<F: Fn(Global, u8, &mut Tokens, usize) -> Result<Expr, ParseFault>> Rules<F>
 
     #[tactic(auto, unfolding(query_grammar::specs::Reader::name_or_braces))]
     fn name_or_braces(&self, tokens: &mut Tokens) -> Result<Name<Boxed<Expr>>, ParseFault>
-        requires { Nests self.now.level self.now.depth (F.pre self.now.single) (F.post self.now.single) }
+        requires { HasReader F.pre F.post self.now }
         ensures { Gives (read.name_or_braces (read.single self.now.level self.now.depth) tokens.old) result tokens.new }
     {
         if sees(tokens, 0, Kind::OpenBrace) {
@@ -50,7 +50,7 @@ impl<F: Fn(Global, u8, &mut Tokens, usize) -> Result<Expr, ParseFault>> Rules<F>
 
     #[tactic(auto, unfolding(query_grammar::specs::Reader::named))]
     fn element(&self, tokens: &mut Tokens) -> Result<Expr, ParseFault>
-        requires { Nests self.now.level self.now.depth (F.pre self.now.single) (F.post self.now.single) }
+        requires { HasReader F.pre F.post self.now }
         ensures { Gives (read.named (read.single self.now.level self.now.depth) k.Element e.Element tokens.old) result tokens.new }
     {
         eat(tokens, Kind::Element)?;
@@ -61,7 +61,7 @@ impl<F: Fn(Global, u8, &mut Tokens, usize) -> Result<Expr, ParseFault>> Rules<F>
 
     #[tactic(auto, unfolding(query_grammar::specs::Reader::named))]
     fn attribute(&self, tokens: &mut Tokens) -> Result<Expr, ParseFault>
-        requires { Nests self.now.level self.now.depth (F.pre self.now.single) (F.post self.now.single) }
+        requires { HasReader F.pre F.post self.now }
         ensures { Gives (read.named (read.single self.now.level self.now.depth) k.Attribute e.Attribute tokens.old) result tokens.new }
     {
         eat(tokens, Kind::Attribute)?;
@@ -72,7 +72,7 @@ impl<F: Fn(Global, u8, &mut Tokens, usize) -> Result<Expr, ParseFault>> Rules<F>
 
     #[tactic(auto, unfolding(query_grammar::specs::Reader::named))]
     fn instruction(&self, tokens: &mut Tokens) -> Result<Expr, ParseFault>
-        requires { Nests self.now.level self.now.depth (F.pre self.now.single) (F.post self.now.single) }
+        requires { HasReader F.pre F.post self.now }
         ensures { Gives (read.named (read.single self.now.level self.now.depth) k.ProcessingInstruction e.Instruction tokens.old) result tokens.new }
     {
         eat(tokens, Kind::ProcessingInstruction)?;
@@ -83,7 +83,7 @@ impl<F: Fn(Global, u8, &mut Tokens, usize) -> Result<Expr, ParseFault>> Rules<F>
 
     // A constructor's word and its content.
     fn plain(&self, tokens: &mut Tokens, kind: Kind) -> Result<Boxed<Expr>, ParseFault>
-        requires { Nests self.now.level self.now.depth (F.pre self.now.single) (F.post self.now.single) }
+        requires { HasReader F.pre F.post self.now }
         ensures { Gives (part.plain (read.single self.now.level self.now.depth) kind tokens.old) result tokens.new }
     {
         eat(tokens, kind)?;
@@ -93,7 +93,7 @@ impl<F: Fn(Global, u8, &mut Tokens, usize) -> Result<Expr, ParseFault>> Rules<F>
     /// Takes a constructor.
     #[tactic(auto, unfolding(query_grammar::specs::Reader::make))]
     pub(crate) fn constructor(&self, tokens: &mut Tokens) -> Result<Expr, ParseFault>
-        requires { Nests self.now.level self.now.depth (F.pre self.now.single) (F.post self.now.single) }
+        requires { HasReader F.pre F.post self.now }
         ensures { Gives (read.make (read.single self.now.level self.now.depth) tokens.old) result tokens.new }
     {
         match tokens.peek_at(0) {

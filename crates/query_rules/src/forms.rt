@@ -1,7 +1,7 @@
 //! The forms of an expression that no comma parts: which of them begins, and up to the first expression that it waits for.
 
 ghost use Rattle.query_parts.specs.Gives.{Gives};
-ghost use Rattle.query_rules.specs.Reads.{Nests};
+ghost use Rattle.query_rules.specs.Reads.{HasReader};
 ghost use Rattle.query_rules.specs.Stages as stage;
 ghost use Rattle.query_grammar.specs.Reader as read;
 
@@ -18,7 +18,7 @@ use std::alloc::Global;
 
 impl<F: Fn(Global, u8, &mut Tokens, usize) -> Result<Expr, ParseFault>> Rules<F> {
     fn to_conditional(&self, tokens: &mut Tokens) -> Result<Progress, ParseFault>
-        requires { Nests self.now.level self.now.depth (F.pre self.now.single) (F.post self.now.single) }
+        requires { HasReader F.pre F.post self.now }
         ensures { Gives (stage.to_conditional (read.single self.now.level self.now.depth) tokens.old) result tokens.new }
     {
         eat(tokens, Kind::If)?;
@@ -30,7 +30,7 @@ impl<F: Fn(Global, u8, &mut Tokens, usize) -> Result<Expr, ParseFault>> Rules<F>
 
     // Operators, which wait for nothing.
     fn operators(&self, tokens: &mut Tokens) -> Result<Progress, ParseFault>
-        requires { Nests self.now.level self.now.depth (F.pre self.now.single) (F.post self.now.single) }
+        requires { HasReader F.pre F.post self.now }
         ensures { Gives (stage.operators (read.single self.now.level self.now.depth) tokens.old) result tokens.new }
     {
         Ok(Progress::Read(self.disjunction(tokens)?))
@@ -38,7 +38,7 @@ impl<F: Fn(Global, u8, &mut Tokens, usize) -> Result<Expr, ParseFault>> Rules<F>
 
     // Before `$`.
     fn before_variable(&self, tokens: &mut Tokens, first: Kind) -> Result<Progress, ParseFault>
-        requires { Nests self.now.level self.now.depth (F.pre self.now.single) (F.post self.now.single) }
+        requires { HasReader F.pre F.post self.now }
         ensures { Gives (stage.begin_form (read.single self.now.level self.now.depth) self.now.level (read.form_before_variable first) tokens.old) result tokens.new }
     {
         match first {
@@ -51,7 +51,7 @@ impl<F: Fn(Global, u8, &mut Tokens, usize) -> Result<Expr, ParseFault>> Rules<F>
 
     // Before `(`.
     fn before_paren(&self, tokens: &mut Tokens, first: Kind) -> Result<Progress, ParseFault>
-        requires { Nests self.now.level self.now.depth (F.pre self.now.single) (F.post self.now.single) }
+        requires { HasReader F.pre F.post self.now }
         ensures { Gives (stage.begin_form (read.single self.now.level self.now.depth) self.now.level (read.form_before_paren first) tokens.old) result tokens.new }
     {
         match first {
@@ -62,7 +62,7 @@ impl<F: Fn(Global, u8, &mut Tokens, usize) -> Result<Expr, ParseFault>> Rules<F>
 
     // Before `node`.
     fn before_node(&self, tokens: &mut Tokens, first: Kind) -> Result<Progress, ParseFault>
-        requires { Nests self.now.level self.now.depth (F.pre self.now.single) (F.post self.now.single) }
+        requires { HasReader F.pre F.post self.now }
         ensures { Gives (stage.begin_form (read.single self.now.level self.now.depth) self.now.level (read.form_before_node first) tokens.old) result tokens.new }
     {
         match first {
@@ -76,7 +76,7 @@ impl<F: Fn(Global, u8, &mut Tokens, usize) -> Result<Expr, ParseFault>> Rules<F>
 
     // Before `nodes`.
     fn before_nodes(&self, tokens: &mut Tokens, first: Kind) -> Result<Progress, ParseFault>
-        requires { Nests self.now.level self.now.depth (F.pre self.now.single) (F.post self.now.single) }
+        requires { HasReader F.pre F.post self.now }
         ensures { Gives (stage.begin_form (read.single self.now.level self.now.depth) self.now.level (read.form_before_nodes first) tokens.old) result tokens.new }
     {
         match first {
@@ -88,7 +88,7 @@ impl<F: Fn(Global, u8, &mut Tokens, usize) -> Result<Expr, ParseFault>> Rules<F>
 
     // Before `value`.
     fn before_value(&self, tokens: &mut Tokens, first: Kind) -> Result<Progress, ParseFault>
-        requires { Nests self.now.level self.now.depth (F.pre self.now.single) (F.post self.now.single) }
+        requires { HasReader F.pre F.post self.now }
         ensures { Gives (stage.begin_form (read.single self.now.level self.now.depth) self.now.level (read.form_before_value first) tokens.old) result tokens.new }
     {
         match first {
@@ -101,7 +101,7 @@ impl<F: Fn(Global, u8, &mut Tokens, usize) -> Result<Expr, ParseFault>> Rules<F>
     /// such an expression itself. Two tokens say which form it has.
     #[tactic(auto, unfolding(crate::specs::Stages::begin))]
     pub(crate) fn begin(&self, tokens: &mut Tokens) -> Result<Progress, ParseFault>
-        requires { Nests self.now.level self.now.depth (F.pre self.now.single) (F.post self.now.single) }
+        requires { HasReader F.pre F.post self.now }
         ensures { Gives (stage.begin (read.single self.now.level self.now.depth) self.now.level tokens.old) result tokens.new }
     {
         let first = tokens.peek_at(0);

@@ -3,7 +3,7 @@
 ghost use Rattle.std.specs.Prelude.{◌≡◌, IfOk};
 ghost use Rattle.query_parts.specs.Gives.{Gives};
 ghost use Rattle.query_parts.specs.Operators.{operator_at};
-ghost use Rattle.query_rules.specs.Reads.{Nests};
+ghost use Rattle.query_rules.specs.Reads.{HasReader};
 ghost use Rattle.query_rules.specs.Parts as part;
 ghost use Rattle.query_grammar.specs.Grammar as grammar;
 ghost use Rattle.query_grammar.specs.Reader as read;
@@ -21,7 +21,7 @@ use query_tokens::{ParseFault, Tokens};
 use sqlite_items::{Boxed, Items};
 use std::alloc::{AllocError, Global};
 
-/// An expression that no operator follows is itself.
+/// An expression that no operator follows is itself. Fails where memory is refused.
 fn chain_of(alloc: Global, first: Expr, others: Items<Operation<Expr>>) -> Result<Expr, AllocError>
     ensures { IfOk result (λ x. x ≡ grammar.chain_of first others) }
 {
@@ -32,7 +32,7 @@ fn chain_of(alloc: Global, first: Expr, others: Items<Operation<Expr>>) -> Resul
     }
 }
 
-/// An expression without signs is itself.
+/// An expression without signs is itself. Fails where memory is refused.
 fn signed_of(alloc: Global, signs: Items<Sign>, operand: Expr) -> Result<Expr, AllocError>
     ensures { IfOk result (λ x. x ≡ grammar.signed_of signs operand) }
 {
@@ -94,7 +94,7 @@ impl<F: Fn(Global, u8, &mut Tokens, usize) -> Result<Expr, ParseFault>> Rules<F>
     #[inline(never)]
     #[tactic(auto, unfolding(query_grammar::specs::Reader::unary))]
     fn unary(&self, tokens: &mut Tokens) -> Result<Expr, ParseFault>
-        requires { Nests self.now.level self.now.depth (F.pre self.now.single) (F.post self.now.single) }
+        requires { HasReader F.pre F.post self.now }
         ensures { Gives (read.unary (read.single self.now.level self.now.depth) tokens.old) result tokens.new }
     {
         let found = signs(self.alloc, tokens)?;
@@ -105,7 +105,7 @@ impl<F: Fn(Global, u8, &mut Tokens, usize) -> Result<Expr, ParseFault>> Rules<F>
     #[cycle(binary)]
     #[tactic(auto, unfolding(query_grammar::specs::Reader::inter, query_grammar::specs::Reader::union, query_grammar::specs::Reader::multiplication, query_grammar::specs::Reader::addition, query_grammar::specs::Reader::range, query_grammar::specs::Reader::comparison, query_grammar::specs::Reader::conjunction))]
     fn operand(&self, tokens: &mut Tokens, precedence: Precedence) -> Result<Expr, ParseFault>
-        requires { Nests self.now.level self.now.depth (F.pre self.now.single) (F.post self.now.single) }
+        requires { HasReader F.pre F.post self.now }
         ensures { Gives (part.operand (read.single self.now.level self.now.depth) precedence tokens.old) result tokens.new }
     {
         match precedence.tighter() {
@@ -121,7 +121,7 @@ impl<F: Fn(Global, u8, &mut Tokens, usize) -> Result<Expr, ParseFault>> Rules<F>
         tokens: &mut Tokens,
         precedence: Precedence,
     ) -> Result<Operation<Expr>, ParseFault>
-        requires { Nests self.now.level self.now.depth (F.pre self.now.single) (F.post self.now.single) }
+        requires { HasReader F.pre F.post self.now }
         ensures { Gives (part.operation (read.single self.now.level self.now.depth) precedence tokens.old) result tokens.new }
     {
         let operator = operator(tokens, precedence)?;
@@ -137,7 +137,7 @@ impl<F: Fn(Global, u8, &mut Tokens, usize) -> Result<Expr, ParseFault>> Rules<F>
         tokens: &mut Tokens,
         precedence: Precedence,
     ) -> Result<Items<Operation<Expr>>, ParseFault>
-        requires { Nests self.now.level self.now.depth (F.pre self.now.single) (F.post self.now.single) }
+        requires { HasReader F.pre F.post self.now }
         ensures { Gives (part.operations (read.single self.now.level self.now.depth) precedence tokens.old) result tokens.new }
     {
         let mut found = Items::new(self.alloc);
@@ -159,7 +159,7 @@ impl<F: Fn(Global, u8, &mut Tokens, usize) -> Result<Expr, ParseFault>> Rules<F>
         tokens: &mut Tokens,
         precedence: Precedence,
     ) -> Result<Expr, ParseFault>
-        requires { Nests self.now.level self.now.depth (F.pre self.now.single) (F.post self.now.single) }
+        requires { HasReader F.pre F.post self.now }
         ensures { Gives (part.binary (read.single self.now.level self.now.depth) precedence tokens.old) result tokens.new }
     {
         let first = self.operand(tokens, precedence)?;
@@ -170,7 +170,7 @@ impl<F: Fn(Global, u8, &mut Tokens, usize) -> Result<Expr, ParseFault>> Rules<F>
     /// Takes an expression of operators.
     #[tactic(auto, unfolding(query_grammar::specs::Reader::disjunction))]
     pub(crate) fn disjunction(&self, tokens: &mut Tokens) -> Result<Expr, ParseFault>
-        requires { Nests self.now.level self.now.depth (F.pre self.now.single) (F.post self.now.single) }
+        requires { HasReader F.pre F.post self.now }
         ensures { Gives (read.disjunction (read.single self.now.level self.now.depth) tokens.old) result tokens.new }
     {
         self.binary(tokens, Precedence::Disjunction)

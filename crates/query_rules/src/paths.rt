@@ -3,7 +3,7 @@
 ghost use Rattle.std.specs.Prelude.{◌≡◌, IfOk};
 ghost use Rattle.query_parts.specs.Gives.{Gives, GivesAs};
 ghost use Rattle.query_parts.specs.Steps.{as_step};
-ghost use Rattle.query_rules.specs.Reads.{Nests};
+ghost use Rattle.query_rules.specs.Reads.{HasReader};
 ghost use Rattle.query_rules.specs.Parts as part;
 ghost use Rattle.query_grammar.specs.Grammar as grammar;
 ghost use Rattle.query_grammar.specs.Reader as read;
@@ -20,7 +20,7 @@ use query_tokens::{Kind, ParseFault, Tokens};
 use sqlite_items::{Boxed, Items};
 use std::alloc::{AllocError, Global};
 
-/// An expression that no step follows is itself.
+/// An expression that no step follows is itself. Fails where memory is refused.
 fn path_of(alloc: Global, first: Expr, others: Items<Expr>) -> Result<Expr, AllocError>
     ensures { IfOk result (λ x. x ≡ grammar.path_of first others) }
 {
@@ -34,7 +34,7 @@ fn path_of(alloc: Global, first: Expr, others: Items<Expr>) -> Result<Expr, Allo
 impl<F: Fn(Global, u8, &mut Tokens, usize) -> Result<Expr, ParseFault>> Rules<F> {
     #[tactic(auto, unfolding(query_grammar::specs::Reader::predicate))]
     fn predicate(&self, tokens: &mut Tokens) -> Result<Expr, ParseFault>
-        requires { Nests self.now.level self.now.depth (F.pre self.now.single) (F.post self.now.single) }
+        requires { HasReader F.pre F.post self.now }
         ensures { Gives (read.predicate (read.single self.now.level self.now.depth) tokens.old) result tokens.new }
     {
         eat(tokens, Kind::OpenBracket)?;
@@ -44,7 +44,7 @@ impl<F: Fn(Global, u8, &mut Tokens, usize) -> Result<Expr, ParseFault>> Rules<F>
 
     #[tactic(auto, unfolding(query_grammar::specs::Reading::rounds, query_grammar::specs::Reader::predicates))]
     fn predicates(&self, tokens: &mut Tokens) -> Result<Items<Expr>, ParseFault>
-        requires { Nests self.now.level self.now.depth (F.pre self.now.single) (F.post self.now.single) }
+        requires { HasReader F.pre F.post self.now }
         ensures { Gives (read.predicates (read.single self.now.level self.now.depth) tokens.old) result tokens.new }
     {
         let mut found = Items::new(self.alloc);
@@ -60,7 +60,7 @@ impl<F: Fn(Global, u8, &mut Tokens, usize) -> Result<Expr, ParseFault>> Rules<F>
 
     #[tactic(auto, unfolding(query_grammar::specs::Reader::step))]
     fn step(&self, tokens: &mut Tokens) -> Result<Step, ParseFault>
-        requires { Nests self.now.level self.now.depth (F.pre self.now.single) (F.post self.now.single) }
+        requires { HasReader F.pre F.post self.now }
         ensures { GivesAs as_step (read.step (read.single self.now.level self.now.depth) tokens.old) result tokens.new }
     {
         if sees_primary(tokens) {
@@ -76,7 +76,7 @@ impl<F: Fn(Global, u8, &mut Tokens, usize) -> Result<Expr, ParseFault>> Rules<F>
 
     #[tactic(auto, unfolding(query_grammar::specs::Reader::segment))]
     fn segment(&self, tokens: &mut Tokens) -> Result<Items<Expr>, ParseFault>
-        requires { Nests self.now.level self.now.depth (F.pre self.now.single) (F.post self.now.single) }
+        requires { HasReader F.pre F.post self.now }
         ensures { Gives (read.segment (read.single self.now.level self.now.depth) tokens.old) result tokens.new }
     {
         let is_deep = slash(tokens)?;
@@ -87,7 +87,7 @@ impl<F: Fn(Global, u8, &mut Tokens, usize) -> Result<Expr, ParseFault>> Rules<F>
     // The steps after the first.
     #[tactic(auto, unfolding(crate::proofs::Turns::flat_rounds))]
     fn segments(&self, tokens: &mut Tokens) -> Result<Items<Expr>, ParseFault>
-        requires { Nests self.now.level self.now.depth (F.pre self.now.single) (F.post self.now.single) }
+        requires { HasReader F.pre F.post self.now }
         ensures { Gives (part.segments (read.single self.now.level self.now.depth) tokens.old) result tokens.new }
     {
         let mut found = Items::new(self.alloc);
@@ -104,7 +104,7 @@ impl<F: Fn(Global, u8, &mut Tokens, usize) -> Result<Expr, ParseFault>> Rules<F>
     /// Takes a path.
     #[tactic(auto, unfolding(query_grammar::specs::Reader::path), using(crate::proofs::Turns::path_is))]
     pub(crate) fn path(&self, tokens: &mut Tokens) -> Result<Expr, ParseFault>
-        requires { Nests self.now.level self.now.depth (F.pre self.now.single) (F.post self.now.single) }
+        requires { HasReader F.pre F.post self.now }
         ensures { Gives (read.path (read.single self.now.level self.now.depth) tokens.old) result tokens.new }
     {
         let first = self.step(tokens)?;

@@ -2,7 +2,7 @@
 
 ghost use Rattle.std.specs.Prelude.{◌≡◌};
 ghost use Rattle.query_parts.specs.Gives.{Gives};
-ghost use Rattle.query_rules.specs.Reads.{Nests};
+ghost use Rattle.query_rules.specs.Reads.{HasReader};
 ghost use Rattle.query_grammar.specs.Reader as read;
 ghost use Rattle.query_grammar.specs.Reading as reading;
 ghost use Rattle.query_tokens.specs.declared.kind.Kind.TheVariants as k;
@@ -78,7 +78,7 @@ impl<F: Fn(Global, u8, &mut Tokens, usize) -> Result<Expr, ParseFault>> Rules<F>
     /// Takes an expression, or nothing before the closing token.
     #[tactic(auto, unfolding(query_grammar::specs::Reader::content))]
     pub(crate) fn content(&self, tokens: &mut Tokens, closing: Kind) -> Result<Expr, ParseFault>
-        requires { Nests self.now.level self.now.depth (F.pre self.now.single) (F.post self.now.single) }
+        requires { HasReader F.pre F.post self.now }
         ensures { Gives (read.content (read.single self.now.level self.now.depth) closing tokens.old) result tokens.new }
     {
         if sees(tokens, 0, closing) {
@@ -90,7 +90,7 @@ impl<F: Fn(Global, u8, &mut Tokens, usize) -> Result<Expr, ParseFault>> Rules<F>
 
     #[tactic(auto, unfolding(query_grammar::specs::Reader::parens))]
     fn parens(&self, tokens: &mut Tokens) -> Result<Expr, ParseFault>
-        requires { Nests self.now.level self.now.depth (F.pre self.now.single) (F.post self.now.single) }
+        requires { HasReader F.pre F.post self.now }
         ensures { Gives (read.parens (read.single self.now.level self.now.depth) tokens.old) result tokens.new }
     {
         eat(tokens, Kind::OpenParen)?;
@@ -100,7 +100,7 @@ impl<F: Fn(Global, u8, &mut Tokens, usize) -> Result<Expr, ParseFault>> Rules<F>
 
     #[tactic(auto, unfolding(query_grammar::specs::Reader::arguments))]
     fn arguments(&self, tokens: &mut Tokens) -> Result<Items<Expr>, ParseFault>
-        requires { Nests self.now.level self.now.depth (F.pre self.now.single) (F.post self.now.single) }
+        requires { HasReader F.pre F.post self.now }
         ensures { Gives (read.arguments (read.single self.now.level self.now.depth) tokens.old) result tokens.new }
     {
         if sees(tokens, 0, Kind::CloseParen) {
@@ -112,7 +112,7 @@ impl<F: Fn(Global, u8, &mut Tokens, usize) -> Result<Expr, ParseFault>> Rules<F>
 
     #[tactic(auto, unfolding(query_grammar::specs::Reader::call))]
     fn call(&self, tokens: &mut Tokens) -> Result<Expr, ParseFault>
-        requires { Nests self.now.level self.now.depth (F.pre self.now.single) (F.post self.now.single) }
+        requires { HasReader F.pre F.post self.now }
         ensures { Gives (read.call (read.single self.now.level self.now.depth) tokens.old) result tokens.new }
     {
         let name = function_name(tokens)?;
@@ -123,7 +123,7 @@ impl<F: Fn(Global, u8, &mut Tokens, usize) -> Result<Expr, ParseFault>> Rules<F>
     }
 
     fn call_or_constructor(&self, tokens: &mut Tokens) -> Result<Expr, ParseFault>
-        requires { Nests self.now.level self.now.depth (F.pre self.now.single) (F.post self.now.single) }
+        requires { HasReader F.pre F.post self.now }
         ensures { Gives (reading.choose (reading.sees 1 k.OpenParen) (read.call (read.single self.now.level self.now.depth)) (read.make (read.single self.now.level self.now.depth)) tokens.old) result tokens.new }
     {
         if sees(tokens, 1, Kind::OpenParen) {
@@ -136,7 +136,7 @@ impl<F: Fn(Global, u8, &mut Tokens, usize) -> Result<Expr, ParseFault>> Rules<F>
     /// Takes a primary expression.
     #[tactic(auto, unfolding(query_grammar::specs::Reader::primary))]
     pub(crate) fn primary(&self, tokens: &mut Tokens) -> Result<Expr, ParseFault>
-        requires { Nests self.now.level self.now.depth (F.pre self.now.single) (F.post self.now.single) }
+        requires { HasReader F.pre F.post self.now }
         ensures { Gives (read.primary (read.single self.now.level self.now.depth) tokens.old) result tokens.new }
     {
         match tokens.peek_at(0) {

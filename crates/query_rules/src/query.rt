@@ -2,7 +2,7 @@
 
 ghost use Rattle.std.specs.Prelude.{ℕ, ◌<◌, length, IfOk};
 ghost use Rattle.query_parts.specs.Gives.{Gives};
-ghost use Rattle.query_rules.specs.Reads.{GivesWhole, IsParsed, Nests};
+ghost use Rattle.query_rules.specs.Reads.{GivesWhole, HasReader, IsParsed};
 ghost use Rattle.query_rules.specs.Stages.{Nearer, Settles};
 ghost use Rattle.query_grammar.specs.Grammar.{IsQuery};
 ghost use Rattle.query_grammar.specs.Reader as read;
@@ -21,7 +21,7 @@ use std::alloc::Global;
 impl<F: Fn(Global, u8, &mut Tokens, usize) -> Result<Expr, ParseFault>> Rules<F> {
     // No token may be left.
     fn query(&self, mut tokens: Tokens) -> Result<Expr, ParseFault>
-        requires { Nests self.now.level self.now.depth (F.pre self.now.single) (F.post self.now.single) }
+        requires { HasReader F.pre F.post self.now }
         ensures { GivesWhole (read.whole (read.exprs (read.single self.now.level self.now.depth) tokens)) result }
     {
         let x = self.exprs(&mut tokens)?;

@@ -2,7 +2,7 @@
 
 ghost use Rattle.std.specs.Prelude.{◌≡◌, ◌∷◌, IfOk};
 ghost use Rattle.query_parts.specs.Gives.{Gives};
-ghost use Rattle.query_rules.specs.Reads.{Nests};
+ghost use Rattle.query_rules.specs.Reads.{HasReader};
 ghost use Rattle.query_rules.specs.Parts as part;
 ghost use Rattle.query_grammar.specs.Grammar as grammar;
 ghost use Rattle.query_grammar.specs.Reader as read;
@@ -27,7 +27,7 @@ pub(crate) struct Rules<F> {
     pub(crate) single: F,
 }
 
-/// The first item before the others.
+/// The first item before the others. Fails where memory is refused.
 pub(crate) fn with_first<T: Drop>(
     alloc: Global,
     first: T,
@@ -54,14 +54,14 @@ fn of_list(mut xs: Items<Expr>) -> Expr
 impl<F: Fn(Global, u8, &mut Tokens, usize) -> Result<Expr, ParseFault>> Rules<F> {
     /// Takes an expression that no comma parts.
     pub(crate) fn single(&self, tokens: &mut Tokens) -> Result<Expr, ParseFault>
-        requires { Nests self.now.level self.now.depth (F.pre self.now.single) (F.post self.now.single) }
+        requires { HasReader F.pre F.post self.now }
         ensures { Gives (read.single self.now.level self.now.depth tokens.old) result tokens.new }
     {
         (self.single)(self.alloc, self.level, tokens, self.depth)
     }
 
     fn next_single(&self, tokens: &mut Tokens) -> Result<Expr, ParseFault>
-        requires { Nests self.now.level self.now.depth (F.pre self.now.single) (F.post self.now.single) }
+        requires { HasReader F.pre F.post self.now }
         ensures { Gives (part.after_comma (read.single self.now.level self.now.depth) tokens.old) result tokens.new }
     {
         eat(tokens, Kind::Comma)?;
@@ -70,7 +70,7 @@ impl<F: Fn(Global, u8, &mut Tokens, usize) -> Result<Expr, ParseFault>> Rules<F>
 
     #[tactic(auto, unfolding(query_grammar::specs::Reading::rounds))]
     fn more_singles(&self, tokens: &mut Tokens) -> Result<Items<Expr>, ParseFault>
-        requires { Nests self.now.level self.now.depth (F.pre self.now.single) (F.post self.now.single) }
+        requires { HasReader F.pre F.post self.now }
         ensures { Gives (part.more (read.single self.now.level self.now.depth) tokens.old) result tokens.new }
     {
         let mut found = Items::new(self.alloc);
@@ -87,7 +87,7 @@ impl<F: Fn(Global, u8, &mut Tokens, usize) -> Result<Expr, ParseFault>> Rules<F>
     /// Takes expressions with commas between them, one at least.
     #[tactic(auto, unfolding(query_grammar::specs::Reader::list1))]
     pub(crate) fn singles(&self, tokens: &mut Tokens) -> Result<Items<Expr>, ParseFault>
-        requires { Nests self.now.level self.now.depth (F.pre self.now.single) (F.post self.now.single) }
+        requires { HasReader F.pre F.post self.now }
         ensures { Gives (read.list1 (read.single self.now.level self.now.depth) tokens.old) result tokens.new }
     {
         let first = self.single(tokens)?;
@@ -98,7 +98,7 @@ impl<F: Fn(Global, u8, &mut Tokens, usize) -> Result<Expr, ParseFault>> Rules<F>
     /// Takes an expression that commas may part.
     #[tactic(auto, unfolding(query_grammar::specs::Reader::exprs))]
     pub(crate) fn exprs(&self, tokens: &mut Tokens) -> Result<Expr, ParseFault>
-        requires { Nests self.now.level self.now.depth (F.pre self.now.single) (F.post self.now.single) }
+        requires { HasReader F.pre F.post self.now }
         ensures { Gives (read.exprs (read.single self.now.level self.now.depth) tokens.old) result tokens.new }
     {
         Ok(of_list(self.singles(tokens)?))
