@@ -48,7 +48,7 @@ impl<'a> BoundNames<'a> {
         self.names.contains(name)
     }
 
-    /// Adds the name, if it is not among them.
+    /// Adds the name, if it is not among them. Fails where memory is refused; which names there are then isn't said.
     #[inline(never)]
     pub(crate) fn add(&mut self, name: &'a str) -> Result<(), AllocError>
         ensures { OnOk result (self.new ≡ with_name name.now self.old) }

@@ -72,7 +72,7 @@ pub(crate) fn is_unbound(x: &Expr, bound: &BoundNames) -> bool
     }
 }
 
-/// Binds the variables of a clause.
+/// Binds the variables of a clause. Fails where memory is refused; which of them are bound then isn't said.
 fn bind_clause<'a>(clause: &'a Clause<Expr>, bound: &mut BoundNames<'a>) -> Result<(), AllocError>
     ensures { OnOk result (bound.new ≡ with_names (bound_by clause.now) bound.old) }
 {
@@ -86,7 +86,7 @@ fn bind_clause<'a>(clause: &'a Clause<Expr>, bound: &mut BoundNames<'a>) -> Resu
     }
 }
 
-/// Binds the variables of bindings.
+/// Binds the variables of bindings. Fails where memory is refused; which of them are bound then isn't said.
 fn bind_all<'a>(bindings: &'a [Binding<Expr>], bound: &mut BoundNames<'a>) -> Result<(), AllocError>
     ensures { OnOk result (bound.new ≡ with_names (variables_of bindings.now) bound.old) }
 {
@@ -96,7 +96,8 @@ fn bind_all<'a>(bindings: &'a [Binding<Expr>], bound: &mut BoundNames<'a>) -> Re
     Ok(())
 }
 
-/// Binds what an expression binds for the parts after that of an index, and not for that one.
+/// Binds what an expression binds for the parts after that of an index, and not for that one. Fails where memory is refused; which
+/// names are bound then isn't said.
 #[inline(never)]
 pub(crate) fn bind_after<'a>(
     x: &'a Expr,
@@ -127,7 +128,7 @@ pub(crate) fn bind_after<'a>(
 }
 
 /// Whether where these names are bound an expression or something in it is a variable that is not bound. If not, the names are as
-/// they were.
+/// they were. Fails where memory is refused; which names are bound then isn't said.
 fn has_unbound_under<'a>(x: &'a Expr, bound: &mut BoundNames<'a>) -> Result<bool, AllocError>
     ensures tells { IfOk result (λ b. (scope : Scope) → AreBound bound.old scope → b ≡ has_unbound x.now scope) }
     ensures kept { IfOk result (λ b. b ≡ false → bound.new ≡ bound.old) }
@@ -149,7 +150,7 @@ fn has_unbound_under<'a>(x: &'a Expr, bound: &mut BoundNames<'a>) -> Result<bool
 }
 
 /// Whether a variable stands in an expression where it is not bound: neither by a clause before it in the same expression, nor by one
-/// around it (XQuery 1.0, sections 3.1.2, 3.8.1 and 3.11: XPST0008). An `Err` says that memory was refused, and nothing of the
+/// around it (XQuery 1.0, sections 3.1.2, 3.8.1 and 3.11: XPST0008). Fails only where memory is refused, which says nothing of the
 /// expression.
 pub fn has_unbound(alloc: Global, x: &Expr) -> Result<bool, AllocError>
     ensures { IfOk result (λ b. b ≡ has_unbound x.now []) }

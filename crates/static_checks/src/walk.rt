@@ -18,7 +18,7 @@ use query_grammar::Expr;
 use std::alloc::{AllocError, Global};
 
 /// The category of an expression where these names are bound, and nothing where one of the passes finds a fault in it. If none does,
-/// the names are as they were.
+/// the names are as they were. Fails where memory is refused; which names are bound then isn't said.
 fn walked<'a>(x: &'a Expr, bound: &mut BoundNames<'a>) -> Result<Option<Category>, AllocError>
     ensures tells { IfOk result (λ found. IsWalked x.now bound.old found) }
     ensures kept { IfOk result (λ found. IsSome found → bound.new ≡ bound.old) }
@@ -56,7 +56,7 @@ fn walked<'a>(x: &'a Expr, bound: &mut BoundNames<'a>) -> Result<Option<Category
 }
 
 /// Whether one of the passes over functions, names that one clause binds twice, variables that are not bound, and categories finds a
-/// fault in an expression. An `Err` says that memory was refused, and nothing of the expression.
+/// fault in an expression. Fails only where memory is refused, which says nothing of the expression.
 pub fn has_fault(alloc: Global, x: &Expr) -> Result<bool, AllocError>
     ensures { IfOk result (λ b. b ≡ has_unknown_call x.now || (binds_a_name_twice x.now || (has_unbound x.now [] || (judged x.now).is_misplaced))) }
 {
