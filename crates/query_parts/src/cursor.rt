@@ -44,7 +44,7 @@ pub fn at_level(tokens: &Tokens, level: Looseness) -> bool
 
 /// Takes the next token, which must be of this kind.
 ///
-/// Codes: `Static(XPST0003)` where it is of another, or there is none.
+/// Codes: `Static(XPST0003)` where it is of another, or there is none. So it doesn't fail where `sees(tokens, 0, kind)` has just held.
 #[tactic(auto, unfolding(query_grammar::specs::Reading::take_if))]
 pub fn eat(tokens: &mut Tokens, kind: Kind) -> Result<Token, ParseFault>
     ensures { Gives (reading.eat kind tokens.old) result tokens.new }
@@ -111,6 +111,8 @@ pub fn function_name(tokens: &mut Tokens) -> Result<Token, ParseFault>
 }
 
 /// Takes the word of an axis.
+///
+/// Codes: `Static(XPST0003)` where the next token is none.
 #[tactic(auto, unfolding(query_grammar::specs::Reading::take_as))]
 pub(crate) fn axis(tokens: &mut Tokens) -> Result<Axis, ParseFault>
     ensures { Gives (reading.take_as table.axis_of tokens.old) result tokens.new }
@@ -122,6 +124,8 @@ pub(crate) fn axis(tokens: &mut Tokens) -> Result<Axis, ParseFault>
 }
 
 /// Takes the word of a kind test.
+///
+/// Codes: `Static(XPST0003)` where the next token is none.
 #[tactic(auto, unfolding(query_grammar::specs::Reading::take_as))]
 pub(crate) fn kind_test_word(tokens: &mut Tokens) -> Result<KindTest, ParseFault>
     ensures { Gives (reading.take_as table.kind_test_of tokens.old) result tokens.new }

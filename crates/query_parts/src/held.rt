@@ -15,7 +15,7 @@ use std::alloc::{AllocError, Global};
 
 /// What was read, once the next token is taken, which must be of this kind.
 ///
-/// Fault: the next token is of another kind, or there is none (XPST0003); what was read is dropped.
+/// Codes: `Static(XPST0003)` where the next token is of another kind, or there is none; what was read is dropped.
 pub fn followed<T: Drop>(read: T, tokens: &mut Tokens, kind: Kind) -> Result<T, ParseFault>
     ensures { Gives (followed read kind tokens.old) result tokens.new }
 {
@@ -25,7 +25,7 @@ pub fn followed<T: Drop>(read: T, tokens: &mut Tokens, kind: Kind) -> Result<T, 
 
 /// What was read and what was read after it.
 ///
-/// Fault: that of the second; what was read first is dropped.
+/// Codes: that of the second; what was read first is dropped.
 pub fn pair<A: Drop, B: Drop>(first: A, second: Result<B, ParseFault>) -> Result<(A, B), ParseFault>
     ensures ok { IfOk result (λ both. (both.0 ≡ first) × (second ≡ Ok both.1)) }
     ensures err { IfErr result (λ fault. second ≡ Err fault) }
@@ -35,7 +35,7 @@ pub fn pair<A: Drop, B: Drop>(first: A, second: Result<B, ParseFault>) -> Result
 
 /// A value in a box.
 ///
-/// Fault: memory is refused; the value is dropped.
+/// Codes: `Memory` where memory is refused; the value is dropped.
 pub fn boxed<T: Drop>(alloc: Global, value: T) -> Result<Boxed<T>, ParseFault>
     ensures ok { IfOk result (λ found. found ≡ value) }
     ensures err { IfErr result (λ fault. fault ≡ Memory) }
@@ -45,7 +45,7 @@ pub fn boxed<T: Drop>(alloc: Global, value: T) -> Result<Boxed<T>, ParseFault>
 
 /// What was read, if no token is left.
 ///
-/// Fault: tokens are left (XPST0003); what was read is dropped.
+/// Codes: `Static(XPST0003)` where tokens are left; what was read is dropped.
 pub fn last<T: Drop>(read: T, tokens: &Tokens) -> Result<T, ParseFault>
     ensures { GivesLast read tokens.now result }
 {

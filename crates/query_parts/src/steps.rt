@@ -137,7 +137,7 @@ pub fn axis_step(tokens: &mut Tokens) -> Result<AxisStep, ParseFault>
     }
 }
 
-/// A primary expression without predicates is itself.
+/// A primary expression without predicates is itself. Fails where memory is refused.
 fn filter_of(alloc: Global, x: Expr, predicates: Items<Expr>) -> Result<Expr, AllocError>
     ensures { IfOk result (λ found. found ≡ grammar.filter_of x predicates) }
 {
@@ -158,7 +158,7 @@ pub fn step_of(alloc: Global, step: Step) -> Result<Expr, AllocError>
     }
 }
 
-/// `/descendant-or-self::node()` and the step.
+/// `/descendant-or-self::node()` and the step. Fails where memory is refused.
 fn deep(alloc: Global, x: Expr) -> Result<Items<Expr>, AllocError>
     ensures { IfOk result (λ found. found ≡ grammar.deep x) }
 {
@@ -183,7 +183,7 @@ fn deep_axis_step(
     }
 }
 
-/// The step after `//`: a bare test without predicates is looked for among the descendants.
+/// The step after `//`: a bare test without predicates is looked for among the descendants. Fails where memory is refused.
 fn deep_step(alloc: Global, step: Step) -> Result<Items<Expr>, AllocError>
     ensures { IfOk result (λ found. found ≡ grammar.deep_step (part.as_step step)) }
 {

@@ -60,6 +60,7 @@ fn signs(alloc: Global, tokens: &mut Tokens) -> Result<Items<Sign>, ParseFault>
         if !sees_sign(tokens) {
             return Ok(found);
         }
+        // The next token is a sign, so that it is no fault of the text which comes here.
         found.push(sign(tokens)?)?;
     }
     Ok(found)

@@ -16,7 +16,7 @@ use crate::token::Token;
 use crate::tokens::Tokens;
 use std::alloc::{AllocError, Global};
 
-// The token that the text begins with.
+// The token that the text begins with. It fails as `name`, `number`, `string` and `mark` do.
 fn token(alloc: Global, text: &[char]) -> Result<(Token, &[char]), ParseFault>
     ensures { IsNext (lexing.token text.now) (λ p. p.0) (λ p. p.1.now) result }
 {
@@ -28,7 +28,7 @@ fn token(alloc: Global, text: &[char]) -> Result<(Token, &[char]), ParseFault>
     }
 }
 
-// A token, and what separates it from the next.
+// A token, and what separates it from the next. It fails as `token` and `separators` do, and where memory is refused.
 fn next_token<'a>(
     alloc: Global,
     found: &mut Tokens,
@@ -51,7 +51,7 @@ fn is_left(text: &[char]) -> bool
     }
 }
 
-// Each token takes a character at least, so as many turns as there are characters are enough.
+// Each token takes a character at least, so as many turns as there are characters are enough. It fails as `next_token` does.
 fn all_tokens(alloc: Global, text: &[char]) -> Result<Tokens, ParseFault>
     ensures { IsRead (repeat (λ _ text. lexing.is_left text) lexing.next_token [] text.now) (λ found. found) result }
 {
@@ -74,14 +74,17 @@ fn tokens_of(alloc: Global, text: &[char]) -> Result<Tokens, ParseFault>
     all_tokens(alloc, first)
 }
 
+// Fails where memory is refused.
 fn characters(alloc: Global, text: &str) -> Result<Vec<char>, AllocError>
     ensures { IfOk result (λ found. found.items ≡ chars text.now) }
 {
     text.chars().collect(alloc)
 }
 
-/// The tokens of a text, in order, or the code of its first fault from the left (XPST0003, XQST0090 or PXQ0002). `Memory` says
-/// nothing of the text.
+/// The tokens of a text, in order.
+///
+/// Codes: `Static(..)` with the code of the text's first fault from the left (XPST0003, XQST0090 or PXQ0002), and `Memory` where memory
+/// is refused, which says nothing of the text.
 pub fn read_tokens(alloc: Global, text: &str) -> Result<Tokens, ParseFault>
     ensures { IsRead (lexing.tokens (chars text.now)) (λ t. t) result }
 {

@@ -38,7 +38,7 @@ pub(crate) fn digits(text: &[char]) -> (&[char], &[char])
     text.split_at(end)
 }
 
-// A name is ASCII, so its bytes are its characters.
+// A name is ASCII, so its bytes are its characters. Fails where memory is refused.
 #[tactic(auto, using(crate::proofs::Spelling::name_is_ascii))]
 fn spelled(alloc: Global, name: &[char]) -> Result<String, AllocError>
     requires { All (λ c. class.is_name_character c ≡ true) name.now }
@@ -47,7 +47,7 @@ fn spelled(alloc: Global, name: &[char]) -> Result<String, AllocError>
     name.iter().copied().collect(alloc)
 }
 
-// The name or the word at the start of a text. The word `xmlns` is XPST0003.
+// The name or the word at the start of a text. The word `xmlns` is XPST0003; it fails where memory is refused, too.
 pub(crate) fn name(alloc: Global, text: &[char]) -> Result<(Token, &[char]), ParseFault>
     ensures { IsNext (lexing.name text.now) (λ p. p.0) (λ p. p.1.now) result }
 {

@@ -51,7 +51,8 @@ fn value_of(base: u32, digits: &[char]) -> u32
     value
 }
 
-// After the digits of a reference: `;`, and a character of XML 1.0.
+// After the digits of a reference: `;`, and a character of XML 1.0. Without a digit or `;` it is XPST0003, and a number of no such
+// character is XQST0090.
 fn closed_reference<'a>(
     base: u32,
     digits: &[char],
@@ -74,7 +75,7 @@ fn closed_reference<'a>(
     }
 }
 
-// After `&#`.
+// After `&#`. It fails as `closed_reference` does.
 fn decimal_reference(text: &[char]) -> Result<(char, &[char]), ParseFault>
     ensures { IsNext (lexing.code_point 10 class.is_digit text.now) (λ p. p.0) (λ p. p.1.now) result }
 {
@@ -82,7 +83,7 @@ fn decimal_reference(text: &[char]) -> Result<(char, &[char]), ParseFault>
     closed_reference(10, found, rest)
 }
 
-// After `&#x`.
+// After `&#x`. It fails as `closed_reference` does.
 fn hexadecimal_reference(text: &[char]) -> Result<(char, &[char]), ParseFault>
     ensures { IsNext (lexing.code_point 16 lexing.is_hex_digit text.now) (λ p. p.0) (λ p. p.1.now) result }
 {
@@ -97,7 +98,7 @@ fn after<'a>(text: &'a [char], mark: &[char]) -> Option<&'a [char]>
     text.strip_prefix(mark)
 }
 
-// The character that one of the five names stands for.
+// The character that one of the five names stands for. Any other `&` is XPST0003.
 fn entity(text: &[char]) -> Result<(char, &[char]), ParseFault>
     ensures { IsNext (lexing.named (first_of lexing.entities text.now) text.now) (λ p. p.0) (λ p. p.1.now) result }
 {

@@ -9,7 +9,7 @@ use crate::characters::{is_space, is_xml_character, past_one};
 use crate::fault::ParseFault;
 use values::Code;
 
-// The next part of a comment: a deeper one begins, one ends, or a character.
+// The next part of a comment: a deeper one begins, one ends, or a character. One that isn't a character of XML 1.0 is XPST0003.
 fn comment_part(depth: usize, text: &[char]) -> Result<(usize, &[char]), ParseFault>
     requires { depth < 2 ^ 63 }
     ensures read { IsNext (lexing.comment_part depth text.now) (λ p. p.0) (λ p. p.1.now) result }
@@ -32,7 +32,8 @@ fn is_inside(depth: usize, text: &[char]) -> bool
     }
 }
 
-// The inside of a comment, after its first `(:`: how many comments are still open at the end of it, and the rest.
+// The inside of a comment, after its first `(:`: how many comments are still open at the end of it, and the rest. It fails as
+// `comment_part` does.
 fn comment_parts(text: &[char]) -> Result<(usize, &[char]), ParseFault>
     ensures { IsNext (repeat lexing.is_inside lexing.comment_part 1 text.now) (λ p. p.0) (λ p. p.1.now) result }
 {
@@ -49,7 +50,7 @@ fn comment_parts(text: &[char]) -> Result<(usize, &[char]), ParseFault>
     Ok((depth, rest))
 }
 
-// What follows the comment at the start of a text.
+// What follows the comment at the start of a text. One that isn't closed is XPST0003; it fails as `comment_parts` does, too.
 fn comment(text: &[char]) -> Result<&[char], ParseFault>
     ensures { IsNext (lexing.comment text.now) (λ _. tt) (λ rest. rest.now) result }
 {
@@ -62,6 +63,7 @@ fn comment(text: &[char]) -> Result<&[char], ParseFault>
                 Err(ParseFault::Static(Code::XPST0003))
             }
         }
+        // That can't come: it is asked for where a comment begins.
         _ => Err(ParseFault::Static(Code::XPST0003)),
     }
 }

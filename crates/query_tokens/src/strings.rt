@@ -15,7 +15,8 @@ use values::{Code, Text};
 /// The bytes that a string has at most.
 const MOST_BYTES: usize = 65536;
 
-// A quote that is doubled, a reference, or a character that stands for itself.
+// A quote that is doubled, a reference, or a character that stands for itself. One that isn't a character of XML 1.0 is XPST0003, as is
+// none; a reference has faults of its own (`reference`).
 fn content_character(quote: char, text: &[char]) -> Result<(char, &[char]), ParseFault>
     ensures { IsNext (lexing.content_character quote text.now) (λ p. p.0) (λ p. p.1.now) result }
 {
@@ -27,7 +28,8 @@ fn content_character(quote: char, text: &[char]) -> Result<(char, &[char]), Pars
     }
 }
 
-// One character more of a string, which isn't to be longer than the limit (PXQ0002).
+// One character more of a string, which isn't to be longer than the limit (PXQ0002). It fails as `content_character` does, too, and
+// where memory is refused.
 fn more_content<'a>(
     content: &mut String,
     quote: char,
@@ -54,7 +56,7 @@ fn is_in_string(quote: char, text: &[char]) -> bool
     }
 }
 
-// What stands between the quotes, and the text from the last quote on.
+// What stands between the quotes, and the text from the last quote on. It fails as `more_content` does.
 fn contents(alloc: Global, quote: char, text: &[char]) -> Result<(String, &[char]), ParseFault>
     ensures { IsNext (lexing.contents quote text.now) (λ p. string_bytes p.0) (λ p. p.1.now) result }
 {
@@ -69,7 +71,7 @@ fn contents(alloc: Global, quote: char, text: &[char]) -> Result<(String, &[char
     Ok((content, rest))
 }
 
-// The string at the start of a text, between two of these quotes.
+// The string at the start of a text, between two of these quotes. One that isn't closed is XPST0003; it fails as `contents` does, too.
 pub(crate) fn string(
     alloc: Global,
     quote: char,

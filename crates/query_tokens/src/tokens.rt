@@ -104,6 +104,7 @@ impl Tokens {
         ensures { MatchOption result ((self.old ≡ []) × (self.new ≡ [])) (λ t. self.old ≡ t ∷ self.new) }
     {
         let Mark { kind, says_more } = self.marks.pop_front()?;
+        // By the invariant there is content for each mark that says more.
         let content = if says_more {
             self.contents.pop_front()
         } else {
