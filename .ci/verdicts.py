@@ -30,10 +30,13 @@ class Verdict:
 
 
 class Error:
-    """An error in a proof file: the file's folder, the goal, if one is named, and whether it only misses a name that an edit took away."""
+    """An error in a proof file: the file's folder, the goal, if one is named, and whether it only misses a name that an edit took away.
+
+    The folder of what calls itself, and of a cycle of calls, begins with a plus sign, which is left out here.
+    """
 
     def __init__(self, folder, goal, text):
-        self.folder, self.goal, self.text = folder, goal or text, text
+        self.folder, self.goal = "/".join(it.removeprefix("+") for it in folder.split("/")), goal or text
         self.is_of_names = bool(OF_NAMES.search(text))
 
 
@@ -58,16 +61,13 @@ class Said:
 
     def errors_of(self, name, cycle=()):
         """The errors in a function's proof, or in that of its cycle of calls those on its goals."""
-        module, _, own = name.partition("::")[2].rpartition("::")
-        if cycle:
-            return [it for it in self.errors if it.folder.endswith("/+" + cycle[0]) and it.goal.startswith(own + "-")]
-        path = "/".join([*filter(None, module.split("::")), own])
-        return [it for it in self.errors if it.folder == path]
+        own = name.split("::")[-1] + "-"
+        return [it for it in self.errors if it.folder == folder_of(name, cycle) and (not cycle or it.goal.startswith(own))]
 
     def goals_of(self, name, cycle=()):
         """The goals of a function's own that are not proved.
 
-        A cycle of calls, its name and those of its members, has one proof; each of its goals begins with the name of its member.
+        A cycle of calls, given by its name and its members, has one proof; each of its goals begins with the name of its member.
         """
         goals = [it.goal for it in self.errors_of(name, cycle) if not it.is_of_names]
         if not cycle:
@@ -81,8 +81,15 @@ class Said:
         errors = self.errors_of(name, cycle)
         return bool(errors) and not self.goals_of(name, cycle)
 
-    def wrong(self, changed):
-        """What is not proved by a fault of its own though it is none of the changed functions."""
-        folders = {it.partition("::")[2].replace("::", "/") for it in changed}
-        names = [name for name, it in self.verdicts.items() if name not in changed and not it.is_proved() and not it.only_calls()]
-        return names + [f"{it.folder}: {it.goal[:80]}" for it in self.errors if it.folder not in folders and "/+" not in it.folder]
+    def wrong(self, changed, cycles=()):
+        """What is not proved by a fault of its own though it is none of the changed functions, some of which are in cycles of calls."""
+        members = {member for _, cycle in cycles for member in cycle[1]}
+        folders = {folder_of(it) for it in changed} | {folder_of(name, cycle) for name, cycle in cycles}
+        names = [name for name, it in self.verdicts.items() if name not in {*changed, *members} and not it.is_proved() and not it.only_calls()]
+        return names + [f"{it.folder}: {it.goal[:80]}" for it in self.errors if it.folder not in folders]
+
+
+def folder_of(name, cycle=()):
+    """The folder of a function's proof, below proofs/, or of that of its cycle of calls."""
+    _, *above, own = name.split("::")
+    return "/".join([*above, cycle[0] if cycle else own])
