@@ -1,0 +1,6 @@
+pub mod Readings
+pub mod Elements
+pub mod Appending
+pub mod Exact
+pub mod ExactParts
+pub mod ExactBodies
