@@ -4,3 +4,5 @@ pub mod Appending
 pub mod Exact
 pub mod ExactParts
 pub mod ExactBodies
+pub mod RoundTrip
+pub mod RoundTripBodies

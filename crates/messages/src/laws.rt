@@ -1,12 +1,16 @@
 //! Laws, each the contract of a function that does nothing.
 
-ghost use Rattle.std.specs.Prelude.{◌≡◌, ℕ, List, []};
+ghost use Rattle.std.specs.Prelude.{◌≡◌, ℕ, List, [], ◌++◌};
 ghost use Rattle.ballots.specs.Spelling.{AreBytes};
 ghost use Rattle.messages.specs.Spelling.{Datagram, IsDatagram, spelling};
 ghost use Rattle.messages.specs.Reading.{Gives, datagram_read};
 
-/// Bytes that read as a datagram are its spelling, it may be sent, and no byte is left over.
+/// A message's spelling reads as that message, and bytes that read as a datagram are its spelling, which may be sent; so a message has one
+/// spelling, bytes spell at most one message, and no spelling begins another.
 pub fn spellings()
+    ensures round_trip { (d : Datagram) → IsDatagram d → datagram_read (spelling d) ≡ Gives d [] }
     ensures exact { (bytes rest : List ℕ) (d : Datagram) → AreBytes bytes → datagram_read bytes ≡ Gives d rest
         → (bytes ≡ spelling d) × (IsDatagram d × (rest ≡ [])) }
+    ensures no_beginning { (d e : Datagram) (after_d after_e : List ℕ) → IsDatagram d → IsDatagram e
+        → spelling d ++ after_d ≡ spelling e ++ after_e → (d ≡ e) × (after_d ≡ after_e) }
 {}
