@@ -18,7 +18,7 @@ pub struct Config {
     /// The group's number.
     pub group: u32,
     /// The member's number, from 1 to the number of members.
-    pub member: u32,
+    pub member: u8,
     /// The members' addresses, 1 to 63 of them, in member order.
     pub members: Vec<String>,
     /// The names of the documents.
@@ -107,7 +107,7 @@ fn read_entries(alloc: Global, document: &Value) -> Result<Config, ConfigFault>
     };
     Ok(Config {
         group,
-        member,
+        member: member as u8,
         members,
         docs,
         records,

@@ -13,7 +13,8 @@ use trees::{Names, NamesFault};
 
 // The number that a value is, if it is one up to `most`.
 pub(crate) fn number_up_to(value: &Value, least: u32, most: u32) -> Option<u32>
-    ensures { result ≡ number_in least most (view value.now) }
+    ensures value { result ≡ number_in least most (view value.now) }
+    ensures bound { IfSome result (λ number. number ≤ most) }
 {
     let number = value.as_integer()?;
     if number < i64::from(least) || i64::from(most) < number {
@@ -62,7 +63,8 @@ pub(crate) fn texts_of(alloc: Global, array: &Array) -> Result<Option<Vec<String
 
 // The number that stands at a key, if it is in those bounds.
 pub(crate) fn number_of(document: &Value, key: &str, least: u32, most: u32) -> Option<u32>
-    ensures { result ≡ option_and_then (number_in least most) (get key.now (view document.now)) }
+    ensures value { result ≡ option_and_then (number_in least most) (get key.now (view document.now)) }
+    ensures bound { IfSome result (λ number. number ≤ most) }
 {
     number_up_to(document.get(key)?, least, most)
 }
