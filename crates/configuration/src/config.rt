@@ -5,7 +5,7 @@ ghost use Rattle.toml.specs.View.{view, table_view};
 ghost use Rattle.configuration.specs.Configuration.{IsConfiguration, configuration_of, configured, entries_of};
 ghost use Rattle.configuration.specs.Configured.{config_term};
 
-use crate::entries::{
+use super::entries::{
     begin_of, has_entries_alone, number_of, read_addresses, read_docs, read_records,
 };
 use std::alloc::{AllocError, Global};
@@ -71,7 +71,7 @@ pub fn read_config(alloc: Global, text: &str) -> Result<Config, ConfigFault>
     }
 }
 
-// Reads a configuration from a table.
+/// Reads a configuration from a table.
 fn read_table(alloc: Global, table: Table) -> Result<Config, ConfigFault>
     ensures read { IfOk result (λ c. configured (table_view table) ≡ Some (config_term c)) }
     ensures wrong { IsErrOf result ConfigFault.Wrong → configured (table_view table) ≡ None }
@@ -82,7 +82,7 @@ fn read_table(alloc: Global, table: Table) -> Result<Config, ConfigFault>
     read_entries(alloc, &Value::Table(table))
 }
 
-// Reads the entries of a configuration.
+/// Reads the entries of a configuration.
 fn read_entries(alloc: Global, document: &Value) -> Result<Config, ConfigFault>
     ensures read { IfOk result (λ c. entries_of (view document.now) ≡ Some (config_term c)) }
     ensures wrong { IsErrOf result ConfigFault.Wrong → entries_of (view document.now) ≡ None }

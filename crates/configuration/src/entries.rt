@@ -1,4 +1,4 @@
-// What the entries of a configuration say.
+//! What the entries of a configuration say.
 
 ghost use Rattle.std.specs.Prelude.{◌≡◌, ◌≤◌, length, IfOk, IfSome, map, string_bytes};
 ghost use Rattle.std.specs.Option.{option_and_then, option_map};
@@ -11,8 +11,8 @@ use toml::value::Array;
 use toml::{Table, Value};
 use trees::{Names, NamesFault};
 
-// The number that a value is, if it is one up to `most`.
-pub(crate) fn number_up_to(value: &Value, least: u32, most: u32) -> Option<u32>
+/// The number that a value is, if it is one up to `most`.
+pub(super) fn number_up_to(value: &Value, least: u32, most: u32) -> Option<u32>
     ensures value { result ≡ number_in least most (view value.now) }
     ensures bound { IfSome result (λ number. number ≤ most) }
 {
@@ -23,8 +23,8 @@ pub(crate) fn number_up_to(value: &Value, least: u32, most: u32) -> Option<u32>
     u32::try_from(number).ok()
 }
 
-// Whether a configuration may have an entry of that key.
-pub(crate) fn is_entry(key: &str) -> bool
+/// Whether a configuration may have an entry of that key.
+pub(super) fn is_entry(key: &str) -> bool
     ensures { result ≡ is_entry key.now }
 {
     key == "group"
@@ -35,8 +35,8 @@ pub(crate) fn is_entry(key: &str) -> bool
         || key == "begin"
 }
 
-// Whether each entry is one that a configuration may have.
-pub(crate) fn has_entries_alone(table: &Table) -> bool
+/// Whether each entry is one that a configuration may have.
+pub(super) fn has_entries_alone(table: &Table) -> bool
     ensures { result ≡ has_entries_alone (table_view table.now) }
 {
     'entries: for (key, _value) in table.iter() {
@@ -47,8 +47,8 @@ pub(crate) fn has_entries_alone(table: &Table) -> bool
     true
 }
 
-// The texts of an array, or none where an item is no text.
-pub(crate) fn texts_of(alloc: Global, array: &Array) -> Result<Option<Vec<String>>, AllocError>
+/// The texts of an array, or none where an item is no text.
+pub(super) fn texts_of(alloc: Global, array: &Array) -> Result<Option<Vec<String>>, AllocError>
     ensures { IfOk result (λ texts. option_map (λ t. map string_bytes t.items) texts ≡ texts_of (array_view array.now)) }
 {
     let mut texts = Vec::new(alloc);
@@ -61,16 +61,16 @@ pub(crate) fn texts_of(alloc: Global, array: &Array) -> Result<Option<Vec<String
     Ok(Some(texts))
 }
 
-// The number that stands at a key, if it is in those bounds.
-pub(crate) fn number_of(document: &Value, key: &str, least: u32, most: u32) -> Option<u32>
+/// The number that stands at a key, if it is in those bounds.
+pub(super) fn number_of(document: &Value, key: &str, least: u32, most: u32) -> Option<u32>
     ensures value { result ≡ option_and_then (number_in least most) (get key.now (view document.now)) }
     ensures bound { IfSome result (λ number. number ≤ most) }
 {
     number_up_to(document.get(key)?, least, most)
 }
 
-// Whether the node begins when it starts.
-pub(crate) fn begin_of(document: &Value) -> Option<bool>
+/// Whether the node begins when it starts.
+pub(super) fn begin_of(document: &Value) -> Option<bool>
     ensures { result ≡ begin_of (view document.now) }
 {
     match document.get("begin") {
@@ -79,7 +79,7 @@ pub(crate) fn begin_of(document: &Value) -> Option<bool>
     }
 }
 
-// The texts of the array that stands at a key, or none where there is no such array.
+/// The texts of the array that stands at a key, or none where there is no such array.
 fn read_list(alloc: Global, document: &Value, key: &str) -> Result<Option<Vec<String>>, AllocError>
     ensures { IfOk result (λ texts. option_map (λ t. map string_bytes t.items) texts ≡ option_and_then list_of (get key.now (view document.now))) }
 {
@@ -92,8 +92,8 @@ fn read_list(alloc: Global, document: &Value, key: &str) -> Result<Option<Vec<St
     }
 }
 
-// The members' addresses.
-pub(crate) fn read_addresses(
+/// The members' addresses.
+pub(super) fn read_addresses(
     alloc: Global,
     document: &Value,
 ) -> Result<Option<Vec<String>>, AllocError>
@@ -106,8 +106,8 @@ pub(crate) fn read_addresses(
     }
 }
 
-// The names of the documents.
-pub(crate) fn read_docs(alloc: Global, document: &Value) -> Result<Option<Names>, AllocError>
+/// The names of the documents.
+pub(super) fn read_docs(alloc: Global, document: &Value) -> Result<Option<Names>, AllocError>
     ensures { IfOk result (λ names. names ≡ docs_of (view document.now)) }
 {
     let Some(texts) = read_list(alloc, document, "docs")? else {
@@ -120,8 +120,8 @@ pub(crate) fn read_docs(alloc: Global, document: &Value) -> Result<Option<Names>
     }
 }
 
-// The records' file, if there is one.
-pub(crate) fn read_records(
+/// The records' file, if there is one.
+pub(super) fn read_records(
     alloc: Global,
     document: &Value,
 ) -> Result<Option<Option<String>>, AllocError>
