@@ -1,0 +1,49 @@
+-- Which primitives may stand in one pending update list (XQuery Update Facility 1.0, section 3.2.2).
+use Rattle.std.specs.Prelude.{ℕ, Bool, false, ◌||◌, ◌==◌, if◌then◌else◌, List, [], ◌∷◌, filter_map, Option, Some, None}
+use Rattle.std.specs.List.{list_any}
+use Rattle.values.specs.declared.code.Code.{Code}
+use Rattle.values.specs.declared.code.Code.TheVariants.{XUDY0015, XUDY0016, XUDY0017}
+use Rattle.pending.specs.declared.primitive.Primitive.{Primitive}
+use Rattle.pending.specs.declared.primitive.Primitive.TheVariants.{ReplaceNode, ReplaceValue, ReplaceElementContent, Rename}
+
+-- the most primitives in a list (our own choice)
+unfoldable pub most_primitives : ℕ
+most_primitives = 10000
+
+-- the target of a primitive of one kind; other primitives have none
+abbrev pub renamed : Primitive → Option ℕ
+renamed (Rename i name) = Some i
+renamed _ = None
+
+abbrev pub replaced : Primitive → Option ℕ
+replaced (ReplaceNode i ts) = Some i
+replaced _ = None
+
+abbrev pub value_replaced : Primitive → Option ℕ
+value_replaced (ReplaceValue i text) = Some i
+value_replaced _ = None
+
+abbrev pub content_replaced : Primitive → Option ℕ
+content_replaced (ReplaceElementContent i ts) = Some i
+content_replaced _ = None
+
+-- the number is among these
+abbrev pub is_among : List ℕ → ℕ → Bool
+is_among is i = list_any (λ j. i == j) is
+
+-- a number stands there twice, wherever
+abbrev pub has_repeat : List ℕ → Bool
+has_repeat [] = false
+has_repeat (i ∷ is) = is_among is i || has_repeat is
+
+-- two primitives of the kind have one target
+abbrev pub has_two : (Primitive → Option ℕ) → List Primitive → Bool
+has_two target ps = has_repeat (filter_map target ps)
+
+-- the code of the first rule that is broken; a list with none is compatible
+abbrev pub conflict : List Primitive → Option Code
+conflict ps =
+    if has_two renamed ps then Some XUDY0015
+    else (if has_two replaced ps then Some XUDY0016
+    else (if has_two value_replaced ps || has_two content_replaced ps then Some XUDY0017
+    else None))
