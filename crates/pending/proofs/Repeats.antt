@@ -1,11 +1,11 @@
 -- Which numbers stand in a list twice, by what was met before.
-use Rattle.std.proofs.Common.{◌≡◌, ℕ, Bool, true, false, ◌||◌, ◌==◌, not, List, [], ◌∷◌, refl, ap, sym, ◌∙◌, subst, Option, Some, filter_map, ⊎_elim}
+use Rattle.std.proofs.Common.{◌≡◌, ℕ, Bool, true, false, ◌||◌, ◌==◌, not, List, [], ◌∷◌, refl, sym, ◌∙◌, subst, Option, Some, filter_map, ⊎_elim}
 use Rattle.std.specs.List.{list_any, cons_option}
 use Rattle.std.proofs.lemmas.Bool.Decides.{eqb_tells}
 use Rattle.pending.specs.Compatible.{is_among, has_repeat, has_two}
 use Rattle.pending.specs.declared.primitive.Primitive.{Primitive}
 
-or-swapped : (a b c d : Bool) → ((a || b) || (c || d)) ≡ ((a || c) || (b || d))
+pub or-swapped : (a b c d : Bool) → ((a || b) || (c || d)) ≡ ((a || c) || (b || d))
 or-swapped true b c d = refl
 or-swapped false true true d = refl
 or-swapped false true false d = refl

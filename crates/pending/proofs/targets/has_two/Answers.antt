@@ -1,4 +1,4 @@
-use Rattle.std.proofs.Common.{◌≡◌, ◌||◌, ◌∙◌, sym, ap, refl, filter_map}
+use Rattle.std.proofs.Common.{◌∙◌, sym, refl, filter_map}
 use Rattle.pending.specs.Compatible.{has_two, is_among}
 use Rattle.pending.specs.Inside.{target_by}
 use Rattle.pending.proofs.Repeats.{among-none, step, not-new}
