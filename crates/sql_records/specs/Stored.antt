@@ -1,0 +1,40 @@
+-- What the two tables hold for a record.
+use Rattle.std.specs.Prelude.{◌≡◌, ◌+◌, ◌≤◌, ◌==◌, ℕ, cond, List, [], ◌∷◌, ◌++◌, map, flat_map, pos}
+use Rattle.sqlite.specs.declared.types.Value.TheVariants.{Null, Int, Text, Blob}
+use Rattle.sqlite.specs.Order.{Row}
+use Rattle.sqlite.specs.Tree.{Trees}
+use Rattle.sqlite_rules.specs.Lists.{Has}
+use Rattle.ballots.specs.Terms.{Setup}
+use Rattle.ballots.specs.Spelling.{IsValue, value_spelling}
+use Rattle.ballots.specs.declared.value.Entry.{Entry}
+use Rattle.paxos.specs.Records.{Record}
+use Rattle.records.specs.Kept.{IsRising}
+
+-- the names with a line feed between each two
+abbrev pub joined : List (List ℕ) → List ℕ
+joined [] = []
+joined (n ∷ ns) = n ++ flat_map (λ m. 10 ∷ m) ns
+
+-- the row of a member's table, with the round and the leader of its promise
+abbrev pub meta_row : Setup → (round leader : ℕ) → Row
+meta_row o round leader = Int (pos 1) ∷ Null ∷ Int (pos 1) ∷ Int (pos o.group) ∷ Int (pos o.member) ∷ Int (pos o.members) ∷ Text (joined o.names) ∷ Int (pos round) ∷ Int (pos leader) ∷ []
+
+-- the row of a vote
+abbrev pub vote_row : Entry → Row
+vote_row e = Int (pos e.position) ∷ Null ∷ Int (pos e.vote.ballot.round) ∷ Int (pos e.vote.ballot.member) ∷ Blob (value_spelling e.vote.value) ∷ []
+
+-- how many of the votes are at the position
+abbrev pub times : (position : ℕ) → List Entry → ℕ
+times p [] = 0
+times p (e ∷ es) = cond (e.position == p) 1 0 + times p es
+
+-- The trees hold the record of this member. In which order the rows of the votes stand is not known.
+pub record IsStored (o : Setup) (trees : Trees) (r : Record) : Type 0 where
+  pub meta : trees 0 ≡ meta_row o r.promise.round r.promise.member ∷ []
+  pub rows : List Entry
+  pub votes : trees 1 ≡ map vote_row rows
+  pub once : (p : ℕ) → times p rows ≤ 1
+  pub sound : (e : Entry) → Has rows e → Has r.votes e
+  pub complete : (e : Entry) → Has r.votes e → Has rows e
+  pub rising : IsRising r
+  pub values : (e : Entry) → Has r.votes e → IsValue e.vote.value

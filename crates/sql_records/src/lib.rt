@@ -1,0 +1,15 @@
+//! An acceptor's record in a SQLite database.
+#![tactic(auto)]
+
+mod docs;
+mod layout;
+mod load;
+mod opening;
+mod promise;
+mod reading;
+mod store;
+mod rows;
+mod vote;
+
+pub use reading::OpenFault;
+pub use store::SqlRecords;

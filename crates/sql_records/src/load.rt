@@ -1,0 +1,71 @@
+//! Reading a record, and judging that it is one.
+
+ghost use Rattle.std.specs.Prelude.{◌≡◌, ◌⊎◌, ◌≤◌, false, IfOk, IsTrue};
+ghost use Rattle.sqlite_trees.specs.View.{doubt};
+ghost use Rattle.sqlite.specs.State.{HasCleanDisk, IsLive};
+ghost use Rattle.sqlite.specs.Held.{state};
+ghost use Rattle.ballots.specs.Terms.{Setup as Owner};
+ghost use Rattle.paxos.specs.Records.{Record as RecordTerm};
+ghost use Rattle.sql_records.specs.Holds.{Holds};
+ghost use Rattle.sql_records.specs.Texts.{schema as our_schema};
+
+use super::layout::is_ours;
+use super::promise::is_memory;
+use super::reading::{OpenFault, read_member, read_votes};
+use super::rows::{meta_rows, vote_rows};
+use records::Record;
+use ballots::Setup;
+use ballots::laws::spellings;
+use sqlite::{Alter, Connection, Error};
+use std::alloc::Global;
+
+/// Whether the tables are those of a record, and no transaction is under way.
+fn is_ready<S: Alter>(conn: &Connection<S>) -> bool
+    ensures schema { IsTrue result → (state S.Store conn.now).now.schema ≡ our_schema }
+    ensures mode { IsTrue result → (state S.Store conn.now).in_transaction ≡ false }
+    ensures settled { IsTrue result → IsTrue (state S.Store conn.now).is_open → (state S.Store conn.now).now ≡ (state S.Store conn.now).committed }
+    ensures live { IsTrue result → IsLive (state S.Store conn.now) }
+{
+    conn.is_autocommit() && is_ours(conn.schema())
+}
+
+/// What an error of a query is to a record.
+pub(super) fn fault_of(error: &Error) -> OpenFault {
+    if is_memory(error) {
+        OpenFault::Memory
+    } else {
+        OpenFault::Store
+    }
+}
+
+/// The record of this member that the tables hold.
+pub(super) fn load<S: Alter>(
+    alloc: Global,
+    conn: &mut Connection<S>,
+    setup: &Setup,
+) -> Result<Record, OpenFault>
+    ensures found { HasCleanDisk (state S.Store conn.new) → IfOk result (λ r. Holds (state S.Store conn.new) setup.now r r
+        × ((a b : RecordTerm) → Holds (state S.Store conn.old) setup.now a b → (r ≡ a) ⊎ (r ≡ b))) }
+    ensures crash { HasCleanDisk (state S.Store conn.new) → (o : Owner) (a b : RecordTerm) → Holds (state S.Store conn.old) o a b → Holds (state S.Store conn.new) o a b }
+    ensures clean { doubt (state S.Store conn.old).is_clean ≤ doubt (state S.Store conn.new).is_clean }
+{
+    spellings();
+    if !is_ready(conn) {
+        return Err(OpenFault::Damaged);
+    }
+    let member = match meta_rows(conn) {
+        Ok(rows) => rows,
+        Err(error) => return Err(fault_of(&error)),
+    };
+    let votes = match vote_rows(conn) {
+        Ok(rows) => rows,
+        Err(error) => return Err(fault_of(&error)),
+    };
+    let promise = read_member(alloc, member.as_slice(), setup)?;
+    read_votes(
+        alloc,
+        votes.as_slice(),
+        promise,
+        setup.members().count(),
+    )
+}

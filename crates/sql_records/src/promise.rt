@@ -1,0 +1,89 @@
+//! The write of a promise.
+
+ghost use Rattle.std.specs.Prelude.{◌≡◌, ◌<◌, ◌≤◌, ◌^◌, IsTrue, IfOk, OnOk, pos};
+ghost use Rattle.sqlite.specs.State.{HasCleanDisk};
+ghost use Rattle.sqlite_trees.specs.View.{doubt};
+ghost use Rattle.sqlite.specs.Held.{state};
+ghost use Rattle.ballots.specs.Terms.{Setup};
+ghost use Rattle.ballots.specs.Ballot.{IsBallot};
+ghost use Rattle.paxos.specs.Records.{Record, NewPromise, written};
+ghost use Rattle.records.specs.Law.{Puts};
+ghost use Rattle.sql_records.specs.Holds.{Failed, Holds, Written};
+ghost use Rattle.sql_records.specs.Texts.{promise_text};
+
+use records::RecordsFault;
+use ballots::Ballot;
+use sqlite::{Alter, Connection, Error, ErrorCode, Statement, params};
+
+/// Reads the statement. Nothing is written by it, and where it succeeds the connection is open.
+pub(super) fn look<S: Alter>(conn: &mut Connection<S>) -> Result<Statement, Error>
+    ensures holds { HasCleanDisk (state S.Store conn.new) → (o : Setup) (a b : Record) → Holds (state S.Store conn.old) o a b → Holds (state S.Store conn.new) o a b }
+    ensures open { HasCleanDisk (state S.Store conn.new) → OnOk result (IsTrue (state S.Store conn.new).is_open × IsTrue (state S.Store conn.old).is_open) }
+    ensures text { HasCleanDisk (state S.Store conn.new) → IfOk result (λ s. s.text ≡ promise_text) }
+    ensures clean { doubt (state S.Store conn.old).is_clean ≤ doubt (state S.Store conn.new).is_clean }
+{
+    conn.prepare("UPDATE meta SET round = ?1, leader = ?2")
+}
+
+/// Whether memory was refused.
+pub(super) fn is_memory(error: &Error) -> bool {
+    matches!(error, Error::SqliteFailure(ErrorCode::OutOfMemory))
+}
+
+/// The number of a round as a parameter.
+pub(super) fn signed(n: u64) -> i64
+    requires { n < 2 ^ 40 }
+    ensures { result ≡ pos n }
+{
+    n as i64
+}
+
+/// Runs the statement over an open connection.
+fn write<S: Alter>(
+    conn: &mut Connection<S>,
+    statement: &Statement,
+    ballot: Ballot,
+) -> Result<usize, Error>
+    requires { ballot.round < 2 ^ 40 }
+    ensures law { HasCleanDisk (state S.Store conn.new) → statement.now.text ≡ promise_text → IsTrue (state S.Store conn.old).is_open → (o : Setup) (last : Record) → Holds (state S.Store conn.old) o last last
+        → Written (state S.Store conn.new) o last (written (NewPromise ballot) last) result }
+    ensures clean { doubt (state S.Store conn.old).is_clean ≤ doubt (state S.Store conn.new).is_clean }
+{
+    let round = signed(ballot.round);
+    let member = u32::from(ballot.member);
+    statement.execute(conn, params![round, member])
+}
+
+/// What a write that failed left. It is the old record only if the connection is still open.
+pub(super) fn judge<S: Alter>(conn: &mut Connection<S>, error: &Error) -> Result<(), RecordsFault>
+    ensures law { HasCleanDisk (state S.Store conn.new) → (o : Setup) (last next : Record) → Failed (state S.Store conn.old) o last next → Puts (Holds (state S.Store conn.new) o) last next result }
+    ensures clean { doubt (state S.Store conn.old).is_clean ≤ doubt (state S.Store conn.new).is_clean }
+{
+    if !is_memory(error) {
+        return Err(RecordsFault::Store);
+    }
+    match look(conn) {
+        Ok(_) => Err(RecordsFault::Memory),
+        Err(_) => Err(RecordsFault::Store),
+    }
+}
+
+/// Acknowledges a promise.
+pub(super) fn put_promise<S: Alter>(
+    conn: &mut Connection<S>,
+    ballot: Ballot,
+) -> Result<(), RecordsFault>
+    requires { ballot.round < 2 ^ 40 }
+    ensures law { HasCleanDisk (state S.Store conn.new) → (o : Setup) (last : Record) → Holds (state S.Store conn.old) o last last → Puts (Holds (state S.Store conn.new) o) last (written (NewPromise ballot) last) result }
+    ensures clean { doubt (state S.Store conn.old).is_clean ≤ doubt (state S.Store conn.new).is_clean }
+{
+    let statement = match look(conn) {
+        Ok(statement) => statement,
+        Err(error) if is_memory(&error) => return Err(RecordsFault::Memory),
+        Err(_) => return Err(RecordsFault::Store),
+    };
+    match write(conn, &statement, ballot) {
+        Ok(_) => Ok(()),
+        Err(error) => judge(conn, &error),
+    }
+}

@@ -1,0 +1,198 @@
+//! From rows to a record.
+
+ghost use Rattle.std.specs.Prelude.{◌≡◌, ◌≤◌, ◌<◌, ◌+◌, ◌^◌, [], ◌∷◌, ◌↔◌, pos, IfOk, IsTrue};
+ghost use Rattle.sqlite_value.specs.Order.{column};
+ghost use Rattle.sqlite.specs.declared.types.Value.TheVariants.{Int, Text};
+ghost use Rattle.ballots.specs.Spelling.{AreBytes, IsValue, value_spelling};
+ghost use Rattle.records.specs.Kept.{IsRising};
+ghost use Rattle.sql_records.specs.Stored.{joined};
+ghost use Rattle.sql_records.specs.Reading.{AreShown, Shows, ShowsMember};
+
+use super::docs;
+use records::Record;
+use ballots::laws::spellings;
+use ballots::{Ballot, Entry, Setup, Value, ValueFault, Vote, take_value};
+use sqlite::types::FromSql;
+use sqlite::{Error, ErrorCode, Row};
+use sqlite_value::value::ValueRef;
+use std::alloc::Global;
+
+/// Why a database is not opened.
+#[derive(Clone, Copy, PartialEq, Eq, Debug)]
+pub enum OpenFault {
+    /// Memory was refused (1).
+    Memory,
+    /// The store failed (2).
+    Store,
+    /// They are another member's records (3).
+    Other,
+    /// They are damaged (4).
+    Damaged,
+}
+
+/// The last position.
+const POSITIONS: u32 = 1_000_000;
+
+/// The last round.
+const LAST_ROUND: u64 = (1 << 40) - 1;
+
+/// The value in a column.
+fn column<T: FromSql>(row: &Row, at: usize) -> Result<T, OpenFault>
+    ensures { IfOk result (λ x. T.FromSql.reads_as (column row.now at) x) }
+{
+    match row.get(at) {
+        Ok(value) => Ok(value),
+        Err(Error::SqliteFailure(ErrorCode::OutOfMemory)) => Err(OpenFault::Memory),
+        Err(_) => Err(OpenFault::Damaged),
+    }
+}
+
+/// The ballot in two columns.
+fn read_ballot(row: &Row, round: usize, leader: usize) -> Result<Ballot, OpenFault>
+    ensures round { IfOk result (λ b. column row.now round ≡ Int (pos b.round)) }
+    ensures leader { IfOk result (λ b. column row.now leader ≡ Int (pos b.member)) }
+{
+    let round: u64 = column(row, round)?;
+    let leader: u32 = column(row, leader)?;
+    match u8::try_from(leader) {
+        Ok(member) => Ok(Ballot { round, member }),
+        Err(_) => Err(OpenFault::Damaged),
+    }
+}
+
+/// Whether it is a ballot of so many members.
+fn is_ballot(ballot: Ballot, members: u8) -> bool {
+    1 <= ballot.round
+        && ballot.round <= LAST_ROUND
+        && 1 <= ballot.member
+        && ballot.member <= members
+}
+
+/// Bytes are numbers below 256.
+fn are_bytes(bytes: &[u8])
+    ensures { AreBytes bytes.now }
+{
+}
+
+/// The value that bytes spell.
+fn read_value(alloc: Global, bytes: &[u8]) -> Result<Value, OpenFault>
+    ensures value { IfOk result (λ v. bytes.now ≡ value_spelling v) }
+    ensures spelt { IfOk result IsValue }
+{
+    spellings();
+    are_bytes(bytes);
+    match take_value(alloc, bytes) {
+        Ok((value, length)) => {
+            if length == bytes.len() {
+                Ok(value)
+            } else {
+                Err(OpenFault::Damaged)
+            }
+        }
+        Err(ValueFault::Memory) => Err(OpenFault::Memory),
+        Err(_) => Err(OpenFault::Damaged),
+    }
+}
+
+/// The vote that a row shows, of so many members, with a ballot that is not above the promise.
+fn read_vote(
+    alloc: Global,
+    row: &Row,
+    promise: Ballot,
+    members: u8,
+) -> Result<Entry, OpenFault>
+    ensures shows { IfOk result (Shows row.now) }
+    ensures least { IfOk result (λ e. 1 ≤ e.position) }
+{
+    let position: u32 = column(row, 0)?;
+    let ballot = read_ballot(row, 1, 2)?;
+    if position == 0
+        || position > POSITIONS
+        || !is_ballot(ballot, members)
+        || promise.is_below(ballot)
+    {
+        return Err(OpenFault::Damaged);
+    }
+    let Ok(ValueRef::Blob(bytes)) = row.get_ref(3) else {
+        return Err(OpenFault::Damaged);
+    };
+    let value = read_value(alloc, bytes)?;
+    Ok(Entry {
+        position,
+        vote: Vote { ballot, value },
+    })
+}
+
+/// The record of these votes, whose positions rise, and that promise.
+pub(super) fn read_votes(
+    alloc: Global,
+    rows: &[Row],
+    promise: Ballot,
+    members: u8,
+) -> Result<Record, OpenFault>
+    ensures votes { IfOk result (λ r. AreShown rows.now r.votes) }
+    ensures promise { IfOk result (λ r. r.promise ≡ promise) }
+    ensures rising { IfOk result IsRising }
+{
+    let mut record = Record::new(alloc);
+    let mut last = 0;
+    for row in rows {
+        let entry = read_vote(alloc, row, promise, members)?;
+        if entry.position <= last {
+            return Err(OpenFault::Damaged);
+        }
+        last = entry.position;
+        if record.set_vote(entry.position, entry.vote).is_err() {
+            return Err(OpenFault::Memory);
+        }
+    }
+    record.set_promise(promise);
+    let _promise = record.promise();
+    Ok(record)
+}
+
+/// The promise in the row of this member.
+pub(super) fn read_member(
+    alloc: Global,
+    rows: &[Row],
+    setup: &Setup,
+) -> Result<Ballot, OpenFault>
+    ensures shows { IfOk result (λ b. (row : _) × (rows.now ≡ row ∷ []) × ShowsMember setup.now b row) }
+{
+    let [row] = rows else {
+        return Err(OpenFault::Damaged);
+    };
+    let id: u32 = column(row, 0)?;
+    let version: u32 = column(row, 1)?;
+    let ballot = read_ballot(row, 6, 7)?;
+    let members = setup.members().count();
+    if id != 1
+        || version != 1
+        || (ballot != Ballot::NONE && !is_ballot(ballot, members))
+    {
+        return Err(OpenFault::Damaged);
+    }
+    if !is_of(alloc, row, setup)? {
+        return Err(OpenFault::Other);
+    }
+    Ok(ballot)
+}
+
+/// Whether the row is that of this member.
+fn is_of(alloc: Global, row: &Row, setup: &Setup) -> Result<bool, OpenFault>
+    ensures { IfOk result (λ b. IsTrue b ↔ ((column row.now 2 ≡ Int (pos setup.now.group)) × (column row.now 3 ≡ Int (pos setup.now.member)) × (column row.now 4 ≡ Int (pos setup.now.members)) × (column row.now 5 ≡ Text (joined setup.now.names)))) }
+{
+    let group: u32 = column(row, 2)?;
+    let member: u32 = column(row, 3)?;
+    let members: u32 = column(row, 4)?;
+    let Ok(ValueRef::Text(names)) = row.get_ref(5) else {
+        return Err(OpenFault::Damaged);
+    };
+    let Ok(docs) = docs::joined(alloc, setup.names()) else {
+        return Err(OpenFault::Memory);
+    };
+    Ok(group == setup.group()
+        && member == u32::from(setup.member())
+        && members == u32::from(setup.members().count())
+        && names == docs.as_bytes())
+}

@@ -1,0 +1,119 @@
+//! Records in a SQLite database.
+
+ghost use Rattle.std.specs.Prelude.{◌≡◌, None, false};
+ghost use Rattle.records.specs.Law.{Counts, Grew};
+
+use super::load::load;
+use super::promise::put_promise;
+use super::reading::OpenFault;
+use super::vote::put_vote;
+use records::{Record, Records, RecordsFault};
+use ballots::{Ballot, Setup, Value, put_value};
+use sqlite::{Alter, Connection};
+use std::alloc::Global;
+
+/// The record of one member in a SQLite database.
+#[derive(Drop)]
+pub struct SqlRecords<S: Alter> {
+    conn: Connection<S>,
+    setup: Setup,
+    failures: u64,
+}
+
+impl<S: Alter> SqlRecords<S> {
+    /// The records over a connection, with no failures.
+    pub(super) fn new(conn: Connection<S>, setup: Setup) -> SqlRecords<S>
+        ensures { result ≡ record { conn = conn; setup = setup; failures = 0 } }
+    {
+        SqlRecords {
+            conn,
+            setup,
+            failures: 0,
+        }
+    }
+
+    /// The connection.
+    pub fn into_connection(self) -> Connection<S>
+        ensures { result ≡ self.conn }
+    {
+        let SqlRecords {
+            conn,
+            setup: _,
+            failures: _,
+        } = self;
+        conn
+    }
+}
+
+/// Counts a failure of the store, and answers it.
+fn count(failures: &mut u64) -> RecordsFault
+    ensures counted { Grew failures.old failures.new }
+    ensures fault { result ≡ RecordsFault.Store }
+{
+    *failures = failures.saturating_add(1);
+    RecordsFault::Store
+}
+
+/// Answers a write, and counts its failure.
+fn answer(
+    failures: &mut u64,
+    done: Result<(), RecordsFault>,
+) -> Result<(), RecordsFault>
+    ensures counts { Counts failures.old failures.new result }
+    ensures result { result ≡ done }
+{
+    match done {
+        Err(RecordsFault::Store) => Err(count(failures)),
+        done => done,
+    }
+}
+
+impl<S: Alter> Records for SqlRecords<S> {
+    ghost use Rattle.sqlite.specs.State.{HasCleanDisk};
+    ghost use Rattle.sqlite.specs.Held.{state};
+    ghost use Rattle.sql_records.specs.Holds.{Holds};
+
+    ghost stands = { λ s a b. Holds (state S.Store s.conn) s.setup a b };
+
+    ghost is_kept = { λ s. HasCleanDisk (state S.Store s.conn) };
+
+    ghost failed = { λ s. s.failures };
+
+    ghost fates = { λ s k. None };
+
+    ghost passes = { λ s. false };
+
+    fn load(&mut self, alloc: Global) -> Result<Record, RecordsFault> {
+        match load(alloc, &mut self.conn, &self.setup) {
+            Ok(record) => Ok(record),
+            Err(OpenFault::Memory) => Err(RecordsFault::Memory),
+            Err(_) => Err(count(&mut self.failures)),
+        }
+    }
+
+    fn put_promise(&mut self, _alloc: Global, ballot: Ballot) -> Result<(), RecordsFault> {
+        let done = put_promise(&mut self.conn, ballot);
+        answer(&mut self.failures, done)
+    }
+
+    fn put_vote(
+        &mut self,
+        alloc: Global,
+        ballot: Ballot,
+        position: u32,
+        value: &Value,
+    ) -> Result<(), RecordsFault> {
+        let mut bytes = Vec::new(alloc);
+        if put_value(value, &mut bytes).is_err() {
+            return Err(RecordsFault::Memory);
+        }
+        let done = put_vote(&mut self.conn, ballot, position, bytes.as_slice());
+        answer(&mut self.failures, done)
+    }
+
+    fn let_pass(&mut self) {}
+
+    fn failures(&self) -> u64 {
+        self.failures
+    }
+}

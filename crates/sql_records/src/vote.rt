@@ -1,0 +1,108 @@
+//! The write of a vote.
+ghost use Rattle.std.specs.Prelude.{◌≡◌, ◌<◌, ◌≤◌, ◌^◌, IsTrue, IfOk, OnOk, false};
+ghost use Rattle.sqlite.specs.State.{HasCleanDisk};
+ghost use Rattle.sqlite_trees.specs.View.{doubt};
+ghost use Rattle.sqlite.specs.Held.{state};
+ghost use Rattle.ballots.specs.Terms.{Setup};
+ghost use Rattle.ballots.specs.Spelling.{IsValue, value_spelling};
+ghost use Rattle.ballots.specs.declared.value.Value.{Value};
+ghost use Rattle.paxos.specs.Records.{Record, NewPromise, NewVote, written};
+ghost use Rattle.records.specs.Law.{Puts};
+ghost use Rattle.sql_records.specs.Holds.{Holds, Under, Sees, Written};
+
+use super::promise::{is_memory, judge, look, signed};
+use records::RecordsFault;
+use ballots::Ballot;
+use sqlite::{Alter, Connection, Error, Transaction, params};
+
+fn first<S: Alter>(tx: &mut Transaction<'_, S>, ballot: Ballot) -> Result<usize, Error>
+    requires { ballot.round < 2 ^ 40 }
+    ensures same_reference { tx.new.conn.ghost_name ≡ tx.old.conn.ghost_name }
+    ensures law { HasCleanDisk (state S.Store tx.new.conn.now) → (o : Setup) (last : Record) → Under (state S.Store tx.old.conn.now) o last → Sees (state S.Store tx.old.conn.now) o last
+        → Under (state S.Store tx.new.conn.now) o last × OnOk result (Sees (state S.Store tx.new.conn.now) o (written (NewPromise ballot) last)) }
+    ensures clean { doubt (state S.Store tx.old.conn.now).is_clean ≤ doubt (state S.Store tx.new.conn.now).is_clean }
+{
+    let round = signed(ballot.round);
+    let member = u32::from(ballot.member);
+    tx.execute("UPDATE meta SET round = ?1, leader = ?2", params![round, member])
+}
+
+fn second<S: Alter>(
+    tx: &mut Transaction<'_, S>,
+    ballot: Ballot,
+    position: u32,
+    value: &[u8],
+) -> Result<usize, Error>
+    requires ballot { ballot.round < 2 ^ 40 }
+    requires least { 1 ≤ position }
+    ensures same_reference { tx.new.conn.ghost_name ≡ tx.old.conn.ghost_name }
+    ensures law { HasCleanDisk (state S.Store tx.new.conn.now) → (o : Setup) (last : Record) (v : Value) → value.now ≡ value_spelling v → IsValue v → Under (state S.Store tx.old.conn.now) o last → Sees (state S.Store tx.old.conn.now) o (written (NewPromise ballot) last)
+        → Under (state S.Store tx.new.conn.now) o last × OnOk result (Sees (state S.Store tx.new.conn.now) o (written (NewVote position (record { ballot = ballot; value = v })) last)) }
+    ensures clean { doubt (state S.Store tx.old.conn.now).is_clean ≤ doubt (state S.Store tx.new.conn.now).is_clean }
+{
+    let round = signed(ballot.round);
+    let member = u32::from(ballot.member);
+    tx.execute(
+        "INSERT INTO votes (position, round, leader, value) VALUES (?1, ?2, ?3, ?4) ON CONFLICT (position) DO UPDATE SET round = ?2, leader = ?3, value = ?4",
+        params![position, round, member, value],
+    )
+}
+
+/// Runs both statements in one transaction.
+fn run<S: Alter>(
+    conn: &mut Connection<S>,
+    ballot: Ballot,
+    position: u32,
+    value: &[u8],
+) -> Result<(), Error>
+    requires ballot { ballot.round < 2 ^ 40 }
+    requires least { 1 ≤ position }
+    requires mode { conn.old.in_transaction ≡ false }
+    ensures law { HasCleanDisk (state S.Store conn.new) → (o : Setup) (last : Record) (v : Value) → value.now ≡ value_spelling v → IsValue v → IsTrue (state S.Store conn.old).is_open → Holds (state S.Store conn.old) o last last
+        → Written (state S.Store conn.new) o last (written (NewVote position (record { ballot = ballot; value = v })) last) result }
+    ensures clean { doubt (state S.Store conn.old).is_clean ≤ doubt (state S.Store conn.new).is_clean }
+{
+    let mut tx = conn.transaction();
+    match first(&mut tx, ballot) {
+        Ok(_) => {}
+        Err(error) => {
+            tx.rollback();
+            return Err(error);
+        }
+    }
+    match second(&mut tx, ballot, position, value) {
+        Ok(_) => {}
+        Err(error) => {
+            tx.rollback();
+            return Err(error);
+        }
+    }
+    tx.commit()
+}
+
+/// Acknowledges a vote, and its ballot as the promise.
+pub(super) fn put_vote<S: Alter>(
+    conn: &mut Connection<S>,
+    ballot: Ballot,
+    position: u32,
+    value: &[u8],
+) -> Result<(), RecordsFault>
+    requires ballot { ballot.round < 2 ^ 40 }
+    requires least { 1 ≤ position }
+    ensures law { HasCleanDisk (state S.Store conn.new) → (o : Setup) (last : Record) (v : Value) → value.now ≡ value_spelling v → IsValue v → Holds (state S.Store conn.old) o last last
+        → Puts (Holds (state S.Store conn.new) o) last (written (NewVote position (record { ballot = ballot; value = v })) last) result }
+    ensures clean { doubt (state S.Store conn.old).is_clean ≤ doubt (state S.Store conn.new).is_clean }
+{
+    match look(conn) {
+        Ok(_) => {}
+        Err(error) if is_memory(&error) => return Err(RecordsFault::Memory),
+        Err(_) => return Err(RecordsFault::Store),
+    }
+    if !conn.is_autocommit() {
+        return Err(RecordsFault::Store);
+    }
+    match run(conn, ballot, position, value) {
+        Ok(()) => Ok(()),
+        Err(error) => judge(conn, &error),
+    }
+}
