@@ -7,8 +7,8 @@ mod load;
 mod opening;
 mod promise;
 mod reading;
-mod store;
 mod rows;
+mod store;
 mod vote;
 
 pub use reading::OpenFault;

@@ -13,6 +13,7 @@ use super::load::{fault_of, load};
 use super::reading::OpenFault;
 use super::store::SqlRecords;
 use ballots::{Ballot, Setup};
+use records::Records;
 use sqlite::{Alter, Connection, Error, Transaction, params};
 use std::alloc::Global;
 
@@ -134,25 +135,27 @@ fn prepare<S: Alter>(
 impl<S: Alter> SqlRecords<S> {
     /// The records of this member in a database. A database with no tables is given those of a member with no promise.
     ///
-    /// A refusal gives the connection back.
+    /// A refusal gives the connection back: want of memory (1), a store that failed (2), another member's records (3), and records
+    /// that are damaged (4), as are other tables and a ballot of a member above the setup's count. Where there were
+    /// no tables, a refusal may leave those that were made.
     pub fn open(
         alloc: Global,
-        conn: Connection<S>,
+        connection: Connection<S>,
         setup: &Setup,
     ) -> Result<SqlRecords<S>, (OpenFault, Connection<S>)>
-        ensures holds { IfOk result (λ s. HasCleanDisk (state S.Store s.conn) → (r : RecordTerm) × Holds (state S.Store s.conn) setup.now r r) }
-        ensures found { (state S.Store conn).now.schema ≢ no_schema → IfOk result (λ s. HasCleanDisk (state S.Store s.conn) → (r : RecordTerm) × Holds (state S.Store s.conn) setup.now r r
-            × ((a b : RecordTerm) → Holds (state S.Store conn) setup.now a b → (r ≡ a) ⊎ (r ≡ b))) }
+        ensures holds { IfOk result (λ s. ⟦<SqlRecords<S> as Records>⟧.is_kept s → (r : RecordTerm) × ⟦<SqlRecords<S> as Records>⟧.stands s r r) }
+        ensures found { (state S.Store connection).now.schema ≢ no_schema → IfOk result (λ s. ⟦<SqlRecords<S> as Records>⟧.is_kept s → (r : RecordTerm) × ⟦<SqlRecords<S> as Records>⟧.stands s r r
+            × ((a b : RecordTerm) → Holds (state S.Store connection) setup.now a b → (r ≡ a) ⊎ (r ≡ b))) }
         ensures whose { IfOk result (λ s. s.setup ≡ setup.now) }
     {
-        let mut conn = conn;
+        let mut connection = connection;
         let setup = match copy(alloc, setup) {
             Ok(copy) => copy,
-            Err(fault) => return Err((fault, conn)),
+            Err(fault) => return Err((fault, connection)),
         };
-        match prepare(alloc, &mut conn, &setup) {
-            Ok(()) => Ok(SqlRecords::new(conn, setup)),
-            Err(fault) => Err((fault, conn)),
+        match prepare(alloc, &mut connection, &setup) {
+            Ok(()) => Ok(SqlRecords::new(connection, setup)),
+            Err(fault) => Err((fault, connection)),
         }
     }
 }
