@@ -165,9 +165,11 @@ same_rising q (x ∷ xs) (y ∷ ys) hx hy to from =
     first (inl is) b = is
     first (inr a) (inl is) = sym is
     first (inr a) (inr b) = absurd (let up = above_has y.position ys x hy.1 a in let down = above_has x.position xs y hx.1 b in omega arith)
+
     later_to : x ≡ y → (e : Entry) → Has xs e → Has (y ∷ ys) e → Has ys e
     later_to heads e has (inr k) = k
     later_to heads e has (inl is) = absurd (let up = above_has x.position xs e hx.1 has in let at = ap (λ (z : Entry). z.position) is in let same = ap (λ (z : Entry). z.position) heads in omega arith)
+
     later_from : x ≡ y → (e : Entry) → Has ys e → Has (x ∷ xs) e → Has xs e
     later_from heads e has (inr k) = k
     later_from heads e has (inl is) = absurd (let up = above_has y.position ys e hy.1 has in let at = ap (λ (z : Entry). z.position) is in let same = ap (λ (z : Entry). z.position) heads in omega arith)

@@ -13,9 +13,9 @@ use super::layout::is_ours;
 use super::promise::is_memory;
 use super::reading::{OpenFault, read_member, read_votes};
 use super::rows::{meta_rows, vote_rows};
-use records::Record;
 use ballots::Setup;
 use ballots::laws::spellings;
+use records::Record;
 use sqlite::{Alter, Connection, Error};
 use std::alloc::Global;
 
@@ -62,10 +62,5 @@ pub(super) fn load<S: Alter>(
         Err(error) => return Err(fault_of(&error)),
     };
     let promise = read_member(alloc, member.as_slice(), setup)?;
-    read_votes(
-        alloc,
-        votes.as_slice(),
-        promise,
-        setup.members().count(),
-    )
+    read_votes(alloc, votes.as_slice(), promise, setup.members().count())
 }

@@ -65,11 +65,7 @@ fn fill<S: Alter>(tx: &mut Transaction<'_, S>, setup: &Setup, docs: &str) -> Res
 }
 
 /// Makes the tables of a member with no promise, in one transaction.
-fn create<S: Alter>(
-    alloc: Global,
-    conn: &mut Connection<S>,
-    setup: &Setup,
-) -> Result<(), OpenFault>
+fn create<S: Alter>(alloc: Global, conn: &mut Connection<S>, setup: &Setup) -> Result<(), OpenFault>
     requires { conn.old.in_transaction ≡ false }
 {
     let Ok(docs) = docs::joined(alloc, setup.names()) else {

@@ -11,8 +11,8 @@ ghost use Rattle.records.specs.Law.{Puts};
 ghost use Rattle.sql_records.specs.Holds.{Failed, Holds, Written};
 ghost use Rattle.sql_records.specs.Texts.{promise_text};
 
-use records::RecordsFault;
 use ballots::Ballot;
+use records::RecordsFault;
 use sqlite::{Alter, Connection, Error, ErrorCode, Statement, params};
 
 /// Reads the statement. Nothing is written by it, and where it succeeds the connection is open.

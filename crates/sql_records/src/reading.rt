@@ -9,9 +9,9 @@ ghost use Rattle.sql_records.specs.Stored.{joined};
 ghost use Rattle.sql_records.specs.Reading.{AreShown, Shows, ShowsMember};
 
 use super::docs;
-use records::Record;
 use ballots::laws::spellings;
 use ballots::{Ballot, Entry, Setup, Value, ValueFault, Vote, take_value};
+use records::Record;
 use sqlite::types::FromSql;
 use sqlite::{Error, ErrorCode, Row};
 use sqlite_value::value::ValueRef;
@@ -71,8 +71,7 @@ fn is_ballot(ballot: Ballot, members: u8) -> bool {
 /// Bytes are numbers below 256.
 fn are_bytes(bytes: &[u8])
     ensures { AreBytes bytes.now }
-{
-}
+{}
 
 /// The value that bytes spell.
 fn read_value(alloc: Global, bytes: &[u8]) -> Result<Value, OpenFault>
@@ -95,12 +94,7 @@ fn read_value(alloc: Global, bytes: &[u8]) -> Result<Value, OpenFault>
 }
 
 /// The vote that a row shows, of so many members, with a ballot that is not above the promise.
-fn read_vote(
-    alloc: Global,
-    row: &Row,
-    promise: Ballot,
-    members: u8,
-) -> Result<Entry, OpenFault>
+fn read_vote(alloc: Global, row: &Row, promise: Ballot, members: u8) -> Result<Entry, OpenFault>
     ensures shows { IfOk result (Shows row.now) }
     ensures least { IfOk result (λ e. 1 ≤ e.position) }
 {
@@ -152,11 +146,7 @@ pub(super) fn read_votes(
 }
 
 /// The promise in the row of this member.
-pub(super) fn read_member(
-    alloc: Global,
-    rows: &[Row],
-    setup: &Setup,
-) -> Result<Ballot, OpenFault>
+pub(super) fn read_member(alloc: Global, rows: &[Row], setup: &Setup) -> Result<Ballot, OpenFault>
     ensures shows { IfOk result (λ b. (row : _) × (rows.now ≡ row ∷ []) × ShowsMember setup.now b row) }
 {
     let [row] = rows else {
@@ -166,10 +156,7 @@ pub(super) fn read_member(
     let version: u32 = column(row, 1)?;
     let ballot = read_ballot(row, 6, 7)?;
     let members = setup.members().count();
-    if id != 1
-        || version != 1
-        || (ballot != Ballot::NONE && !is_ballot(ballot, members))
-    {
+    if id != 1 || version != 1 || (ballot != Ballot::NONE && !is_ballot(ballot, members)) {
         return Err(OpenFault::Damaged);
     }
     if !is_of(alloc, row, setup)? {
@@ -191,8 +178,10 @@ fn is_of(alloc: Global, row: &Row, setup: &Setup) -> Result<bool, OpenFault>
     let Ok(docs) = docs::joined(alloc, setup.names()) else {
         return Err(OpenFault::Memory);
     };
-    Ok(group == setup.group()
-        && member == u32::from(setup.member())
-        && members == u32::from(setup.members().count())
-        && names == docs.as_bytes())
+    Ok(
+        group == setup.group()
+            && member == u32::from(setup.member())
+            && members == u32::from(setup.members().count())
+            && names == docs.as_bytes(),
+    )
 }

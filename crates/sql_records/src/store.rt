@@ -7,8 +7,8 @@ use super::load::load;
 use super::promise::put_promise;
 use super::reading::OpenFault;
 use super::vote::put_vote;
-use records::{Record, Records, RecordsFault};
 use ballots::{Ballot, Setup, Value, put_value};
+use records::{Record, Records, RecordsFault};
 use sqlite::{Alter, Connection};
 use std::alloc::Global;
 
@@ -55,10 +55,7 @@ fn count(failures: &mut u64) -> RecordsFault
 }
 
 /// Answers a write, and counts its failure.
-fn answer(
-    failures: &mut u64,
-    done: Result<(), RecordsFault>,
-) -> Result<(), RecordsFault>
+fn answer(failures: &mut u64, done: Result<(), RecordsFault>) -> Result<(), RecordsFault>
     ensures counts { Counts failures.old failures.new result }
     ensures result { result ≡ done }
 {

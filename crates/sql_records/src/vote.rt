@@ -11,8 +11,8 @@ ghost use Rattle.records.specs.Law.{Puts};
 ghost use Rattle.sql_records.specs.Holds.{Holds, Under, Sees, Written};
 
 use super::promise::{is_memory, judge, look, signed};
-use records::RecordsFault;
 use ballots::Ballot;
+use records::RecordsFault;
 use sqlite::{Alter, Connection, Error, Transaction, params};
 
 fn first<S: Alter>(tx: &mut Transaction<'_, S>, ballot: Ballot) -> Result<usize, Error>
@@ -24,7 +24,10 @@ fn first<S: Alter>(tx: &mut Transaction<'_, S>, ballot: Ballot) -> Result<usize,
 {
     let round = signed(ballot.round);
     let member = u32::from(ballot.member);
-    tx.execute("UPDATE meta SET round = ?1, leader = ?2", params![round, member])
+    tx.execute(
+        "UPDATE meta SET round = ?1, leader = ?2",
+        params![round, member],
+    )
 }
 
 fn second<S: Alter>(
