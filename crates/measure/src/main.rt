@@ -1,6 +1,7 @@
 //! `measure WHAT N`: does something N times over, for `bench/parts` to take the time of. Nothing else stands on it.
 #![tactic(auto)]
 
+mod datagrams;
 mod learning;
 mod nodes;
 mod parsing;
@@ -36,6 +37,10 @@ fn run(rt: &HostRuntime) -> io::Result<u8> {
         "deliver3" => worlds::delivered(rt.alloc(), 3, count),
         "deliver9" => worlds::delivered(rt.alloc(), 9, count),
         "deliver63" => worlds::delivered(rt.alloc(), 63, count),
+        "decode" => datagrams::decoded(rt.alloc(), false, count),
+        "decode-long" => datagrams::decoded(rt.alloc(), true, count),
+        "encode" => datagrams::encoded(rt.alloc(), false, count),
+        "encode-long" => datagrams::encoded(rt.alloc(), true, count),
         "texts" => parsing::made(rt.alloc(), count),
         "parse" => parsing::parsed(rt.alloc(), count),
         "nodes" => nodes::made(rt.alloc(), count).map(|_| count),

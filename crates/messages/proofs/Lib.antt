@@ -6,3 +6,4 @@ pub mod ExactParts
 pub mod ExactBodies
 pub mod RoundTrip
 pub mod RoundTripBodies
+pub mod Lengths
