@@ -1,5 +1,8 @@
 //! Messages that are decoded from bytes, and encoded again.
 
+ghost use Rattle.ballots.specs.Messages.{body_of};
+ghost use Rattle.messages.specs.Spelling.{IsDatagram};
+
 use messages::{Packet, decode, encode};
 use std::alloc::Global;
 
@@ -68,17 +71,20 @@ pub fn decoded(alloc: Global, is_long: bool, count: u32) -> Option<u32> {
 /// How many messages were encoded.
 pub fn encoded(alloc: Global, is_long: bool, count: u32) -> Option<u32> {
     let bytes = bytes_of(alloc, is_long)?;
-    let Packet {
-        group,
-        sender,
-        message,
-    } = decode(alloc, &bytes).ok()?;
+    let packet = decode(alloc, &bytes).ok()?;
+    encoded_again(alloc, &packet, &bytes, count)
+}
+
+/// Encodes what was decoded from these bytes, so many times.
+fn encoded_again(alloc: Global, packet: &Packet, bytes: &[u8], count: u32) -> Option<u32>
+    requires { IsDatagram (record { group = packet.now.group; sender = packet.now.sender; body = body_of packet.now.message }) }
+{
     let mut again = Vec::new(alloc);
     for _turn in 0..count {
         again.clear();
-        encode(&message, group, sender, &mut again).ok()?;
+        encode(&packet.message, packet.group, packet.sender, &mut again).ok()?;
     }
-    if again == bytes || count == 0 {
+    if again.as_slice() == bytes || count == 0 {
         Some(count)
     } else {
         None
