@@ -6,4 +6,5 @@ pub mod Arithmetic
 pub mod Printing
 pub mod Items
 pub mod Inside
+pub mod Faults
 pub mod Examples

@@ -31,8 +31,8 @@ pub enum Atom {
     Integer(i64),
 }
 
-/// An item: a node or an atomic value.
-#[derive(Drop)]
+/// An item: a node or an atomic value. A clone shares the text and costs a word or two.
+#[derive(Clone, Drop)]
 pub enum Item {
     /// A node.
     Node(NodeId),
@@ -73,8 +73,8 @@ fn typed_value(alloc: Global, shelf: &Shelf, id: NodeId) -> Result<Atom, ValueFa
     ensures code { IfErr result (λ fault. (code : Code) → fault ≡ ValueFault.Code code → typed_at (find id (shelf_trees shelf.now)) ≡ Err code) }
 {
     match shelf.string_value_within(alloc, id, MAX_BYTES)? {
-        Some(text) => Ok(typed(shelf.kind(id), Text::new(text))),
-        None => Err(ValueFault::Code(Code::PXQ0002)),
+        Some(text) => Ok(typed(shelf.kind(id), Text::new(alloc, text)?)),
+        None => Err(Code::PXQ0002.into()),
     }
 }
 
