@@ -126,7 +126,7 @@ pub fn compared(alloc: Global, count: u32) -> Option<u32> {
     for id in shelf.children(document) {
         if shelf.has(*id) {
             let atoms = typed_value(alloc, &shelf, *id)?;
-            if compare_general(Comparison::Equal, &atoms, &other, &mut turns).ok()? {
+            if compare_general(alloc, Comparison::Equal, &atoms, &other, &mut turns).ok()? {
                 equal = equal.saturating_add(1);
             }
         }

@@ -84,7 +84,7 @@ pub(crate) fn string(
         [first, rest @ ..] if *first == quote => {
             let token = Token {
                 kind: Kind::String,
-                text: Text::new(content),
+                text: Text::shared(alloc, content)?,
                 number: 0,
             };
             Ok((token, rest))

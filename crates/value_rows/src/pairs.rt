@@ -4,7 +4,8 @@ use super::items::{atoms, shown};
 use rows::{RowFault, Words};
 use std::alloc::{AllocError, Global};
 use values::{
-    Atom, Code, Comparison, Operator, arithmetic, compare_general, compare_value, integer_operands,
+    Atom, Code, Comparison, Operator, ValueFault, arithmetic, compare_general, compare_value,
+    integer_operands,
 };
 
 /// Two sequences with an operator's name between them.
@@ -82,9 +83,10 @@ fn in_general(
     turns: Result<u64, RowFault>,
 ) -> Result<String, RowFault> {
     let mut turns = turns?;
-    match compare_general(comparison(name)?, left, right, &mut turns) {
+    match compare_general(alloc, comparison(name)?, left, right, &mut turns) {
         Ok(truth) => Ok(format!(in alloc; "{truth}, {turns} left")?),
-        Err(code) => Ok(format!(in alloc; "{code}, {turns} left")?),
+        Err(ValueFault::Code(code)) => Ok(format!(in alloc; "{code}, {turns} left")?),
+        Err(ValueFault::Memory) => Err(RowFault::Memory),
     }
 }
 

@@ -1,8 +1,8 @@
--- What the code asks of texts: how a shared text stands for its bytes, and the pieces of a node's text, in the order in which they are written.
-use Rattle.std.specs.Prelude.{ℕ, Bool, true, cond, List, [], ◌∷◌, ◌++◌, Option, Some, None, codes, string_bytes}
+-- What the code asks of texts: how a text stands for its bytes, and the pieces of a node's text, in the order in which they are written.
+use Rattle.std.specs.Prelude.{ℕ, Bool, true, cond, List, [], ◌∷◌, ◌++◌, codes, string_bytes}
 use Rattle.std.specs.Rc.{rc_value}
-use Rattle.std.specs.declared.rc.Rc.{Rc}
-use Rattle.std.specs.declared.string.String.{String}
+use Rattle.values.specs.declared.text.Kept.{Kept}
+use Rattle.values.specs.declared.text.Kept.TheVariants.{Alone, Shared}
 use Rattle.trees.specs.declared.node.Kind.{Kind}
 use Rattle.trees.specs.declared.node.Kind.TheVariants.{Document, Element, Attribute, Text, Comment, Instruction}
 
@@ -29,7 +29,7 @@ nothing Text b = []
 nothing Comment b = []
 nothing Instruction b = []
 
--- the bytes of a shared text; there is none for the empty text
-abbrev pub bytes_of : {Y Z : Type 0} → Option (Rc (String Y) Z) → List ℕ
-bytes_of None = []
-bytes_of (Some text) = string_bytes (rc_value text)
+-- the bytes of a text
+abbrev pub bytes_of : Kept → List ℕ
+bytes_of (Alone text) = string_bytes text
+bytes_of (Shared text) = string_bytes (rc_value text)

@@ -6,5 +6,6 @@ pub mod Arithmetic
 pub mod Printing
 pub mod Items
 pub mod Inside
+pub mod Operands
 pub mod Faults
 pub mod Examples

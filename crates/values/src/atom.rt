@@ -73,7 +73,7 @@ fn typed_value(alloc: Global, shelf: &Shelf, id: NodeId) -> Result<Atom, ValueFa
     ensures code { IfErr result (λ fault. (code : Code) → fault ≡ ValueFault.Code code → typed_at (find id (shelf_trees shelf.now)) ≡ Err code) }
 {
     match shelf.string_value_within(alloc, id, MAX_BYTES)? {
-        Some(text) => Ok(typed(shelf.kind(id), Text::new(alloc, text)?)),
+        Some(text) => Ok(typed(shelf.kind(id), Text::shared(alloc, text)?)),
         None => Err(Code::PXQ0002.into()),
     }
 }

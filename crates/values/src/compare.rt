@@ -1,12 +1,16 @@
 //! Comparisons of atomic values (XQuery 1.0, section 3.5).
 
-ghost use Rattle.std.specs.Prelude.{◌≡◌, ◌-◌, nat_le, if◌then◌else◌, Ok, Err, map};
+ghost use Rattle.std.specs.Prelude.{◌≡◌, ◌-◌, nat_le, if◌then◌else◌, Ok, Err, IfOk, IfErr, map};
+ghost use Rattle.values.specs.declared.code.Code.{Code};
+ghost use Rattle.values.specs.declared.fault.ValueFault.{ValueFault};
 ghost use Rattle.values.specs.declared.code.Code.TheVariants.{PXQ0002};
 ghost use Rattle.values.specs.Comparisons.{holds, string_cmp, same_type_cmp, as_string, if_comparable, pair_compared, pairs_compared, decided, tried, value_compared, general_compared};
 
 use super::atom::Atom;
 use super::code::Code;
-use super::readings::{cast_boolean, cast_integer};
+use super::fault::ValueFault;
+use super::operand::{Operand, Types, operands};
+use std::alloc::Global;
 use std::cmp::Ordering;
 
 /// The comparisons that value comparisons (`eq`, `ne`, ..) and general comparisons (`=`, `!=`, ..) make.
@@ -89,31 +93,31 @@ pub fn compare_value(op: Comparison, left: &[Atom], right: &[Atom]) -> Result<Op
 
 /// One pair of a general comparison: an untyped value is read as the type of the other one, and beside an untyped one as a
 /// string. Codes: FORG0001 where it doesn't read as that type; XPTY0004 where the two are of different types.
-fn compare_pair(op: Comparison, left: &Atom, right: &Atom) -> Result<bool, Code>
+fn compare_pair(op: Comparison, left: &Operand, right: &Operand) -> Result<bool, Code>
     ensures { result ≡ pair_compared op left.now right.now }
 {
-    match (left, right) {
-        (Atom::Untyped(left), Atom::Integer(right)) => {
-            Ok(op.holds(cast_integer(left.as_str())?.cmp(right)))
+    match (left.atom(), right.atom()) {
+        (Atom::Untyped(text), Atom::Integer(right)) => {
+            Ok(op.holds(left.integer(text)?.cmp(right)))
         }
-        (Atom::Integer(left), Atom::Untyped(right)) => {
-            Ok(op.holds(left.cmp(&cast_integer(right.as_str())?)))
+        (Atom::Integer(left), Atom::Untyped(text)) => {
+            Ok(op.holds(left.cmp(&right.integer(text)?)))
         }
-        (Atom::Untyped(left), Atom::Boolean(right)) => {
-            Ok(op.holds(cast_boolean(left.as_str())?.cmp(right)))
+        (Atom::Untyped(text), Atom::Boolean(right)) => {
+            Ok(op.holds(left.boolean(text)?.cmp(right)))
         }
-        (Atom::Boolean(left), Atom::Untyped(right)) => {
-            Ok(op.holds(left.cmp(&cast_boolean(right.as_str())?)))
+        (Atom::Boolean(left), Atom::Untyped(text)) => {
+            Ok(op.holds(left.cmp(&right.boolean(text)?)))
         }
-        _ => holds_of(op, compare_atoms(left, right)),
+        (left, right) => holds_of(op, compare_atoms(left, right)),
     }
 }
 
 /// One value of a general comparison's left side with each of the right side, as long as there are turns.
 fn compare_with_each(
     op: Comparison,
-    left: &Atom,
-    right: &[Atom],
+    left: &Operand,
+    right: &[Operand],
     turns: &mut u64,
 ) -> Result<bool, Code>
     ensures compared { let pairs = map (pair_compared op left.now) right.now in result ≡ (if nat_le (tried pairs) turns.old then decided pairs else Err PXQ0002) }
@@ -131,22 +135,46 @@ fn compare_with_each(
     Ok(false)
 }
 
-/// A general comparison of two sequences of atomic values: whether it holds of some pair, the left value first (XQuery 1.0,
-/// section 3.5.2). Each pair that is tried takes one of the turns. Codes: that of the first pair that has one, if none before it
-/// holds; PXQ0002 where more pairs would be tried than there are turns, which are then 0.
-pub fn compare_general(
+/// Each value of a general comparison's left side, read as these types where it is untyped, with each of the right side, as long as
+/// there are turns.
+fn compare_all(
     op: Comparison,
     left: &[Atom],
-    right: &[Atom],
+    types: Types,
+    right: &[Operand],
     turns: &mut u64,
 ) -> Result<bool, Code>
     ensures compared { result ≡ general_compared op left.now right.now turns.old }
     ensures turns { turns.new ≡ turns.old - tried (pairs_compared op left.now right.now) }
 {
     for value in left {
-        if compare_with_each(op, value, right, turns)? {
+        if compare_with_each(op, &Operand::new(value, types), right, turns)? {
             return Ok(true);
         }
     }
     Ok(false)
+}
+
+/// A general comparison of two sequences of atomic values: whether it holds of some pair, the left value first (XQuery 1.0,
+/// section 3.5.2). Each pair that is tried takes one of the turns, and each untyped value is read once.
+///
+/// Faults: `Memory`, and then no turn is taken; `Code` with that of the first pair that has one, if none before it holds, or with
+/// PXQ0002 where more pairs would be tried than there are turns, which are then 0.
+pub fn compare_general(
+    alloc: Global,
+    op: Comparison,
+    left: &[Atom],
+    right: &[Atom],
+    turns: &mut u64,
+) -> Result<bool, ValueFault>
+    ensures compared { IfOk result (λ b. general_compared op left.now right.now turns.old ≡ Ok b) }
+    ensures code { IfErr result (λ fault. (code : Code) → fault ≡ ValueFault.Code code → general_compared op left.now right.now turns.old ≡ Err code) }
+    ensures turns { (result ≡ Err ValueFault.Memory → ⊥) → turns.new ≡ turns.old - tried (pairs_compared op left.now right.now) }
+    ensures refused { result ≡ Err ValueFault.Memory → turns.new ≡ turns.old }
+{
+    let operands = operands(alloc, right, Types::of(left))?;
+    match compare_all(op, left, Types::of(right), &operands, turns) {
+        Ok(holds) => Ok(holds),
+        Err(code) => Err(ValueFault::Code(code)),
+    }
 }

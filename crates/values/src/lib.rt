@@ -6,6 +6,7 @@ mod code;
 mod compare;
 mod fault;
 mod laws;
+mod operand;
 mod operators;
 mod print;
 mod readings;

@@ -1,16 +1,24 @@
 //! Texts as values.
 
-ghost use Rattle.std.specs.Prelude.{◌≡◌, [], IfOk, string_bytes};
+ghost use Rattle.std.specs.Prelude.{◌≡◌, IfOk, string_bytes};
 
 use std::alloc::{AllocError, Global};
 use std::marker::Model;
 use std::rc::Rc;
 
-/// The text of a string or an untyped value, which clones share. Contracts see it as its bytes.
+/// The text of a string or an untyped value, or a name. Contracts see it as its bytes.
+///
+/// A text that is made as `shared` costs one more piece of memory, and a clone of it copies no bytes.
 #[derive(Drop)]
-pub struct Text {
-    // The empty text takes no memory.
-    shared: Option<Rc<String>>,
+pub struct Text(Kept);
+
+/// Where the bytes are.
+#[derive(Drop)]
+enum Kept {
+    /// Here alone.
+    Alone(String),
+    /// Where the clones have them too.
+    Shared(Rc<String>),
 }
 
 impl Model for Text {
@@ -22,34 +30,32 @@ impl Model for Text {
 
     ghost coded = { coded_list coded_ℕ };
 
-    ghost view = { λ a. bytes_of a.shared };
+    ghost view = { λ a. bytes_of a.0 };
 }
 
 impl Text {
-    /// The text of a string. It fails where memory is refused.
-    pub fn new(alloc: Global, text: String) -> Result<Text, AllocError>
+    /// The text of a string.
+    pub fn new(text: String) -> Text
+        ensures { result ≡ string_bytes text }
+    {
+        Text(Kept::Alone(text))
+    }
+
+    /// The text of a string, which clones share. It fails where memory is refused.
+    pub fn shared(alloc: Global, text: String) -> Result<Text, AllocError>
         ensures { IfOk result (λ t. t ≡ string_bytes text) }
     {
         let shared = Rc::new(alloc, text)?;
-        Ok(Text {
-            shared: Some(shared),
-        })
-    }
-
-    /// The text of no characters. It takes no memory.
-    pub fn empty() -> Text
-        ensures { result ≡ [] }
-    {
-        Text { shared: None }
+        Ok(Text(Kept::Shared(shared)))
     }
 
     /// The text.
     pub fn as_str(&self) -> &str
         ensures { result.now ≡ self.now }
     {
-        match &self.shared {
-            Some(text) => text.as_str(),
-            None => "",
+        match &self.0 {
+            Kept::Alone(text) => text.as_str(),
+            Kept::Shared(text) => text.as_str(),
         }
     }
 }
@@ -57,10 +63,10 @@ impl Text {
 impl Clone for Text {
     ghost is_clone = { λ t u. u ≡ t };
 
-    /// The same text, shared: no bytes are copied.
     fn clone(&self) -> Result<Text, AllocError> {
-        Ok(Text {
-            shared: self.shared.clone()?,
-        })
+        Ok(Text(match &self.0 {
+            Kept::Alone(text) => Kept::Alone(text.clone()?),
+            Kept::Shared(text) => Kept::Shared(text.clone()?),
+        }))
     }
 }
