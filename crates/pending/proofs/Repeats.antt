@@ -3,7 +3,6 @@ use Rattle.std.proofs.Common.{◌≡◌, ℕ, Bool, true, false, ◌||◌, ◌==
 use Rattle.std.specs.List.{list_any, cons_option}
 use Rattle.std.proofs.lemmas.Bool.Decides.{eqb_tells}
 use Rattle.pending.specs.Compatible.{is_among, has_repeat, has_two}
-use Rattle.pending.specs.declared.primitive.Primitive.{Primitive}
 
 pub or-swapped : (a b c d : Bool) → ((a || b) || (c || d)) ≡ ((a || c) || (b || d))
 or-swapped true b c d = refl
@@ -35,7 +34,7 @@ among-none [] = refl
 among-none (i ∷ is) = among-none is
 
 -- the same for primitives: the first of those that are left has a target that was not met
-pub step : (target : Primitive → Option ℕ) (old new : List ℕ) (p : Primitive) (ps rest : List Primitive) (i : ℕ) (is_so : Bool) → rest ≡ p ∷ ps → target p ≡ Some i → is_among old i ≡ false
+pub step : {A : Type 0} (target : A → Option ℕ) (old new : List ℕ) (p : A) (ps rest : List A) (i : ℕ) (is_so : Bool) → rest ≡ p ∷ ps → target p ≡ Some i → is_among old i ≡ false
     → ((j : ℕ) → is_among new j ≡ ((j == i) || is_among old j))
     → (list_any (is_among old) (filter_map target rest) || has_two target rest) ≡ is_so
     → (list_any (is_among new) (filter_map target ps) || has_two target ps) ≡ is_so

@@ -3,28 +3,27 @@ use Rattle.std.specs.Prelude.{ℕ, Bool, false, ◌||◌, ◌==◌, if◌then◌
 use Rattle.std.specs.List.{list_any}
 use Rattle.values.specs.declared.code.Code.{Code}
 use Rattle.values.specs.declared.code.Code.TheVariants.{XUDY0015, XUDY0016, XUDY0017}
-use Rattle.pending.specs.declared.primitive.Primitive.{Primitive}
-use Rattle.pending.specs.declared.primitive.Primitive.TheVariants.{ReplaceNode, ReplaceValue, ReplaceElementContent, Rename}
+use Rattle.pending.specs.Primitives.{PrimitiveTerm, replace_node, replace_value, replace_element_content, rename}
 
 -- the most primitives in a list (our own choice)
 unfoldable pub most_primitives : ℕ
 most_primitives = 10000
 
 -- the target of a primitive of one kind; other primitives have none
-abbrev pub renamed : Primitive → Option ℕ
-renamed (Rename i name) = Some i
+abbrev pub renamed : PrimitiveTerm → Option ℕ
+renamed (rename i name) = Some i
 renamed _ = None
 
-abbrev pub replaced : Primitive → Option ℕ
-replaced (ReplaceNode i ts) = Some i
+abbrev pub replaced : PrimitiveTerm → Option ℕ
+replaced (replace_node i ts) = Some i
 replaced _ = None
 
-abbrev pub value_replaced : Primitive → Option ℕ
-value_replaced (ReplaceValue i text) = Some i
+abbrev pub value_replaced : PrimitiveTerm → Option ℕ
+value_replaced (replace_value i text) = Some i
 value_replaced _ = None
 
-abbrev pub content_replaced : Primitive → Option ℕ
-content_replaced (ReplaceElementContent i ts) = Some i
+abbrev pub content_replaced : PrimitiveTerm → Option ℕ
+content_replaced (replace_element_content i ts) = Some i
 content_replaced _ = None
 
 -- the number is among these
@@ -37,11 +36,11 @@ has_repeat [] = false
 has_repeat (i ∷ is) = is_among is i || has_repeat is
 
 -- two primitives of the kind have one target
-abbrev pub has_two : (Primitive → Option ℕ) → List Primitive → Bool
+abbrev pub has_two : {A : Type 0} → (A → Option ℕ) → List A → Bool
 has_two target ps = has_repeat (filter_map target ps)
 
 -- the code of the first rule that is broken; a list with none is compatible
-abbrev pub conflict : List Primitive → Option Code
+abbrev pub conflict : List PrimitiveTerm → Option Code
 conflict ps =
     if has_two renamed ps then Some XUDY0015
     else (if has_two replaced ps then Some XUDY0016

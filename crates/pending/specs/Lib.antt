@@ -1,2 +1,4 @@
+pub mod Primitives
 pub mod Compatible
 pub mod Inside
+pub mod Texts

@@ -1,8 +1,9 @@
 //! Pending update lists.
 
-ghost use Rattle.std.specs.Prelude.{◌≡◌, ◌<◌, ◌≤◌, ◌+◌, ◌++◌, ◌∷◌, ◌↔◌, [], None, Some, length, IsErrOf, IfErr, IfOk, OnErr, OnOk};
+ghost use Rattle.std.specs.Prelude.{◌≡◌, ◌<◌, ◌≤◌, ◌+◌, ◌++◌, ◌∷◌, ◌↔◌, [], None, Some, length, map, IsErrOf, IfErr, IfOk, OnErr, OnOk};
 ghost use Rattle.values.specs.declared.code.Code.{Code as CodeTerm};
 ghost use Rattle.pending.specs.Compatible.{conflict, most_primitives};
+ghost use Rattle.pending.specs.Primitives.{primitive_term};
 
 use super::primitive::Primitive;
 use super::targets::{Once, has_two};
@@ -79,6 +80,13 @@ impl PendingList {
         &self.primitives
     }
 
+    /// The primitives themselves, in that order.
+    pub fn into_vec(self) -> Vec<Primitive>
+        ensures { result.items ≡ self }
+    {
+        self.primitives
+    }
+
     /// Adds a primitive at the end. It fails where it would be the 10,001st (`TooMany`) or memory is refused (`Memory`); the list is then
     /// as it was.
     #[tactic(auto, unfolding(crate::specs::Compatible::most_primitives))]
@@ -118,8 +126,8 @@ impl PendingList {
     /// (`XUDY0016`), one of its value and one of its content (`XUDY0017`), judged in this order (XQuery Update Facility 1.0, section
     /// 3.2.2). It fails with the code of the first rule that is broken (`Code`), or where memory is refused (`Memory`).
     pub fn check(&self, alloc: Global) -> Result<(), CheckFault>
-        ensures compatible { OnOk result (conflict self.now ≡ None) }
-        ensures code { IfErr result (λ e. (c : CodeTerm) → e ≡ CheckFault.Code c → conflict self.now ≡ Some c) }
+        ensures compatible { OnOk result (conflict (map primitive_term self.now) ≡ None) }
+        ensures code { IfErr result (λ e. (c : CodeTerm) → e ≡ CheckFault.Code c → conflict (map primitive_term self.now) ≡ Some c) }
     {
         match conflict_of(alloc, &self.primitives) {
             Ok(None) => Ok(()),
@@ -131,7 +139,7 @@ impl PendingList {
 
 /// The code of the first rule that the primitives break.
 fn conflict_of(alloc: Global, primitives: &[Primitive]) -> Result<Option<Code>, AllocError>
-    ensures { IfOk result (λ code. code ≡ conflict primitives.now) }
+    ensures { IfOk result (λ code. code ≡ conflict (map primitive_term primitives.now)) }
 {
     if has_two(alloc, primitives, Once::Rename)? {
         return Ok(Some(Code::XUDY0015));

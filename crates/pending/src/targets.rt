@@ -1,8 +1,9 @@
 //! Targets of primitives that may change a node once.
 
-ghost use Rattle.std.specs.Prelude.{◌≡◌, ◌==◌, ◌||◌, not, ℕ, [], Some, None, option_map, IfOk, OnOk};
+ghost use Rattle.std.specs.Prelude.{◌≡◌, ◌==◌, ◌||◌, not, ℕ, [], map, Some, None, option_map, IfOk, OnOk};
 ghost use Rattle.pending.specs.Compatible.{has_two, is_among};
 ghost use Rattle.pending.specs.Inside.{target_by};
+ghost use Rattle.pending.specs.Primitives.{primitive_term};
 
 use super::primitive::Primitive;
 use indexmap::IndexSet;
@@ -21,7 +22,7 @@ pub(super) enum Once {
 impl Once {
     /// The identity of the primitive's target, if the primitive is of this kind.
     fn target_of(self, primitive: &Primitive) -> Option<u64>
-        ensures { result ≡ target_by self primitive.now }
+        ensures { result ≡ target_by self (primitive_term primitive.now) }
     {
         match (self, primitive) {
             (Once::Rename, Primitive::Rename(target, _)) => Some(target.number()),
@@ -76,7 +77,7 @@ pub(super) fn has_two(
     primitives: &[Primitive],
     once: Once,
 ) -> Result<bool, AllocError>
-    ensures { IfOk result (λ is_so. is_so ≡ has_two (target_by once) primitives.now) }
+    ensures { IfOk result (λ is_so. is_so ≡ has_two (target_by once) (map primitive_term primitives.now)) }
 {
     let mut targets = Targets::new(alloc);
     let mut rest = primitives;
