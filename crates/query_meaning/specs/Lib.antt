@@ -1,0 +1,12 @@
+pub mod Running
+pub mod Environment
+pub mod Strings
+pub mod Sequences
+pub mod Operators
+pub mod Paths
+pub mod Functions
+pub mod Content
+pub mod Constructors
+pub mod Updates
+pub mod Meaning
+pub mod Examples

@@ -1,0 +1,367 @@
+//! Worked examples of the definition, each the contract of a function that does nothing. An expression's text stands above what it gives.
+
+ghost use Rattle.std.specs.Prelude.{◌≡◌, [], ◌∷◌, pos, codes, Some, None, Ok, Err, true, false};
+ghost use Rattle.trees.specs.Trees.{no_trees, tree, Content};
+ghost use Rattle.trees.specs.declared.axis.Axis.TheVariants as axis;
+ghost use Rattle.trees.specs.declared.node.Kind.TheVariants as kind;
+ghost use Rattle.pending.specs.Primitives.{insert_before, insert_after, insert_into, insert_into_as_first, insert_into_as_last, insert_attributes, replace_node, replace_element_content};
+ghost use Rattle.pending.specs.Primitives.{delete as delete_node, replace_value as replace_text, rename as rename_to};
+ghost use Rattle.values.specs.declared.code.Code.TheVariants.{XPST0008, XPST0017, XPDY0002, XPTY0004, XPTY0018, XPTY0019, XPTY0020, FOAR0001, FOAR0002, FODC0002, FORG0001, FORG0006, XQTY0024, XQDY0025, XQDY0026, XQDY0041, XQDY0064, XQDY0072, XQDY0074, XUTY0004, XUTY0005, XUTY0006, XUTY0007, XUTY0008, XUTY0010, XUTY0011, XUTY0012, XUTY0022, XUDY0009, XUDY0027, XUDY0029, XUDY0030, PXQ0002, PXQ0003};
+ghost use Rattle.values.specs.declared.compare.Comparison.TheVariants.{Equal, Less};
+ghost use Rattle.values.specs.declared.operators.Operator.TheVariants.{Add, IntegerDivide, Modulo};
+ghost use Rattle.query_grammar.specs.declared.ast.Expr.TheOpen.{Expr-F};
+ghost use Rattle.query_grammar.specs.declared.ast.Binary.TheVariants.{Or, And, General, Value, Is, Precedes, Follows, To, Arithmetic, Union, Intersect, Except};
+ghost use Rattle.query_grammar.specs.declared.ast.Clause.TheVariants.{For, ForAt};
+ghost use Rattle.query_grammar.specs.declared.ast.KindTest.TheVariants as test;
+ghost use Rattle.query_grammar.specs.declared.ast.Place.TheVariants.{Into, FirstInto, LastInto, After, Before};
+ghost use Rattle.query_grammar.specs.declared.ast.Quantifier.TheVariants.{Some as AtLeastOne, Every};
+ghost use Rattle.query_grammar.specs.declared.ast.Sign.TheVariants.{Minus, Plus};
+ghost use Rattle.query_meaning.specs.Meaning.{meaning_of};
+ghost use Rattle.query_meaning.specs.Examples.{int, str, var, list, call, binary, elem, elem_named, attr, txt, comment, instr, instr_named, doc_node, named, any, child, filtered_by, path, every_node, let_in, db, db_a, below_a, attribute_k, inserting, deleting, replacing, replacing_value, renaming, said, said_after, said_of_filled, with_turns, with_nodes, asked, asked_of_filled, alone, one, with_r, below_r};
+
+/// Operators.
+#[tactic(auto, unfolding(crate::proofs::Compute::everything))]
+pub fn operators()
+    // 1 + 1
+    ensures sum { said (binary (Arithmetic Add) (int 1) (int 1)) ≡ Ok (codes "2" ∷ []) }
+    // -7 idiv 2
+    ensures cut { said (binary (Arithmetic IntegerDivide) (meaning_of (Expr-F.Signed (Minus ∷ []) (int 7))) (int 2)) ≡ Ok (codes "-3" ∷ []) }
+    // - - 7
+    ensures signs { said (meaning_of (Expr-F.Signed (Minus ∷ Minus ∷ []) (int 7))) ≡ Ok (codes "7" ∷ []) }
+    // + ()
+    ensures sign_of_nothing { said (meaning_of (Expr-F.Signed (Plus ∷ []) (list []))) ≡ Ok [] }
+    // 7 idiv 0
+    ensures zero { said (binary (Arithmetic IntegerDivide) (int 7) (int 0)) ≡ Err FOAR0001 }
+    // 9223372036854775807 + 1
+    ensures overflow { said (binary (Arithmetic Add) (int 9223372036854775807) (int 1)) ≡ Err FOAR0002 }
+    // 1 + "x"
+    ensures no_number { said (binary (Arithmetic Add) (int 1) (str (codes "x"))) ≡ Err XPTY0004 }
+    // 1 + text {"x"}
+    ensures no_integer { said (binary (Arithmetic Add) (int 1) (txt (str (codes "x")))) ≡ Err FORG0001 }
+    // 2 to 4
+    ensures range { said (binary To (int 2) (int 4)) ≡ Ok (codes "2" ∷ codes "3" ∷ codes "4" ∷ []) }
+    // 4 to 2
+    ensures empty_range { said (binary To (int 4) (int 2)) ≡ Ok [] }
+    // count(1 to 10001)
+    ensures too_many { said (call (codes "count") ((binary To (int 1) (int 10001)) ∷ [])) ≡ Err PXQ0002 }
+    // ("x", 1) = 1
+    ensures pairs { said (binary (General Equal) (list ((str (codes "x")) ∷ (int 1) ∷ [])) (int 1)) ≡ Err XPTY0004 }
+    // (1, "x") = 1
+    ensures first_pair { said (binary (General Equal) (list ((int 1) ∷ (str (codes "x")) ∷ [])) (int 1)) ≡ Ok (codes "true()" ∷ []) }
+    // "a" lt "b"
+    ensures by_value { said (binary (Value Less) (str (codes "a")) (str (codes "b"))) ≡ Ok (codes "true()" ∷ []) }
+    // () eq 1
+    ensures nothing_by_value { said (binary (Value Equal) (list []) (int 1)) ≡ Ok [] }
+    // 1 or (1 idiv 0)
+    ensures decided_or { said (binary Or (int 1) (binary (Arithmetic IntegerDivide) (int 1) (int 0))) ≡ Ok (codes "true()" ∷ []) }
+    // 0 and (1 idiv 0)
+    ensures decided_and { said (binary And (int 0) (binary (Arithmetic IntegerDivide) (int 1) (int 0))) ≡ Ok (codes "false()" ∷ []) }
+    // 0 or "x"
+    ensures undecided_or { said (binary Or (int 0) (str (codes "x"))) ≡ Ok (codes "true()" ∷ []) }
+    // 1 and (1, 2)
+    ensures no_truth { said (binary And (int 1) (list ((int 1) ∷ (int 2) ∷ []))) ≡ Err FORG0006 }
+    // doc("db") is doc("db")
+    ensures same { said (binary Is db db) ≡ Ok (codes "true()" ∷ []) }
+    // doc("db") << text {"x"}
+    ensures before { said (binary Precedes db (txt (str (codes "x")))) ≡ Ok (codes "true()" ∷ []) }
+    // doc("db") >> text {"x"}
+    ensures after { said (binary Follows db (txt (str (codes "x")))) ≡ Ok (codes "false()" ∷ []) }
+    // 1 is ()
+    ensures no_node { said (binary Is (int 1) (list [])) ≡ Err XPTY0004 }
+    // doc("db") union 1
+    ensures no_set { said (binary Union db (int 1)) ≡ Err XPTY0004 }
+{}
+
+/// Steps, paths, filters and sets, with `$r` bound to `element r {element a {"1"}, element b {"2"}, element a {"3"}}`.
+#[tactic(auto, unfolding(crate::proofs::Compute::everything))]
+pub fn paths()
+    // $r/a[2]
+    ensures second { below_r (named axis.Child (codes "a") (int 2 ∷ []) ∷ []) ≡ Ok (codes "element a {text {\"3\"}}" ∷ []) }
+    // $r/a/preceding-sibling::*[1]
+    ensures backward { below_r (child (codes "a") ∷ any axis.PrecedingSibling (int 1 ∷ []) ∷ []) ≡ Ok (codes "element b {text {\"2\"}}" ∷ []) }
+    // $r/a[2]/(preceding-sibling::*)[1]
+    ensures forward { below_r (named axis.Child (codes "a") (int 2 ∷ []) ∷ filtered_by (any axis.PrecedingSibling []) (int 1) ∷ []) ≡ Ok (codes "element a {text {\"1\"}}" ∷ []) }
+    // ($r/b, $r/a)/string()
+    ensures in_document_order { said (with_r (path (list ((path (var (codes "r")) (child (codes "b") ∷ [])) ∷ (path (var (codes "r")) (child (codes "a") ∷ [])) ∷ [])) ((call (codes "string") ([])) ∷ []))) ≡ Ok (codes "\"2\"" ∷ codes "\"1\"" ∷ codes "\"3\"" ∷ []) }
+    // ($r/b | $r/a)/string()
+    ensures united { said (with_r (path (binary Union (path (var (codes "r")) (child (codes "b") ∷ [])) (path (var (codes "r")) (child (codes "a") ∷ []))) ((call (codes "string") ([])) ∷ []))) ≡ Ok (codes "\"1\"" ∷ codes "\"2\"" ∷ codes "\"3\"" ∷ []) }
+    // $r/* intersect $r/a
+    ensures intersect { said (with_r (binary Intersect (path (var (codes "r")) (any axis.Child [] ∷ [])) (path (var (codes "r")) (child (codes "a") ∷ [])))) ≡ Ok (codes "element a {text {\"1\"}}" ∷ codes "element a {text {\"3\"}}" ∷ []) }
+    // $r/* except $r/a
+    ensures except { said (with_r (binary Except (path (var (codes "r")) (any axis.Child [] ∷ [])) (path (var (codes "r")) (child (codes "a") ∷ [])))) ≡ Ok (codes "element b {text {\"2\"}}" ∷ []) }
+    // $r//a[1]
+    ensures slashes { below_r (every_node ∷ named axis.Child (codes "a") (int 1 ∷ []) ∷ []) ≡ Ok (codes "element a {text {\"1\"}}" ∷ []) }
+    // $r/descendant::a
+    ensures descendants { below_r (named axis.Descendant (codes "a") [] ∷ []) ≡ Ok (codes "element a {text {\"1\"}}" ∷ codes "element a {text {\"3\"}}" ∷ []) }
+    // $r/b/following-sibling::*
+    ensures following { below_r (child (codes "b") ∷ any axis.FollowingSibling [] ∷ []) ≡ Ok (codes "element a {text {\"3\"}}" ∷ []) }
+    // count($r/b/ancestor::*)
+    ensures ancestors { said (with_r (call (codes "count") ((path (var (codes "r")) (child (codes "b") ∷ any axis.Ancestor [] ∷ [])) ∷ []))) ≡ Ok (codes "1" ∷ []) }
+    // $r/b/self::a
+    ensures itself { below_r (child (codes "b") ∷ named axis.SelfAxis (codes "a") [] ∷ []) ≡ Ok [] }
+    // $r/*[last()]
+    ensures last { below_r (any axis.Child (call (codes "last") [] ∷ []) ∷ []) ≡ Ok (codes "element a {text {\"3\"}}" ∷ []) }
+    // $r/(a, 1)
+    ensures mixed { below_r (list (child (codes "a") ∷ int 1 ∷ []) ∷ []) ≡ Err XPTY0018 }
+    // (1, $r)/a
+    ensures atomic { said (with_r (path (list ((int 1) ∷ (var (codes "r")) ∷ [])) (child (codes "a") ∷ []))) ≡ Err XPTY0019 }
+    // 1[a]
+    ensures step_from_an_integer { said (filtered_by (int 1) (child (codes "a"))) ≡ Err XPTY0020 }
+    // a
+    ensures no_context { said (child (codes "a")) ≡ Err XPDY0002 }
+    // (5, 6)[2]
+    ensures filtered { said (filtered_by (list ((int 5) ∷ (int 6) ∷ [])) (int 2)) ≡ Ok (codes "6" ∷ []) }
+    // doc("db")/a/@k
+    ensures attribute { said_of_filled attribute_k ≡ Ok (codes "attribute k {\"1\"}" ∷ []) }
+    // doc("db")/a/@k/following-sibling::*
+    ensures no_siblings { said_of_filled (path attribute_k (any axis.FollowingSibling [] ∷ [])) ≡ Ok [] }
+    // doc("db")/a/comment()
+    ensures comment { said_of_filled (below_a axis.Child test.Comment) ≡ Ok (codes "comment {\"c\"}" ∷ []) }
+{}
+
+/// Variables, conditions, quantifiers and FLWOR.
+#[tactic(auto, unfolding(crate::proofs::Compute::everything))]
+pub fn sequences()
+    // for $x at $i in ("c", "a", "b") order by $x descending return $i
+    ensures descending { said (meaning_of (Expr-F.Flwor (ForAt record { variable = codes "x"; source = (list ((str (codes "c")) ∷ (str (codes "a")) ∷ (str (codes "b")) ∷ [])) } (codes "i") ∷ []) None (record { key = var (codes "x"); is_descending = true } ∷ []) (var (codes "i")))) ≡ Ok (codes "1" ∷ codes "3" ∷ codes "2" ∷ []) }
+    // for $x at $i in ("c", "a", "b") order by $x return $i
+    ensures ascending { said (meaning_of (Expr-F.Flwor (ForAt record { variable = codes "x"; source = (list ((str (codes "c")) ∷ (str (codes "a")) ∷ (str (codes "b")) ∷ [])) } (codes "i") ∷ []) None (record { key = var (codes "x"); is_descending = false } ∷ []) (var (codes "i")))) ≡ Ok (codes "2" ∷ codes "3" ∷ codes "1" ∷ []) }
+    // for $x at $i in (1, "a") order by $x return $i
+    ensures mixed_keys { said (meaning_of (Expr-F.Flwor (ForAt record { variable = codes "x"; source = (list ((int 1) ∷ (str (codes "a")) ∷ [])) } (codes "i") ∷ []) None (record { key = var (codes "x"); is_descending = false } ∷ []) (var (codes "i")))) ≡ Err XPTY0004 }
+    // for $x at $i in ("b", "a") order by (if ($x = "a") then () else 1) descending return $i
+    ensures empty_key_last { said (meaning_of (Expr-F.Flwor (ForAt record { variable = codes "x"; source = (list ((str (codes "b")) ∷ (str (codes "a")) ∷ [])) } (codes "i") ∷ []) None (record { key = meaning_of (Expr-F.If (binary (General Equal) (var (codes "x")) (str (codes "a"))) (list []) (int 1)); is_descending = true } ∷ []) (var (codes "i")))) ≡ Ok (codes "1" ∷ codes "2" ∷ []) }
+    // for $x in (1, 2, 3) where $x = 2 return ($x, $x)
+    ensures condition { said (meaning_of (Expr-F.Flwor (For record { variable = codes "x"; source = (list ((int 1) ∷ (int 2) ∷ (int 3) ∷ [])) } ∷ []) (Some (binary (General Equal) (var (codes "x")) (int 2))) [] (list ((var (codes "x")) ∷ (var (codes "x")) ∷ [])))) ≡ Ok (codes "2" ∷ codes "2" ∷ []) }
+    // some $x in (1, 2, "x") satisfies $x = 2
+    ensures some { said (meaning_of (Expr-F.Quantified AtLeastOne (record { variable = codes "x"; source = (list ((int 1) ∷ (int 2) ∷ (str (codes "x")) ∷ [])) } ∷ []) (binary (General Equal) (var (codes "x")) (int 2)))) ≡ Ok (codes "true()" ∷ []) }
+    // every $x in (1, 2, "x") satisfies $x = 1
+    ensures every { said (meaning_of (Expr-F.Quantified Every (record { variable = codes "x"; source = (list ((int 1) ∷ (int 2) ∷ (str (codes "x")) ∷ [])) } ∷ []) (binary (General Equal) (var (codes "x")) (int 1)))) ≡ Ok (codes "false()" ∷ []) }
+    // every $x in () satisfies 0
+    ensures every_of_none { said (meaning_of (Expr-F.Quantified Every (record { variable = codes "x"; source = (list []) } ∷ []) (int 0))) ≡ Ok (codes "true()" ∷ []) }
+    // if ("") then 1 else 2
+    ensures otherwise { said (meaning_of (Expr-F.If (str (codes "")) (int 1) (int 2))) ≡ Ok (codes "2" ∷ []) }
+    // $y
+    ensures unbound { said (var (codes "y")) ≡ Err XPST0008 }
+    // let $x := 1 return let $x := 2 return $x
+    ensures hidden { said (let_in (codes "x") (int 1) (let_in (codes "x") (int 2) (var (codes "x")))) ≡ Ok (codes "2" ∷ []) }
+{}
+
+/// Each function.
+#[tactic(auto, unfolding(crate::proofs::Compute::everything))]
+pub fn functions()
+    // doc("no")
+    ensures no_document { said (call (codes "doc") ((str (codes "no")) ∷ [])) ≡ Err FODC0002 }
+    // doc(())
+    ensures no_name { said (call (codes "doc") ((list []) ∷ [])) ≡ Ok [] }
+    // doc("db")
+    ensures document { said db ≡ Ok (codes "document {()}" ∷ []) }
+    // root($r/a) is $r
+    ensures root { said (with_r (binary Is (call (codes "root") ((path (var (codes "r")) (child (codes "b") ∷ [])) ∷ [])) (var (codes "r")))) ≡ Ok (codes "true()" ∷ []) }
+    // name($r)
+    ensures name { said (with_r (call (codes "name") ((var (codes "r")) ∷ []))) ≡ Ok (codes "\"r\"" ∷ []) }
+    // name(text {"x"})
+    ensures no_name_of_text { said (call (codes "name") ((txt (str (codes "x"))) ∷ [])) ≡ Ok (codes "\"\"" ∷ []) }
+    // name(1)
+    ensures no_node { said (call (codes "name") ((int 1) ∷ [])) ≡ Err XPTY0004 }
+    // string($r)
+    ensures string { said (with_r (call (codes "string") ((var (codes "r")) ∷ []))) ≡ Ok (codes "\"123\"" ∷ []) }
+    // string(7)
+    ensures string_of_integer { said (call (codes "string") ((int 7) ∷ [])) ≡ Ok (codes "\"7\"" ∷ []) }
+    // string((1, 2))
+    ensures two_strings { said (call (codes "string") ((list ((int 1) ∷ (int 2) ∷ [])) ∷ [])) ≡ Err XPTY0004 }
+    // string()
+    ensures no_context { said (call (codes "string") ([])) ≡ Err XPDY0002 }
+    // data(($r/b, 1))
+    ensures data { said (with_r (call (codes "data") ((list ((path (var (codes "r")) (child (codes "b") ∷ [])) ∷ (int 1) ∷ [])) ∷ []))) ≡ Ok (codes "\"2\"" ∷ codes "1" ∷ []) }
+    // count((1, 2))
+    ensures count { said (call (codes "count") ((list ((int 1) ∷ (int 2) ∷ [])) ∷ [])) ≡ Ok (codes "2" ∷ []) }
+    // empty(())
+    ensures empty { said (call (codes "empty") ((list []) ∷ [])) ≡ Ok (codes "true()" ∷ []) }
+    // exists(())
+    ensures exists { said (call (codes "exists") ((list []) ∷ [])) ≡ Ok (codes "false()" ∷ []) }
+    // reverse((1, 2))
+    ensures reverse { said (call (codes "reverse") ((list ((int 1) ∷ (int 2) ∷ [])) ∷ [])) ≡ Ok (codes "2" ∷ codes "1" ∷ []) }
+    // not(0)
+    ensures not { said (call (codes "not") ((int 0) ∷ [])) ≡ Ok (codes "true()" ∷ []) }
+    // boolean(0)
+    ensures boolean { said (call (codes "boolean") ((int 0) ∷ [])) ≡ Ok (codes "false()" ∷ []) }
+    // true()
+    ensures true_value { said (call (codes "true") ([])) ≡ Ok (codes "true()" ∷ []) }
+    // false()
+    ensures false_value { said (call (codes "false") ([])) ≡ Ok (codes "false()" ∷ []) }
+    // ("a", "b")/position()
+    ensures position_of_atoms { said (path (list ((str (codes "a")) ∷ (str (codes "b")) ∷ [])) ((call (codes "position") ([])) ∷ [])) ≡ Err XPTY0019 }
+    // $r/*/position()
+    ensures position { said (with_r (path (var (codes "r")) (any axis.Child [] ∷ (call (codes "position") ([])) ∷ []))) ≡ Ok (codes "1" ∷ codes "2" ∷ codes "3" ∷ []) }
+    // $r/*/last()
+    ensures last { said (with_r (path (var (codes "r")) (any axis.Child [] ∷ (call (codes "last") ([])) ∷ []))) ≡ Ok (codes "3" ∷ codes "3" ∷ codes "3" ∷ []) }
+    // concat("a", (), 7)
+    ensures concat { said (call (codes "concat") ((str (codes "a")) ∷ (list []) ∷ (int 7) ∷ [])) ≡ Ok (codes "\"a7\"" ∷ []) }
+    // contains("abc", "bc")
+    ensures contains { said (call (codes "contains") ((str (codes "abc")) ∷ (str (codes "bc")) ∷ [])) ≡ Ok (codes "true()" ∷ []) }
+    // contains("abc", ())
+    ensures contains_nothing { said (call (codes "contains") ((str (codes "abc")) ∷ (list []) ∷ [])) ≡ Ok (codes "true()" ∷ []) }
+    // starts-with("abc", "bc")
+    ensures starts { said (call (codes "starts-with") ((str (codes "abc")) ∷ (str (codes "bc")) ∷ [])) ≡ Ok (codes "false()" ∷ []) }
+    // ends-with("abc", "bc")
+    ensures ends { said (call (codes "ends-with") ((str (codes "abc")) ∷ (str (codes "bc")) ∷ [])) ≡ Ok (codes "true()" ∷ []) }
+    // contains(1, "b")
+    ensures no_string { said (call (codes "contains") ((int 1) ∷ (str (codes "b")) ∷ [])) ≡ Err XPTY0004 }
+    // string-length("abc")
+    ensures length { said (call (codes "string-length") ((str (codes "abc")) ∷ [])) ≡ Ok (codes "3" ∷ []) }
+    // string-join(("a", "b", "c"), "-")
+    ensures join { said (call (codes "string-join") ((list ((str (codes "a")) ∷ (str (codes "b")) ∷ (str (codes "c")) ∷ [])) ∷ (str (codes "-")) ∷ [])) ≡ Ok (codes "\"a-b-c\"" ∷ []) }
+    // string-join("a", ())
+    ensures no_separator { said (call (codes "string-join") ((str (codes "a")) ∷ (list []) ∷ [])) ≡ Err XPTY0004 }
+    // sum($r/a)
+    ensures sum { said (with_r (call (codes "sum") ((path (var (codes "r")) (child (codes "a") ∷ [])) ∷ []))) ≡ Ok (codes "4" ∷ []) }
+    // sum(())
+    ensures empty_sum { said (call (codes "sum") ((list []) ∷ [])) ≡ Ok (codes "0" ∷ []) }
+    // sum("1")
+    ensures no_sum { said (call (codes "sum") ((str (codes "1")) ∷ [])) ≡ Err FORG0006 }
+    // distinct-values((1, "1", 1))
+    ensures distinct { said (call (codes "distinct-values") ((list ((int 1) ∷ (str (codes "1")) ∷ (int 1) ∷ [])) ∷ [])) ≡ Ok (codes "1" ∷ codes "\"1\"" ∷ []) }
+    // foo(1)
+    ensures unknown { said (call (codes "foo") ((int 1) ∷ [])) ≡ Err XPST0017 }
+    // count()
+    ensures arguments { said (call (codes "count") ([])) ≡ Err XPST0017 }
+{}
+
+/// Constructors.
+#[tactic(auto, unfolding(crate::proofs::Compute::everything))]
+pub fn constructors()
+    // element e {1, 2, "x", text {""}, 3}
+    ensures merged { said (elem (codes "e") (list ((int 1) ∷ (int 2) ∷ (str (codes "x")) ∷ (txt (str (codes ""))) ∷ (int 3) ∷ []))) ≡ Ok (codes "element e {text {\"1 2 x3\"}}" ∷ []) }
+    // element e {text {""}}
+    ensures dropped { said (elem (codes "e") (txt (str (codes "")))) ≡ Ok (codes "element e {}" ∷ []) }
+    // text {""}
+    ensures empty_text { said (txt (str (codes ""))) ≡ Ok (codes "text {\"\"}" ∷ []) }
+    // text {()}
+    ensures no_text { said (txt (list [])) ≡ Ok [] }
+    // element e {attribute k {"1"}, "x"}
+    ensures attribute { said (elem (codes "e") (list ((attr (codes "k") (str (codes "1"))) ∷ (str (codes "x")) ∷ []))) ≡ Ok (codes "element e {attribute k {\"1\"}, text {\"x\"}}" ∷ []) }
+    // element e {"x", attribute k {"1"}}
+    ensures attribute_late { said (elem (codes "e") (list ((str (codes "x")) ∷ (attr (codes "k") (str (codes "1"))) ∷ []))) ≡ Err XQTY0024 }
+    // element e {attribute k {"1"}, attribute k {"2"}}
+    ensures attribute_twice { said (elem (codes "e") (list ((attr (codes "k") (str (codes "1"))) ∷ (attr (codes "k") (str (codes "2"))) ∷ []))) ≡ Err XQDY0025 }
+    // document {attribute k {"1"}}
+    ensures attribute_of_document { said (doc_node (attr (codes "k") (str (codes "1")))) ≡ Err XPTY0004 }
+    // document {document {element e {}}}
+    ensures document { said (doc_node (doc_node (elem (codes "e") (list [])))) ≡ Ok (codes "document {element e {}}" ∷ []) }
+    // element {"e f"} {}
+    ensures wrong_name { said (elem_named (str (codes "e f")) (list [])) ≡ Err XQDY0074 }
+    // element {"xmlns"} {}
+    ensures reserved_name { said (elem_named (str (codes "xmlns")) (list [])) ≡ Err XQDY0074 }
+    // element {1} {}
+    ensures no_name { said (elem_named (int 1) (list [])) ≡ Err XPTY0004 }
+    // comment {"a", "b"}
+    ensures comment { said (comment (list ((str (codes "a")) ∷ (str (codes "b")) ∷ []))) ≡ Ok (codes "comment {\"a b\"}" ∷ []) }
+    // comment {"a--b"}
+    ensures hyphens { said (comment (str (codes "a--b"))) ≡ Err XQDY0072 }
+    // comment {"a-"}
+    ensures last_hyphen { said (comment (str (codes "a-"))) ≡ Err XQDY0072 }
+    // processing-instruction p {"  x "}
+    ensures instruction { said (instr (codes "p") (str (codes "  x "))) ≡ Ok (codes "processing-instruction p {\"x \"}" ∷ []) }
+    // processing-instruction p {"?>"}
+    ensures instruction_end { said (instr (codes "p") (str (codes "?>"))) ≡ Err XQDY0026 }
+    // processing-instruction {"1"} {}
+    ensures wrong_target { said (instr_named (str (codes "1")) (list [])) ≡ Err XQDY0041 }
+    // processing-instruction XmL {}
+    ensures reserved_target { said (instr (codes "XmL") (list [])) ≡ Err XQDY0064 }
+{}
+
+/// Updating expressions: what they would change, in a document whose element `a` is node 2, its attribute `k` 3, its text 4, its comment 5 and its instruction 6.
+#[tactic(auto, unfolding(crate::proofs::Compute::everything))]
+pub fn updates()
+    // insert node element x {} before doc("db")/a
+    ensures before { asked_of_filled (inserting Before (elem (codes "x") (list [])) db_a) ≡ Ok ((insert_before 2 (alone kind.Element 8 (codes "x") []) ∷ []), 9) }
+    // insert node element x {} after doc("db")/a
+    ensures after { asked_of_filled (inserting After (elem (codes "x") (list [])) db_a) ≡ Ok ((insert_after 2 (alone kind.Element 8 (codes "x") []) ∷ []), 9) }
+    // insert node element x {} into doc("db")/a
+    ensures into { asked_of_filled (inserting Into (elem (codes "x") (list [])) db_a) ≡ Ok ((insert_into 2 (alone kind.Element 8 (codes "x") []) ∷ []), 9) }
+    // insert node element x {} as first into doc("db")/a
+    ensures first { asked_of_filled (inserting FirstInto (elem (codes "x") (list [])) db_a) ≡ Ok ((insert_into_as_first 2 (alone kind.Element 8 (codes "x") []) ∷ []), 9) }
+    // insert node element x {} as last into doc("db")/a
+    ensures last { asked_of_filled (inserting LastInto (elem (codes "x") (list [])) db_a) ≡ Ok ((insert_into_as_last 2 (alone kind.Element 8 (codes "x") []) ∷ []), 9) }
+    // insert nodes (attribute j {"1"}, "t") into doc("db")/a
+    ensures attributes { asked_of_filled (inserting Into (list ((attr (codes "j") (str (codes "1"))) ∷ (str (codes "t")) ∷ [])) db_a) ≡ Ok ((insert_attributes 2 (alone kind.Attribute 8 (codes "j") (codes "1")) ∷ insert_into 2 (alone kind.Text 9 [] (codes "t")) ∷ []), 10) }
+    // insert node () into doc("db")/a
+    ensures nothing { asked_of_filled (inserting Into (list []) db_a) ≡ Ok (([]), 7) }
+    // delete nodes (doc("db")/a/@k, doc("db")/a)
+    ensures deleting { asked_of_filled (deleting (list (attribute_k ∷ db_a ∷ []))) ≡ Ok ((delete_node 3 ∷ delete_node 2 ∷ []), 7) }
+    // replace node doc("db")/a with ()
+    ensures replaced_by_nothing { asked_of_filled (replacing db_a (list [])) ≡ Ok ((replace_node 2 no_trees ∷ []), 7) }
+    // replace value of node doc("db")/a with "n"
+    ensures content { asked_of_filled (replacing_value db_a (str (codes "n"))) ≡ Ok ((replace_element_content 2 (alone kind.Text 7 [] (codes "n")) ∷ []), 8) }
+    // replace value of node doc("db")/a/@k with ("2", 3)
+    ensures value { asked_of_filled (replacing_value attribute_k (list ((str (codes "2")) ∷ (int 3) ∷ []))) ≡ Ok ((replace_text 3 (codes "2 3") ∷ []), 8) }
+    // replace value of node doc("db")/a/@k with ()
+    ensures no_value { asked_of_filled (replacing_value attribute_k (list [])) ≡ Ok ((replace_text 3 [] ∷ []), 7) }
+    // replace value of node doc("db")/a/processing-instruction() with " y"
+    ensures instruction { asked_of_filled (replacing_value (below_a axis.Child test.Instruction) (str (codes " y"))) ≡ Ok ((replace_text 6 (codes "y") ∷ []), 8) }
+    // rename node doc("db")/a as "b"
+    ensures renaming { asked_of_filled (renaming db_a (str (codes "b"))) ≡ Ok ((rename_to 2 (codes "b") ∷ []), 7) }
+    // insert node element a {attribute k {"1"}, "x"} into doc("db")
+    ensures identities { asked (inserting Into (elem (codes "a") (list ((attr (codes "k") (str (codes "1"))) ∷ (str (codes "x")) ∷ []))) db) ≡ Ok (insert_into 1 (tree (record { identity = 6; kind = kind.Element; name = codes "a"; text = [] }) (alone kind.Attribute 7 (codes "k") (codes "1")) (alone kind.Text 8 [] (codes "x")) no_trees) ∷ [], 9) }
+{}
+
+/// The codes of updating expressions.
+#[tactic(auto, unfolding(crate::proofs::Compute::everything))]
+pub fn update_faults()
+    // insert nodes ("x", attribute j {"1"}) into doc("db")/a
+    ensures late { asked_of_filled (inserting Into (list ((str (codes "x")) ∷ (attr (codes "j") (str (codes "1"))) ∷ [])) db_a) ≡ Err XUTY0004 }
+    // insert node element x {} into doc("db")/none
+    ensures no_target { asked_of_filled (inserting Into (elem (codes "x") (list [])) (path db (child (codes "none") ∷ []))) ≡ Err XUDY0027 }
+    // insert node element x {} into doc("db")/a/text()
+    ensures into_text { asked_of_filled (inserting Into (elem (codes "x") (list [])) (below_a axis.Child test.Text)) ≡ Err XUTY0005 }
+    // insert node attribute j {"1"} into doc("db")
+    ensures into_document { asked_of_filled (inserting Into (attr (codes "j") (str (codes "1"))) db) ≡ Err XUTY0022 }
+    // insert node element x {} before doc("db")/a/@k
+    ensures beside_attribute { asked_of_filled (inserting Before (elem (codes "x") (list [])) attribute_k) ≡ Err XUTY0006 }
+    // insert node element x {} before element y {}
+    ensures beside_root { asked_of_filled (inserting Before (elem (codes "x") (list [])) (elem (codes "y") (list []))) ≡ Err XUDY0029 }
+    // insert node attribute j {"1"} before doc("db")/a
+    ensures beside_in_document { asked_of_filled (inserting Before (attr (codes "j") (str (codes "1"))) db_a) ≡ Err XUDY0030 }
+    // delete node 1
+    ensures delete_atomic { asked_of_filled (deleting (int 1)) ≡ Err XUTY0007 }
+    // replace node doc("db")/none with "x"
+    ensures replace_nothing { asked_of_filled (replacing (path db (child (codes "none") ∷ [])) (str (codes "x"))) ≡ Err XUDY0027 }
+    // replace node doc("db") with "x"
+    ensures replace_document { asked_of_filled (replacing db (str (codes "x"))) ≡ Err XUTY0008 }
+    // replace node element y {} with "x"
+    ensures replace_root { asked_of_filled (replacing (elem (codes "y") (list [])) (str (codes "x"))) ≡ Err XUDY0009 }
+    // replace node doc("db")/a/@k with "x"
+    ensures attribute_by_text { asked_of_filled (replacing attribute_k (str (codes "x"))) ≡ Err XUTY0011 }
+    // replace node doc("db")/a with attribute j {"1"}
+    ensures element_by_attribute { asked_of_filled (replacing db_a (attr (codes "j") (str (codes "1")))) ≡ Err XUTY0010 }
+    // replace value of node doc("db")/a/comment() with "--"
+    ensures comment { asked_of_filled (replacing_value (below_a axis.Child test.Comment) (str (codes "--"))) ≡ Err XQDY0072 }
+    // replace value of node doc("db")/a/processing-instruction() with "?>"
+    ensures instruction { asked_of_filled (replacing_value (below_a axis.Child test.Instruction) (str (codes "?>"))) ≡ Err XQDY0026 }
+    // rename node doc("db")/none as "z"
+    ensures rename_nothing { asked_of_filled (renaming (path db (child (codes "none") ∷ [])) (str (codes "z"))) ≡ Err XUDY0027 }
+    // rename node doc("db") as "z"
+    ensures rename_document { asked_of_filled (renaming db (str (codes "z"))) ≡ Err XUTY0012 }
+    // rename node doc("db")/a as "1"
+    ensures wrong_name { asked_of_filled (renaming db_a (str (codes "1"))) ≡ Err XQDY0074 }
+    // rename node doc("db")/a/processing-instruction() as "xml"
+    ensures reserved_target { asked_of_filled (renaming (below_a axis.Child test.Instruction) (str (codes "xml"))) ≡ Err XQDY0064 }
+{}
+
+/// Our own limits, each where one more would be taken.
+#[tactic(auto, unfolding(crate::proofs::Compute::everything))]
+pub fn limits()
+    // for $x in (1, 2, 3) return $x, in three turns and in two
+    ensures turns { said_after (with_turns 3) (meaning_of (Expr-F.Flwor (For record { variable = codes "x"; source = (list (int 1 ∷ int 2 ∷ int 3 ∷ [])) } ∷ []) None [] (var (codes "x")))) ≡ Ok (codes "1" ∷ codes "2" ∷ codes "3" ∷ []) }
+    ensures no_turn { said_after (with_turns 2) (meaning_of (Expr-F.Flwor (For record { variable = codes "x"; source = (list (int 1 ∷ int 2 ∷ int 3 ∷ [])) } ∷ []) None [] (var (codes "x")))) ≡ Err PXQ0002 }
+    // (1, 2, 3) = 2, which tries two pairs
+    ensures pairs { said_after (with_turns 2) (binary (General Equal) (list (int 1 ∷ int 2 ∷ int 3 ∷ [])) (int 2)) ≡ one (codes "true()") }
+    ensures no_pair { said_after (with_turns 1) (binary (General Equal) (list (int 1 ∷ int 2 ∷ int 3 ∷ [])) (int 2)) ≡ Err PXQ0002 }
+    // (1, 2, 3)[2]: each item takes a turn
+    ensures predicate { said_after (with_turns 2) (filtered_by (list (int 1 ∷ int 2 ∷ int 3 ∷ [])) (int 2)) ≡ Err PXQ0002 }
+    // some $x in (1, 2, 3) satisfies $x eq 1: the first item decides
+    ensures decided { said_after (with_turns 1) (meaning_of (Expr-F.Quantified AtLeastOne (record { variable = codes "x"; source = (list (int 1 ∷ int 2 ∷ int 3 ∷ [])) } ∷ []) (binary (Value Equal) (var (codes "x")) (int 1)))) ≡ one (codes "true()") }
+    // element e {element f {}}: the copy is a third node
+    ensures nodes { said_after (with_nodes 3) (elem (codes "e") (elem (codes "f") (list []))) ≡ one (codes "element e {element f {}}") }
+    ensures no_node { said_after (with_nodes 2) (elem (codes "e") (elem (codes "f") (list []))) ≡ Err PXQ0003 }
+{}
