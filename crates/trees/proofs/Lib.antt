@@ -11,6 +11,7 @@ pub mod Takes
 pub mod Contents
 pub mod Clones
 pub mod Climbs
+pub mod Paths
 pub mod Scans
 pub mod Firsts
 pub mod Moves

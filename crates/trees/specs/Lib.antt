@@ -2,6 +2,7 @@ pub mod Characters
 pub mod Trees
 pub mod Changes
 pub mod Order
+pub mod Paths
 pub mod Tidy
 pub mod Forest
 pub mod Tree

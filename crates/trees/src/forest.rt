@@ -1,16 +1,17 @@
 //! Forests: trees of nodes, documents by name, and the next identity.
 
-ghost use Rattle.std.specs.Prelude.{◌≡◌, ◌≢◌, ℕ, ◌+◌, ◌<◌, ◌≤◌, ◌^◌, ◌↔◌, Option, Some, None, IfOk, OnOk, OnErr, IfSome, IsErrOf, IsSome, List, [], ◌∷◌, ◌++◌, length, map, is_some, string_bytes, IsTrue, max, option_map};
+ghost use Rattle.std.specs.Prelude.{◌≡◌, ◌≢◌, ℕ, ◌+◌, ◌<◌, ◌≤◌, ◌^◌, ◌↔◌, ◌-◌, min, Option, Some, None, IfOk, OnOk, OnErr, IfSome, IsErrOf, IsSome, List, [], ◌∷◌, ◌++◌, length, map, is_some, string_bytes, IsTrue, max, option_map};
 ghost use Rattle.std.specs.Map.{lookup};
 ghost use Rattle.std.specs.Str.{bytes_eq};
-ghost use Rattle.trees.specs.Trees.{no_trees, append, leaf, find, count, size, children_of, attributes_of, parent_of, string_value_of, text_within, IsAt, Content as NodeContent};
+ghost use Rattle.trees.specs.Trees.{no_trees, append, leaf, find, count, size, height, children_of, attributes_of, parent_of, string_value_of, text_within, IsAt, Content as NodeContent};
 ghost use Rattle.trees.specs.Changes.{with_children, with_attributes, with_content, splice, taken_out, all_moved_below, CanAllMoveBelow, pick, renumbered, ranked};
 ghost use Rattle.trees.specs.declared.node.Part.TheVariants.{Attributes, Children};
 ghost use Rattle.trees.specs.Order.{precedes};
 ghost use Rattle.trees.specs.Forest.{ForestTerm, IsForest, IsDocument, document_node, opening_forest};
 ghost use Rattle.trees.specs.Tree.{trees_of_tree};
 ghost use Rattle.trees.specs.Planted.{past};
-ghost use Rattle.trees.specs.Walks.{root_of};
+ghost use Rattle.trees.specs.Walks.{root_of, depth_of};
+ghost use Rattle.trees.specs.Paths.{path_of, shared, order_steps_of};
 ghost use Rattle.trees.specs.Flat.{entry_in};
 ghost use Rattle.trees.specs.Inside.{entry_of_row};
 
@@ -274,6 +275,95 @@ impl Forest {
             return first < second;
         }
         walk::first_of(&self.rows, &[first], levels, a, b).unwrap_or(false)
+    }
+
+    /// How many nodes stand above a node.
+    fn level(&self, id: NodeId) -> u64
+        requires { IsSome (find id self.now.trees) }
+        ensures { result ≡ depth_of id self.now.trees }
+    {
+        self.facts();
+        self.bounds();
+        let mut at = id;
+        let mut levels = 0;
+        while let Some(parent) = self.parent(at) {
+            at = parent;
+            levels += 1;
+        }
+        levels
+    }
+
+    /// The node so many levels above a node.
+    fn lifted(&self, id: NodeId, levels: u64) -> NodeId
+        requires has { IsSome (find id self.now.trees) }
+        requires enough { levels ≤ depth_of id self.now.trees }
+        ensures has { IsSome (find result self.now.trees) }
+        ensures level { depth_of result self.now.trees + levels ≡ depth_of id self.now.trees }
+        ensures kept { (path : List ℕ)
+            → length path ≤ depth_of result self.now.trees + 1
+            → shared (path_of id self.now.trees) path ≡ shared (path_of result self.now.trees) path }
+    {
+        self.facts();
+        let mut at = id;
+        for _ in 0..levels {
+            let Some(parent) = self.parent(at) else {
+                return at;
+            };
+            at = parent;
+        }
+        at
+    }
+
+    /// How many nodes two nodes of one level, which have `level` others above them, and what is above them have in common.
+    fn levels_shared(&self, a: NodeId, b: NodeId, level: u64) -> u64
+        requires has_a { IsSome (find a self.now.trees) }
+        requires has_b { IsSome (find b self.now.trees) }
+        requires level_a { depth_of a self.now.trees ≡ level }
+        requires level_b { depth_of b self.now.trees ≡ level }
+        requires few { level < 2 ^ 63 }
+        ensures shared { result ≡ shared (path_of a self.now.trees) (path_of b self.now.trees) }
+        ensures apart { a ≢ b → result ≤ level }
+        ensures most { result ≤ level + 1 }
+    {
+        self.facts();
+        let mut first = a;
+        let mut second = b;
+        let mut levels = level + 1;
+        while first != second {
+            let Some(above_first) = self.parent(first) else {
+                return 0;
+            };
+            let Some(above_second) = self.parent(second) else {
+                return 0;
+            };
+            first = above_first;
+            second = above_second;
+            levels -= 1;
+        }
+        levels
+    }
+
+    /// Whether the node `a` comes before the node `b` in document order, and how many levels from the root down tell it: those of
+    /// their nearest common ancestor-or-self, none where their trees differ, and one more where neither of them is an ancestor of the
+    /// other nor the other itself. More than a `u32` has room for are its greatest number. It takes no memory.
+    pub fn order_steps(&self, a: NodeId, b: NodeId) -> (bool, u32)
+        requires has_a { IsSome (find a self.now.trees) }
+        requires has_b { IsSome (find b self.now.trees) }
+        ensures before { result.0 ≡ precedes a b self.now.trees }
+        ensures steps { result.1 ≡ min (order_steps_of a b self.now.trees) (2 ^ 32 - 1) }
+        ensures few { (most : ℕ) → height self.now.trees ≤ most → result.1 ≤ most }
+    {
+        self.bounds();
+        let high = self.level(a);
+        let low = self.level(b);
+        let level = if high < low { high } else { low };
+        let first = self.lifted(a, high - level);
+        let second = self.lifted(b, low - level);
+        let mut steps = self.levels_shared(first, second, level);
+        if first != second {
+            steps += 1;
+        }
+        (self.before(a, b), u32::try_from(steps).unwrap_or(u32::MAX))
     }
 
     /// Makes a node with no parent, which takes the next identity.

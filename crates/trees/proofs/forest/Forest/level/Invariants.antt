@@ -1,0 +1,10 @@
+use Rattle.std.proofs.Common.{◌≡◌, ◌+◌, IsSome}
+use Rattle.trees.specs.Trees.{find}
+use Rattle.trees.specs.Walks.{depth_of}
+use Rattle.trees.proofs.forest.Forest.level.Given as goal
+
+abbrev pub invariant-loop-parent : goal.invariant-loop-parent
+invariant-loop-parent l = IsSome (find l.at l.self.trees) × (l.levels + depth_of l.at l.self.trees ≡ depth_of l.fn.id l.self.trees)
+
+abbrev pub decreases-loop-parent : goal.decreases-loop-parent
+decreases-loop-parent l = depth_of l.at l.self.trees
