@@ -1,0 +1,8 @@
+use Rattle.apply.proofs.Deletes.{any-order, once}
+use Rattle.apply.proofs.laws.deletes.Goals as goal
+
+pub returns-clause-order : goal.returns-clause-order
+returns-clause-order c = any-order
+
+pub returns-clause-once : goal.returns-clause-once
+returns-clause-once c = once
