@@ -1,9 +1,9 @@
 -- What is known of a connection whose tables were read.
-use Rattle.std.proofs.Common.{◌≡◌, ◌⊎◌, inl, inr, List, [], ◌∷◌, map, IsTrue, false, refl, sym, ap, subst, ◌∙◌, ⊎_elim, Result, Ok, Err, IfOk}
+use Rattle.std.proofs.Common.{◌≡◌, ◌⊎◌, inl, inr, List, [], ◌∷◌, map, IsTrue, false, sym, ap, subst, ◌∙◌, ⊎_elim, Result, Ok, Err, IfOk}
 use Rattle.std.specs.List.Sorted.{IsPermutation}
 use Rattle.sqlite.specs.Order.{Row}
 use Rattle.sqlite.specs.Tree.{Trees}
-use Rattle.sqlite.specs.Effect.{Database, IsDatabase}
+use Rattle.sqlite.specs.Effect.{Database}
 use Rattle.sqlite.specs.State.{State, IsUnchanged, IsLive}
 use Rattle.sqlite.proofs.Callers.{unchanged_then}
 use Rattle.sqlite_catalog.specs.Listing.{IsSound}
@@ -17,6 +17,13 @@ use Rattle.sql_records.specs.Holds.{Holds}
 use Rattle.sql_records.specs.Reading.{meta_shown, vote_shown, AreShown, ShowsMember}
 use Rattle.sql_records.proofs.Holding.{SettledAt, StaysAt}
 use Rattle.sql_records.proofs.Loaded.{loaded, one_record, SpeltApart}
+
+-- of a connection that is open only one record stands
+pub one_stands : (apart : SpeltApart) (s : State) (o : Setup) (a b : Record) → StaysAt s → IsTrue s.is_open → Holds s o a a → Holds s o b b → a ≡ b
+one_stands apart s o a b stays up x y = one_record apart o s.committed.trees a b (only_one (x.crash _ (stays up))) (only_one (y.crash _ (stays up)))
+  where
+    only_one : {db : Trees} {r : Record} → IsStored o db r ⊎ IsStored o db r → IsStored o db r
+    only_one e = ⊎_elim (λ h. h) (λ h. h) e
 
 module _ (old mid new : State) (o : Setup) (has : old.now.schema ≡ schema) (mode : old.in_transaction ≡ false) (settled : IsTrue old.is_open → old.now ≡ old.committed) (live : IsLive old)
     (first : IsUnchanged old mid) (second : IsUnchanged mid new) where
@@ -40,7 +47,7 @@ module _ (old mid new : State) (o : Setup) (has : old.now.schema ≡ schema) (mo
   sound = subst (λ s. IsSound s old.now.trees) has (live all.0.was_open).0
 
   pub read : (row : Row) (b : Ballot) (rows : List Row) (r : Record) → IsPermutation (map meta_shown (old.now.trees 0)) (row ∷ []) → ShowsMember o b row
-      → IsPermutation (map vote_shown (mid.now.trees 1)) rows → AreShown rows r.votes → r.promise ≡ b → IsRising r → IsStored o old.now.trees r
+      → IsPermutation (map vote_shown (mid.now.trees 1)) rows → AreShown b rows r.votes → r.promise ≡ b → IsRising r → IsStored o old.now.trees r
   read row b rows r metas m votes shown promise rising =
       loaded o old.now.trees sound row b rows r metas m (subst (λ (d : Database). IsPermutation (map vote_shown (d.trees 1)) rows) first.0.now_is votes) shown promise rising
 
@@ -51,7 +58,7 @@ module _ (old mid new : State) (o : Setup) (has : old.now.schema ≡ schema) (mo
       ⊎_elim (λ is. inl (one_record apart o old.committed.trees r a here is)) (λ is. inr (one_record apart o old.committed.trees r b here is)) (h.crash old.committed.trees (stays up))
 
   pub found : {E : Type 0} (apart : SpeltApart) → StaysAt old → SettledAt new → (row : Row) (b : Ballot) (rows : List Row) (result : Result Record E) → IsPermutation (map meta_shown (old.now.trees 0)) (row ∷ [])
-      → ShowsMember o b row → IsPermutation (map vote_shown (mid.now.trees 1)) rows → IfOk result (λ x. AreShown rows x.votes) → IfOk result (λ x. x.promise ≡ b) → IfOk result IsRising
+      → ShowsMember o b row → IsPermutation (map vote_shown (mid.now.trees 1)) rows → IfOk result (λ x. AreShown b rows x.votes) → IfOk result (λ x. x.promise ≡ b) → IfOk result IsRising
       → IfOk result (λ x. Holds new o x x × ((p q : Record) → Holds old o p q → (x ≡ p) ⊎ (x ≡ q)))
   found apart stays at_rest row b rows (Ok x) metas m votes shown promise rising =
       let stored = read row b rows x metas m votes shown promise rising in

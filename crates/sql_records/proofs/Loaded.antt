@@ -1,7 +1,6 @@
 -- From what the queries show to what the tables hold.
-use Rattle.std.proofs.Common.{◌≡◌, ◌≢◌, ◌⊎◌, inl, inr, ℕ, ◌+◌, ◌≤◌, ◌<◌, pos, suc, zero, List, [], ◌∷◌, ◌++◌, map, drop, length, fold, Bool, true, false, cond, ◌&&◌, ◌||◌, ◌==◌, IsTrue, Some, Option, refl, sym, ap, subst, subst₂, ◌∙◌, arith, get_or, codes}
-use Rattle.std.proofs.lemmas.Bool.{cases_Bool}
-use Rattle.std.specs.List.{swap, sum_by, Contains}
+use Rattle.std.proofs.Common.{◌≡◌, inl, inr, ℕ, ◌+◌, ◌≤◌, ◌<◌, suc, zero, List, [], ◌∷◌, ◌++◌, map, drop, length, fold, Bool, true, false, cond, ◌&&◌, ◌==◌, Some, Option, refl, sym, ap, subst, subst₂, ◌∙◌, arith, get_or, codes}
+use Rattle.std.specs.List.{swap, Contains}
 use Rattle.std.specs.List.Sorted.{IsPermutation, apply_swaps, SwapsInRange}
 use Rattle.std.proofs.lemmas.List.Sorted.{IsPermutation-map, IsPermutation-sym, sum_by-IsPermutation}
 use Rattle.std.proofs.Math.Seq.{map-set}
@@ -11,19 +10,17 @@ use Rattle.std.specs.Prelude.{slice_index_or, not}
 use Rattle.std.specs.List.{AllByRecursion}
 use Rattle.std.proofs.lemmas.Bool.Decides.{nat_tests}
 use Rattle.std.proofs.lemmas.List.Sorted.{Contains-permutation}
-use Rattle.sql_records.proofs.Upsert.{same_number, other_number}
+use Rattle.sql_records.proofs.Upsert.{same_number}
 use Rattle.ballots.specs.declared.value.Value.{Value as Proposed}
-use Rattle.ballots.specs.declared.value.Vote.{Vote}
 use Rattle.sqlite.specs.declared.types.Value.{Value}
 use Rattle.sqlite.specs.declared.types.Value.TheVariants.{Null, Int, Real, Text, Blob}
 use Rattle.sqlite_value.specs.Order.{column}
 use Rattle.sqlite.specs.Order.{Row}
 use Rattle.sqlite.specs.Tree.{Trees}
-use Rattle.sqlite.specs.Effect.{Database, IsDatabase}
 use Rattle.sqlite_sql.specs.Ops.{is_null}
 use Rattle.sqlite_schema.specs.declared.schema.Column.{Column}
 use Rattle.sqlite_schema.specs.declared.schema.Constraint.TheVariants.{Datatype, NotNull}
-use Rattle.sqlite_schema.specs.Rules.{are_typed, are_present, has_computed, Obeys}
+use Rattle.sqlite_schema.specs.Rules.{are_typed, are_present}
 use Rattle.sqlite_catalog.specs.Listing.{IsSound}
 use Rattle.sqlite.proofs.Callers.{one_permutation}
 use Rattle.ballots.specs.Terms.{Setup}
@@ -33,8 +30,8 @@ use Rattle.paxos.specs.Records.{Record}
 use Rattle.records.specs.Kept.{AreAbove, IsRising}
 use Rattle.ballots.specs.Spelling.{IsValue, value_spelling}
 use Rattle.sql_records.specs.Texts.{schema, meta_columns, votes_columns, key_column}
-use Rattle.sql_records.specs.Stored.{IsStored, meta_row, vote_row, times, joined}
-use Rattle.sql_records.specs.Reading.{meta_shown, vote_shown, Shows, AreShown, ShowsMember}
+use Rattle.sql_records.specs.Stored.{IsPromise, IsStored, MayStand, meta_row, vote_row, times}
+use Rattle.sql_records.specs.Reading.{meta_shown, vote_shown, AreShown, ShowsMember}
 
 -- ---- a row that obeys its table
 
@@ -227,19 +224,19 @@ unfolding widen
 wide [] typed present = refl
 wide (r ∷ rs) typed present = ap (λ x. x ∷ map widen (map vote_shown rs)) (sym (vote_shape r typed.0 present.0)) ∙ ap (λ xs. r ∷ xs) (wide rs typed.1 present.1)
 
-seen : (rows : List Row) (es : List Entry) → AreShown rows es → map widen rows ≡ map vote_row es
+seen : (b : Ballot) (rows : List Row) (es : List Entry) → AreShown b rows es → map widen rows ≡ map vote_row es
 unfolding widen
-seen [] [] h = refl
-seen [] (e ∷ es) h = absurd h
-seen (r ∷ rs) [] h = absurd h
-seen (r ∷ rs) (e ∷ es) h = let s = h.0 in rw (s.position, s.round, s.leader, s.value) (ap (λ xs. vote_row e ∷ xs) (seen rs es h.1))
+seen b [] [] h = refl
+seen b [] (e ∷ es) h = absurd h
+seen b (r ∷ rs) [] h = absurd h
+seen b (r ∷ rs) (e ∷ es) h = let s = h.0 in rw (s.position, s.round, s.leader, s.value) (ap (λ xs. vote_row e ∷ xs) (seen b rs es h.1))
 
-pub spelt : (rows : List Row) (es : List Entry) (e : Entry) → AreShown rows es → Has es e → IsValue e.vote.value
-spelt [] [] e h none = absurd none
-spelt [] (x ∷ es) e h has = absurd h
-spelt (r ∷ rs) [] e h none = absurd none
-spelt (r ∷ rs) (x ∷ es) e h (inl is) = subst (λ (y : Entry). IsValue y.vote.value) (sym is) h.0.spelt
-spelt (r ∷ rs) (x ∷ es) e h (inr has) = spelt rs es e h.1 has
+pub stand : (b : Ballot) (rows : List Row) (es : List Entry) (e : Entry) → AreShown b rows es → Has es e → MayStand b e
+stand b [] [] e h none = absurd none
+stand b [] (x ∷ es) e h has = absurd h
+stand b (r ∷ rs) [] e h none = absurd none
+stand b (r ∷ rs) (x ∷ es) e h (inl is) = subst (MayStand b) (sym is) h.0.stands
+stand b (r ∷ rs) (x ∷ es) e h (inr has) = stand b rs es e h.1 has
 
 single : {X Y : Type 0} (f : X → Y) (xs : List X) (y : Y) → map f xs ≡ y ∷ [] → (x : X) × ((xs ≡ x ∷ []) × (f x ≡ y))
 single f [] y h = absurd cc
@@ -257,12 +254,12 @@ module _ (o : Setup) (trees : Trees) (sound : IsSound schema trees) where
       it.1.0 ∙ ap (λ (r : Row). r ∷ []) (meta_shape it.0 typed present ∙ rw (s.id, s.version, s.group, s.member, s.members, s.docs, s.round, s.leader) refl)
 
   pub loaded : (row : Row) (b : Ballot) (rows : List Row) (r : Record) → IsPermutation (map meta_shown (trees 0)) (row ∷ []) → ShowsMember o b row
-      → IsPermutation (map vote_shown (trees 1)) rows → AreShown rows r.votes → r.promise ≡ b → IsRising r → IsStored o trees r
+      → IsPermutation (map vote_shown (trees 1)) rows → AreShown b rows r.votes → r.promise ≡ b → IsRising r → IsStored o trees r
   loaded row b rows r metas m moved shown promise rising =
       let typed = (sound.obeys.rules Datatype).1.0 in
       let present = (sound.obeys.rules NotNull).1.0 in
       let from : IsPermutation (map widen (map vote_shown (trees 1))) (map widen rows) = IsPermutation-map widen (map vote_shown (trees 1)) rows moved in
-      let same : IsPermutation (trees 1) (map vote_row r.votes) = subst₂ IsPermutation (wide (trees 1) typed present) (seen rows r.votes shown) from in
+      let same : IsPermutation (trees 1) (map vote_row r.votes) = subst₂ IsPermutation (wide (trees 1) typed present) (seen b rows r.votes shown) from in
       let it = unmapped vote_row r.votes (trees 1) (IsPermutation-sym _ _ same) in
       record {
         meta = subst (λ (c : Ballot). trees 0 ≡ meta_row o c.round c.member ∷ []) (sym promise) (member_row row b metas m);
@@ -272,7 +269,8 @@ module _ (o : Setup) (trees : Trees) (sound : IsSound schema trees) where
         sound = λ e has. has_moved it.0 r.votes e (IsPermutation-sym _ _ it.1.1) has;
         complete = λ e has. has_moved r.votes it.0 e it.1.1 has;
         rising = rising;
-        values = λ e has. spelt rows r.votes e shown has;
+        promise = subst IsPromise (sym promise) m.promise;
+        each = λ e has. subst (λ (c : Ballot). MayStand c e) (sym promise) (stand b rows r.votes e shown has);
       }
 
 -- ---- two records of one database
@@ -315,7 +313,7 @@ module _ (apart : SpeltApart) (o : Setup) (trees : Trees) where
       let there = has_map x.rows e (x.complete e has) in
       let it = map_has y.rows (vote_row e) (subst (λ rs. Has rs (vote_row e)) (sym x.votes ∙ y.votes) there) in
       let in_b = y.sound it.0 it.1.0 in
-      subst (Has b.votes) (sym (row_tells apart e it.0 (x.values e has) (y.values it.0 in_b) it.1.1)) in_b
+      subst (Has b.votes) (sym (row_tells apart e it.0 (x.each e has).value (y.each it.0 in_b).value it.1.1)) in_b
 
   pub one_record : (a b : Record) → IsStored o trees a → IsStored o trees b → a ≡ b
   unfolding ballot_of record_of

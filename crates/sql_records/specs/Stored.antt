@@ -1,11 +1,14 @@
 -- What the two tables hold for a record.
-use Rattle.std.specs.Prelude.{◌≡◌, ◌+◌, ◌≤◌, ◌==◌, ℕ, cond, List, [], ◌∷◌, ◌++◌, map, flat_map, pos}
+use Rattle.std.specs.Prelude.{◌≡◌, ◌⊎◌, ◌+◌, ◌≤◌, ◌==◌, ℕ, cond, false, List, [], ◌∷◌, ◌++◌, map, flat_map, pos}
 use Rattle.sqlite.specs.declared.types.Value.TheVariants.{Null, Int, Text, Blob}
 use Rattle.sqlite.specs.Order.{Row}
 use Rattle.sqlite.specs.Tree.{Trees}
 use Rattle.sqlite_rules.specs.Lists.{Has}
+use Rattle.ballots.specs.Ballot.{IsBallot, below, no_ballot}
+use Rattle.ballots.specs.Values.{positions}
 use Rattle.ballots.specs.Terms.{Setup}
 use Rattle.ballots.specs.Spelling.{IsValue, value_spelling}
+use Rattle.ballots.specs.declared.ballot.Ballot.{Ballot}
 use Rattle.ballots.specs.declared.value.Entry.{Entry}
 use Rattle.paxos.specs.Records.{Record}
 use Rattle.records.specs.Kept.{IsRising}
@@ -28,6 +31,17 @@ abbrev pub times : (position : ℕ) → List Entry → ℕ
 times p [] = 0
 times p (e ∷ es) = cond (e.position == p) 1 0 + times p es
 
+-- no ballot, or one that there may be
+abbrev pub IsPromise : Ballot → Type 0
+IsPromise b = (b ≡ no_ballot) ⊎ IsBallot b
+
+-- a vote that may stand under that promise: its ballot is not above it
+pub record MayStand (promise : Ballot) (e : Entry) : Type 0 where
+  pub most : e.position ≤ positions
+  pub ballot : IsBallot e.vote.ballot
+  pub under : below promise e.vote.ballot ≡ false
+  pub value : IsValue e.vote.value
+
 -- The trees hold the record of this member. In which order the rows of the votes stand is not known.
 pub record IsStored (o : Setup) (trees : Trees) (r : Record) : Type 0 where
   pub meta : trees 0 ≡ meta_row o r.promise.round r.promise.member ∷ []
@@ -37,4 +51,5 @@ pub record IsStored (o : Setup) (trees : Trees) (r : Record) : Type 0 where
   pub sound : (e : Entry) → Has rows e → Has r.votes e
   pub complete : (e : Entry) → Has r.votes e → Has rows e
   pub rising : IsRising r
-  pub values : (e : Entry) → Has r.votes e → IsValue e.vote.value
+  pub promise : IsPromise r.promise
+  pub each : (e : Entry) → Has r.votes e → MayStand r.promise e

@@ -20,13 +20,13 @@ use sqlite::{Alter, Connection, Error};
 use std::alloc::Global;
 
 /// Whether the tables are those of a record, and no transaction is under way.
-fn is_ready<S: Alter>(conn: &Connection<S>) -> bool
-    ensures schema { IsTrue result → (state S.Store conn.now).now.schema ≡ our_schema }
-    ensures mode { IsTrue result → (state S.Store conn.now).in_transaction ≡ false }
-    ensures settled { IsTrue result → IsTrue (state S.Store conn.now).is_open → (state S.Store conn.now).now ≡ (state S.Store conn.now).committed }
-    ensures live { IsTrue result → IsLive (state S.Store conn.now) }
+fn is_ready<S: Alter>(connection: &Connection<S>) -> bool
+    ensures schema { IsTrue result → (state S.Store connection.now).now.schema ≡ our_schema }
+    ensures mode { IsTrue result → (state S.Store connection.now).in_transaction ≡ false }
+    ensures settled { IsTrue result → IsTrue (state S.Store connection.now).is_open → (state S.Store connection.now).now ≡ (state S.Store connection.now).committed }
+    ensures live { IsTrue result → IsLive (state S.Store connection.now) }
 {
-    conn.is_autocommit() && is_ours(conn.schema())
+    connection.is_autocommit() && is_ours(connection.schema())
 }
 
 /// What an error of a query is to a record.
@@ -41,26 +41,26 @@ pub(super) fn fault_of(error: &Error) -> OpenFault {
 /// The record of this member that the tables hold.
 pub(super) fn load<S: Alter>(
     alloc: Global,
-    conn: &mut Connection<S>,
+    connection: &mut Connection<S>,
     setup: &Setup,
 ) -> Result<Record, OpenFault>
-    ensures found { HasCleanDisk (state S.Store conn.new) → IfOk result (λ r. Holds (state S.Store conn.new) setup.now r r
-        × ((a b : RecordTerm) → Holds (state S.Store conn.old) setup.now a b → (r ≡ a) ⊎ (r ≡ b))) }
-    ensures crash { HasCleanDisk (state S.Store conn.new) → (o : Owner) (a b : RecordTerm) → Holds (state S.Store conn.old) o a b → Holds (state S.Store conn.new) o a b }
-    ensures clean { doubt (state S.Store conn.old).is_clean ≤ doubt (state S.Store conn.new).is_clean }
+    ensures found { HasCleanDisk (state S.Store connection.new) → IfOk result (λ r. Holds (state S.Store connection.new) setup.now r r
+        × ((a b : RecordTerm) → Holds (state S.Store connection.old) setup.now a b → (r ≡ a) ⊎ (r ≡ b))) }
+    ensures crash { HasCleanDisk (state S.Store connection.new) → (o : Owner) (a b : RecordTerm) → Holds (state S.Store connection.old) o a b → Holds (state S.Store connection.new) o a b }
+    ensures clean { doubt (state S.Store connection.old).is_clean ≤ doubt (state S.Store connection.new).is_clean }
 {
     spellings();
-    if !is_ready(conn) {
+    if !is_ready(connection) {
         return Err(OpenFault::Damaged);
     }
-    let member = match meta_rows(conn) {
+    let member = match meta_rows(connection) {
         Ok(rows) => rows,
         Err(error) => return Err(fault_of(&error)),
     };
-    let votes = match vote_rows(conn) {
+    let votes = match vote_rows(connection) {
         Ok(rows) => rows,
         Err(error) => return Err(fault_of(&error)),
     };
     let promise = read_member(alloc, member.as_slice(), setup)?;
-    read_votes(alloc, votes.as_slice(), promise, setup.members().count())
+    read_votes(alloc, votes.as_slice(), promise)
 }

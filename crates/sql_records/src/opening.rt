@@ -5,6 +5,7 @@ ghost use Rattle.sqlite.specs.State.{HasCleanDisk};
 ghost use Rattle.sqlite.specs.Held.{state};
 ghost use Rattle.paxos.specs.Records.{Record as RecordTerm};
 ghost use Rattle.sql_records.specs.Holds.{Holds};
+ghost use Rattle.sql_records.specs.Opened.{owner};
 ghost use Rattle.sql_records.specs.Texts.{no_schema};
 
 use super::docs;
@@ -65,13 +66,17 @@ fn fill<S: Alter>(tx: &mut Transaction<'_, S>, setup: &Setup, docs: &str) -> Res
 }
 
 /// Makes the tables of a member with no promise, in one transaction.
-fn create<S: Alter>(alloc: Global, conn: &mut Connection<S>, setup: &Setup) -> Result<(), OpenFault>
-    requires { conn.old.in_transaction ≡ false }
+fn create<S: Alter>(
+    alloc: Global,
+    connection: &mut Connection<S>,
+    setup: &Setup,
+) -> Result<(), OpenFault>
+    requires { connection.old.in_transaction ≡ false }
 {
     let Ok(docs) = docs::joined(alloc, setup.names()) else {
         return Err(OpenFault::Memory);
     };
-    let mut tx = conn.transaction();
+    let mut tx = connection.transaction();
     if let Err(error) = fill(&mut tx, setup, docs.as_str()) {
         tx.rollback();
         return Err(fault_of(&error));
@@ -99,32 +104,32 @@ fn copy(alloc: Global, setup: &Setup) -> Result<Setup, OpenFault>
 }
 
 /// Whether the database has no tables, and no transaction is under way.
-fn is_new<S: Alter>(conn: &Connection<S>) -> bool
-    ensures mode { IsTrue result → conn.now.in_transaction ≡ false }
-    ensures schema { IsTrue result → (state S.Store conn.now).now.schema ≡ no_schema }
+fn is_new<S: Alter>(connection: &Connection<S>) -> bool
+    ensures mode { IsTrue result → connection.now.in_transaction ≡ false }
+    ensures schema { IsTrue result → (state S.Store connection.now).now.schema ≡ no_schema }
 {
-    conn.is_autocommit() && is_empty(conn.schema())
+    connection.is_autocommit() && is_empty(connection.schema())
 }
 
 /// Makes the tables where there are none, and reads the record of this member.
 fn prepare<S: Alter>(
     alloc: Global,
-    conn: &mut Connection<S>,
+    connection: &mut Connection<S>,
     setup: &Setup,
 ) -> Result<(), OpenFault>
-    ensures holds { HasCleanDisk (state S.Store conn.new) → OnOk result ((r : RecordTerm) × Holds (state S.Store conn.new) setup.now r r) }
-    ensures found { HasCleanDisk (state S.Store conn.new) → (state S.Store conn.old).now.schema ≢ no_schema → OnOk result ((r : RecordTerm) × Holds (state S.Store conn.new) setup.now r r
-        × ((a b : RecordTerm) → Holds (state S.Store conn.old) setup.now a b → (r ≡ a) ⊎ (r ≡ b))) }
+    ensures holds { HasCleanDisk (state S.Store connection.new) → OnOk result ((r : RecordTerm) × Holds (state S.Store connection.new) setup.now r r) }
+    ensures found { HasCleanDisk (state S.Store connection.new) → (state S.Store connection.old).now.schema ≢ no_schema → OnOk result ((r : RecordTerm) × Holds (state S.Store connection.new) setup.now r r
+        × ((a b : RecordTerm) → Holds (state S.Store connection.old) setup.now a b → (r ≡ a) ⊎ (r ≡ b))) }
 {
-    if is_new(conn) {
-        create(alloc, conn, setup)?;
-        let record = load(alloc, conn, setup)?;
+    if is_new(connection) {
+        create(alloc, connection, setup)?;
+        let record = load(alloc, connection, setup)?;
         if record.promise() != Ballot::NONE {
             return Err(OpenFault::Damaged);
         }
         return Ok(());
     }
-    let _record = load(alloc, conn, setup)?;
+    let _record = load(alloc, connection, setup)?;
     Ok(())
 }
 
@@ -132,8 +137,8 @@ impl<S: Alter> SqlRecords<S> {
     /// The records of this member in a database. A database with no tables is given those of a member with no promise.
     ///
     /// A refusal gives the connection back: want of memory (1), a store that failed (2), another member's records (3), and records
-    /// that are damaged (4), as are other tables and a ballot of a member above the setup's count. Where there were
-    /// no tables, a refusal may leave those that were made.
+    /// that are damaged (4), as are other tables, and a vote of a ballot above the promise. Where there were no tables, a refusal
+    /// may leave those that were made.
     pub fn open(
         alloc: Global,
         connection: Connection<S>,
@@ -142,7 +147,7 @@ impl<S: Alter> SqlRecords<S> {
         ensures holds { IfOk result (λ s. ⟦<SqlRecords<S> as Records>⟧.is_kept s → (r : RecordTerm) × ⟦<SqlRecords<S> as Records>⟧.stands s r r) }
         ensures found { (state S.Store connection).now.schema ≢ no_schema → IfOk result (λ s. ⟦<SqlRecords<S> as Records>⟧.is_kept s → (r : RecordTerm) × ⟦<SqlRecords<S> as Records>⟧.stands s r r
             × ((a b : RecordTerm) → Holds (state S.Store connection) setup.now a b → (r ≡ a) ⊎ (r ≡ b))) }
-        ensures whose { IfOk result (λ s. s.setup ≡ setup.now) }
+        ensures whose { IfOk result (λ s. owner s ≡ setup.now) }
     {
         let mut connection = connection;
         let setup = match copy(alloc, setup) {

@@ -1,11 +1,11 @@
 //! The write of a promise.
 
-ghost use Rattle.std.specs.Prelude.{◌≡◌, ◌<◌, ◌≤◌, ◌^◌, IsTrue, IfOk, OnOk, pos};
+ghost use Rattle.std.specs.Prelude.{◌≡◌, ◌≤◌, false, IsTrue, IfOk, OnOk, pos};
 ghost use Rattle.sqlite.specs.State.{HasCleanDisk};
 ghost use Rattle.sqlite_trees.specs.View.{doubt};
 ghost use Rattle.sqlite.specs.Held.{state};
 ghost use Rattle.ballots.specs.Terms.{Setup};
-ghost use Rattle.ballots.specs.Ballot.{IsBallot};
+ghost use Rattle.ballots.specs.Ballot.{IsBallot, below};
 ghost use Rattle.paxos.specs.Records.{Record, NewPromise, written};
 ghost use Rattle.records.specs.Law.{Puts};
 ghost use Rattle.sql_records.specs.Holds.{Failed, Holds, Written};
@@ -16,13 +16,13 @@ use records::RecordsFault;
 use sqlite::{Alter, Connection, Error, ErrorCode, Statement, params};
 
 /// Reads the statement. Nothing is written by it, and where it succeeds the connection is open.
-pub(super) fn look<S: Alter>(conn: &mut Connection<S>) -> Result<Statement, Error>
-    ensures holds { HasCleanDisk (state S.Store conn.new) → (o : Setup) (a b : Record) → Holds (state S.Store conn.old) o a b → Holds (state S.Store conn.new) o a b }
-    ensures open { HasCleanDisk (state S.Store conn.new) → OnOk result (IsTrue (state S.Store conn.new).is_open × IsTrue (state S.Store conn.old).is_open) }
-    ensures text { HasCleanDisk (state S.Store conn.new) → IfOk result (λ s. s.text ≡ promise_text) }
-    ensures clean { doubt (state S.Store conn.old).is_clean ≤ doubt (state S.Store conn.new).is_clean }
+pub(super) fn look<S: Alter>(connection: &mut Connection<S>) -> Result<Statement, Error>
+    ensures holds { HasCleanDisk (state S.Store connection.new) → (o : Setup) (a b : Record) → Holds (state S.Store connection.old) o a b → Holds (state S.Store connection.new) o a b }
+    ensures open { HasCleanDisk (state S.Store connection.new) → OnOk result (IsTrue (state S.Store connection.new).is_open × IsTrue (state S.Store connection.old).is_open) }
+    ensures text { HasCleanDisk (state S.Store connection.new) → IfOk result (λ s. s.text ≡ promise_text) }
+    ensures clean { doubt (state S.Store connection.old).is_clean ≤ doubt (state S.Store connection.new).is_clean }
 {
-    conn.prepare("UPDATE meta SET round = ?1, leader = ?2")
+    connection.prepare("UPDATE meta SET round = ?1, leader = ?2")
 }
 
 /// Whether memory was refused.
@@ -30,39 +30,43 @@ pub(super) fn is_memory(error: &Error) -> bool {
     matches!(error, Error::SqliteFailure(ErrorCode::OutOfMemory))
 }
 
-/// The number of a round as a parameter.
-pub(super) fn signed(n: u64) -> i64
-    requires { n < 2 ^ 40 }
-    ensures { result ≡ pos n }
+/// The ballot's round as a parameter.
+#[tactic(auto, unfolding(ballots::specs::Ballot::last_round))]
+pub(super) fn round_of(ballot: Ballot) -> i64
+    requires { IsBallot ballot }
+    ensures { result ≡ pos ballot.round }
 {
-    n as i64
+    ballot.round as i64
 }
 
 /// Runs the statement over an open connection.
 fn write<S: Alter>(
-    conn: &mut Connection<S>,
+    connection: &mut Connection<S>,
     statement: &Statement,
     ballot: Ballot,
 ) -> Result<usize, Error>
-    requires { ballot.round < 2 ^ 40 }
-    ensures law { HasCleanDisk (state S.Store conn.new) → statement.now.text ≡ promise_text → IsTrue (state S.Store conn.old).is_open → (o : Setup) (last : Record) → Holds (state S.Store conn.old) o last last
-        → Written (state S.Store conn.new) o last (written (NewPromise ballot) last) result }
-    ensures clean { doubt (state S.Store conn.old).is_clean ≤ doubt (state S.Store conn.new).is_clean }
+    requires { IsBallot ballot }
+    ensures law { HasCleanDisk (state S.Store connection.new) → statement.now.text ≡ promise_text → IsTrue (state S.Store connection.old).is_open → (o : Setup) (last : Record) → below ballot last.promise ≡ false → Holds (state S.Store connection.old) o last last
+        → Written (state S.Store connection.new) o last (written (NewPromise ballot) last) result }
+    ensures clean { doubt (state S.Store connection.old).is_clean ≤ doubt (state S.Store connection.new).is_clean }
 {
-    let round = signed(ballot.round);
+    let round = round_of(ballot);
     let member = u32::from(ballot.member);
-    statement.execute(conn, params![round, member])
+    statement.execute(connection, params![round, member])
 }
 
 /// What a write that failed left. It is the old record only if the connection is still open.
-pub(super) fn judge<S: Alter>(conn: &mut Connection<S>, error: &Error) -> Result<(), RecordsFault>
-    ensures law { HasCleanDisk (state S.Store conn.new) → (o : Setup) (last next : Record) → Failed (state S.Store conn.old) o last next → Puts (Holds (state S.Store conn.new) o) last next result }
-    ensures clean { doubt (state S.Store conn.old).is_clean ≤ doubt (state S.Store conn.new).is_clean }
+pub(super) fn judge<S: Alter>(
+    connection: &mut Connection<S>,
+    error: &Error,
+) -> Result<(), RecordsFault>
+    ensures law { HasCleanDisk (state S.Store connection.new) → (o : Setup) (last next : Record) → Failed (state S.Store connection.old) o last next → Puts (Holds (state S.Store connection.new) o) last next result }
+    ensures clean { doubt (state S.Store connection.old).is_clean ≤ doubt (state S.Store connection.new).is_clean }
 {
     if !is_memory(error) {
         return Err(RecordsFault::Store);
     }
-    match look(conn) {
+    match look(connection) {
         Ok(_) => Err(RecordsFault::Memory),
         Err(_) => Err(RecordsFault::Store),
     }
@@ -70,20 +74,21 @@ pub(super) fn judge<S: Alter>(conn: &mut Connection<S>, error: &Error) -> Result
 
 /// Acknowledges a promise.
 pub(super) fn put_promise<S: Alter>(
-    conn: &mut Connection<S>,
+    connection: &mut Connection<S>,
     ballot: Ballot,
 ) -> Result<(), RecordsFault>
-    requires { ballot.round < 2 ^ 40 }
-    ensures law { HasCleanDisk (state S.Store conn.new) → (o : Setup) (last : Record) → Holds (state S.Store conn.old) o last last → Puts (Holds (state S.Store conn.new) o) last (written (NewPromise ballot) last) result }
-    ensures clean { doubt (state S.Store conn.old).is_clean ≤ doubt (state S.Store conn.new).is_clean }
+    requires { IsBallot ballot }
+    ensures law { HasCleanDisk (state S.Store connection.new) → (o : Setup) (last : Record) → (IsTrue (state S.Store connection.old).is_open → below ballot last.promise ≡ false)
+        → Holds (state S.Store connection.old) o last last → Puts (Holds (state S.Store connection.new) o) last (written (NewPromise ballot) last) result }
+    ensures clean { doubt (state S.Store connection.old).is_clean ≤ doubt (state S.Store connection.new).is_clean }
 {
-    let statement = match look(conn) {
+    let statement = match look(connection) {
         Ok(statement) => statement,
         Err(error) if is_memory(&error) => return Err(RecordsFault::Memory),
         Err(_) => return Err(RecordsFault::Store),
     };
-    match write(conn, &statement, ballot) {
+    match write(connection, &statement, ballot) {
         Ok(_) => Ok(()),
-        Err(error) => judge(conn, &error),
+        Err(error) => judge(connection, &error),
     }
 }

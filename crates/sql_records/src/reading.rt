@@ -1,15 +1,18 @@
 //! From rows to a record.
 
 ghost use Rattle.std.specs.Prelude.{◌≡◌, ◌≤◌, ◌<◌, ◌+◌, ◌^◌, [], ◌∷◌, ◌↔◌, pos, IfOk, IsTrue};
+ghost use Rattle.ballots.specs.Ballot.{IsBallot};
+ghost use Rattle.ballots.specs.Values.{positions};
 ghost use Rattle.sqlite_value.specs.Order.{column};
 ghost use Rattle.sqlite.specs.declared.types.Value.TheVariants.{Int, Text};
 ghost use Rattle.ballots.specs.Spelling.{AreBytes, IsValue, value_spelling};
 ghost use Rattle.records.specs.Kept.{IsRising};
-ghost use Rattle.sql_records.specs.Stored.{joined};
+ghost use Rattle.sql_records.specs.Stored.{IsPromise, joined};
 ghost use Rattle.sql_records.specs.Reading.{AreShown, Shows, ShowsMember};
 
 use super::docs;
 use ballots::laws::spellings;
+use ballots::limits::{LAST_ROUND, MOST_MEMBERS, POSITIONS};
 use ballots::{Ballot, Entry, Setup, Value, ValueFault, Vote, take_value};
 use records::Record;
 use sqlite::types::FromSql;
@@ -29,12 +32,6 @@ pub enum OpenFault {
     /// They are damaged (4).
     Damaged,
 }
-
-/// The last position.
-const POSITIONS: u32 = 1_000_000;
-
-/// The last round.
-const LAST_ROUND: u64 = (1 << 40) - 1;
 
 /// The value in a column.
 fn column<T: FromSql>(row: &Row, at: usize) -> Result<T, OpenFault>
@@ -60,12 +57,31 @@ fn read_ballot(row: &Row, round: usize, leader: usize) -> Result<Ballot, OpenFau
     }
 }
 
-/// Whether it is a ballot of so many members.
-fn is_ballot(ballot: Ballot, members: u8) -> bool {
+/// Whether there may be that ballot.
+#[tactic(auto, unfolding(ballots::specs::Ballot::last_round))]
+fn is_ballot(ballot: Ballot) -> bool
+    ensures { IsTrue result → IsBallot ballot }
+{
     1 <= ballot.round
         && ballot.round <= LAST_ROUND
         && 1 <= ballot.member
-        && ballot.member <= members
+        && ballot.member <= MOST_MEMBERS
+}
+
+/// Whether there may be that promise.
+fn is_promise(ballot: Ballot) -> bool
+    ensures { IsTrue result → IsPromise ballot }
+{
+    ballot == Ballot::NONE || is_ballot(ballot)
+}
+
+/// Whether there may be that position.
+#[tactic(auto, unfolding(ballots::specs::Values::positions))]
+fn is_position(position: u32) -> bool
+    ensures least { IsTrue result → 1 ≤ position }
+    ensures most { IsTrue result → position ≤ positions }
+{
+    1 <= position && position <= POSITIONS
 }
 
 /// Bytes are numbers below 256.
@@ -93,18 +109,14 @@ fn read_value(alloc: Global, bytes: &[u8]) -> Result<Value, OpenFault>
     }
 }
 
-/// The vote that a row shows, of so many members, with a ballot that is not above the promise.
-fn read_vote(alloc: Global, row: &Row, promise: Ballot, members: u8) -> Result<Entry, OpenFault>
-    ensures shows { IfOk result (Shows row.now) }
+/// The vote that a row shows, with a ballot that is not above the promise.
+fn read_vote(alloc: Global, row: &Row, promise: Ballot) -> Result<Entry, OpenFault>
+    ensures shows { IfOk result (Shows promise row.now) }
     ensures least { IfOk result (λ e. 1 ≤ e.position) }
 {
     let position: u32 = column(row, 0)?;
     let ballot = read_ballot(row, 1, 2)?;
-    if position == 0
-        || position > POSITIONS
-        || !is_ballot(ballot, members)
-        || promise.is_below(ballot)
-    {
+    if !is_position(position) || !is_ballot(ballot) || promise.is_below(ballot) {
         return Err(OpenFault::Damaged);
     }
     let Ok(ValueRef::Blob(bytes)) = row.get_ref(3) else {
@@ -118,20 +130,15 @@ fn read_vote(alloc: Global, row: &Row, promise: Ballot, members: u8) -> Result<E
 }
 
 /// The record of these votes, whose positions rise, and that promise.
-pub(super) fn read_votes(
-    alloc: Global,
-    rows: &[Row],
-    promise: Ballot,
-    members: u8,
-) -> Result<Record, OpenFault>
-    ensures votes { IfOk result (λ r. AreShown rows.now r.votes) }
+pub(super) fn read_votes(alloc: Global, rows: &[Row], promise: Ballot) -> Result<Record, OpenFault>
+    ensures votes { IfOk result (λ r. AreShown promise rows.now r.votes) }
     ensures promise { IfOk result (λ r. r.promise ≡ promise) }
     ensures rising { IfOk result IsRising }
 {
     let mut record = Record::new(alloc);
     let mut last = 0;
     for row in rows {
-        let entry = read_vote(alloc, row, promise, members)?;
+        let entry = read_vote(alloc, row, promise)?;
         if entry.position <= last {
             return Err(OpenFault::Damaged);
         }
@@ -155,8 +162,7 @@ pub(super) fn read_member(alloc: Global, rows: &[Row], setup: &Setup) -> Result<
     let id: u32 = column(row, 0)?;
     let version: u32 = column(row, 1)?;
     let ballot = read_ballot(row, 6, 7)?;
-    let members = setup.members().count();
-    if id != 1 || version != 1 || (ballot != Ballot::NONE && !is_ballot(ballot, members)) {
+    if id != 1 || version != 1 || !is_promise(ballot) {
         return Err(OpenFault::Damaged);
     }
     if !is_of(alloc, row, setup)? {

@@ -2,11 +2,13 @@
 
 ghost use Rattle.std.specs.Prelude.{◌≡◌, None, false};
 ghost use Rattle.records.specs.Law.{Counts, Grew};
+ghost use Rattle.sql_records.specs.Opened.{connection_of};
 
 use super::load::load;
 use super::promise::put_promise;
 use super::reading::OpenFault;
 use super::vote::put_vote;
+use ballots::laws::spellings;
 use ballots::{Ballot, Setup, Value, put_value};
 use records::{Record, Records, RecordsFault};
 use sqlite::{Alter, Connection};
@@ -15,18 +17,18 @@ use std::alloc::Global;
 /// The record of one member in a SQLite database.
 #[derive(Drop)]
 pub struct SqlRecords<S: Alter> {
-    conn: Connection<S>,
+    connection: Connection<S>,
     setup: Setup,
     failures: u64,
 }
 
 impl<S: Alter> SqlRecords<S> {
     /// The records over a connection, with no failures.
-    pub(super) fn new(conn: Connection<S>, setup: Setup) -> SqlRecords<S>
-        ensures { result ≡ record { conn = conn; setup = setup; failures = 0 } }
+    pub(super) fn new(connection: Connection<S>, setup: Setup) -> SqlRecords<S>
+        ensures { result ≡ record { connection = connection; setup = setup; failures = 0 } }
     {
         SqlRecords {
-            conn,
+            connection,
             setup,
             failures: 0,
         }
@@ -34,14 +36,14 @@ impl<S: Alter> SqlRecords<S> {
 
     /// The connection.
     pub fn into_connection(self) -> Connection<S>
-        ensures { result ≡ self.conn }
+        ensures { result ≡ connection_of self }
     {
         let SqlRecords {
-            conn,
+            connection,
             setup: _,
             failures: _,
         } = self;
-        conn
+        connection
     }
 }
 
@@ -69,10 +71,11 @@ impl<S: Alter> Records for SqlRecords<S> {
     ghost use Rattle.sqlite.specs.State.{HasCleanDisk};
     ghost use Rattle.sqlite.specs.Held.{state};
     ghost use Rattle.sql_records.specs.Holds.{Holds};
+    ghost use Rattle.sql_records.specs.Opened.{connection_of, owner};
 
-    ghost stands = { λ s a b. Holds (state S.Store s.conn) s.setup a b };
+    ghost stands = { λ s a b. Holds (state S.Store (connection_of s)) (owner s) a b };
 
-    ghost is_kept = { λ s. HasCleanDisk (state S.Store s.conn) };
+    ghost is_kept = { λ s. HasCleanDisk (state S.Store (connection_of s)) };
 
     ghost failed = { λ s. s.failures };
 
@@ -81,7 +84,7 @@ impl<S: Alter> Records for SqlRecords<S> {
     ghost passes = { λ s. false };
 
     fn load(&mut self, alloc: Global) -> Result<Record, RecordsFault> {
-        match load(alloc, &mut self.conn, &self.setup) {
+        match load(alloc, &mut self.connection, &self.setup) {
             Ok(record) => Ok(record),
             Err(OpenFault::Memory) => Err(RecordsFault::Memory),
             Err(_) => Err(count(&mut self.failures)),
@@ -89,7 +92,8 @@ impl<S: Alter> Records for SqlRecords<S> {
     }
 
     fn put_promise(&mut self, _alloc: Global, ballot: Ballot) -> Result<(), RecordsFault> {
-        let done = put_promise(&mut self.conn, ballot);
+        spellings();
+        let done = put_promise(&mut self.connection, ballot);
         answer(&mut self.failures, done)
     }
 
@@ -100,11 +104,12 @@ impl<S: Alter> Records for SqlRecords<S> {
         position: u32,
         value: &Value,
     ) -> Result<(), RecordsFault> {
+        spellings();
         let mut bytes = Vec::new(alloc);
         if put_value(value, &mut bytes).is_err() {
             return Err(RecordsFault::Memory);
         }
-        let done = put_vote(&mut self.conn, ballot, position, bytes.as_slice());
+        let done = put_vote(&mut self.connection, ballot, position, bytes.as_slice());
         answer(&mut self.failures, done)
     }
 

@@ -1,8 +1,11 @@
 //! The write of a vote.
-ghost use Rattle.std.specs.Prelude.{◌≡◌, ◌<◌, ◌≤◌, ◌^◌, IsTrue, IfOk, OnOk, false};
+
+ghost use Rattle.std.specs.Prelude.{◌≡◌, ◌≤◌, IsTrue, IfOk, OnOk, false};
 ghost use Rattle.sqlite.specs.State.{HasCleanDisk};
 ghost use Rattle.sqlite_trees.specs.View.{doubt};
 ghost use Rattle.sqlite.specs.Held.{state};
+ghost use Rattle.ballots.specs.Ballot.{IsBallot, below};
+ghost use Rattle.ballots.specs.Values.{positions};
 ghost use Rattle.ballots.specs.Terms.{Setup};
 ghost use Rattle.ballots.specs.Spelling.{IsValue, value_spelling};
 ghost use Rattle.ballots.specs.declared.value.Value.{Value};
@@ -10,19 +13,20 @@ ghost use Rattle.paxos.specs.Records.{Record, NewPromise, NewVote, written};
 ghost use Rattle.records.specs.Law.{Puts};
 ghost use Rattle.sql_records.specs.Holds.{Holds, Under, Sees, Written};
 
-use super::promise::{is_memory, judge, look, signed};
+use super::promise::{is_memory, judge, look, round_of};
 use ballots::Ballot;
 use records::RecordsFault;
 use sqlite::{Alter, Connection, Error, Transaction, params};
 
+/// Writes the ballot as the promise, in the transaction.
 fn first<S: Alter>(tx: &mut Transaction<'_, S>, ballot: Ballot) -> Result<usize, Error>
-    requires { ballot.round < 2 ^ 40 }
+    requires { IsBallot ballot }
     ensures same_reference { tx.new.conn.ghost_name ≡ tx.old.conn.ghost_name }
-    ensures law { HasCleanDisk (state S.Store tx.new.conn.now) → (o : Setup) (last : Record) → Under (state S.Store tx.old.conn.now) o last → Sees (state S.Store tx.old.conn.now) o last
+    ensures law { HasCleanDisk (state S.Store tx.new.conn.now) → (o : Setup) (last : Record) → below ballot last.promise ≡ false → Under (state S.Store tx.old.conn.now) o last → Sees (state S.Store tx.old.conn.now) o last
         → Under (state S.Store tx.new.conn.now) o last × OnOk result (Sees (state S.Store tx.new.conn.now) o (written (NewPromise ballot) last)) }
     ensures clean { doubt (state S.Store tx.old.conn.now).is_clean ≤ doubt (state S.Store tx.new.conn.now).is_clean }
 {
-    let round = signed(ballot.round);
+    let round = round_of(ballot);
     let member = u32::from(ballot.member);
     tx.execute(
         "UPDATE meta SET round = ?1, leader = ?2",
@@ -30,20 +34,22 @@ fn first<S: Alter>(tx: &mut Transaction<'_, S>, ballot: Ballot) -> Result<usize,
     )
 }
 
+/// Writes the vote in the place of one at its position, in the transaction.
 fn second<S: Alter>(
     tx: &mut Transaction<'_, S>,
     ballot: Ballot,
     position: u32,
     value: &[u8],
 ) -> Result<usize, Error>
-    requires ballot { ballot.round < 2 ^ 40 }
+    requires ballot { IsBallot ballot }
     requires least { 1 ≤ position }
+    requires most { position ≤ positions }
     ensures same_reference { tx.new.conn.ghost_name ≡ tx.old.conn.ghost_name }
     ensures law { HasCleanDisk (state S.Store tx.new.conn.now) → (o : Setup) (last : Record) (v : Value) → value.now ≡ value_spelling v → IsValue v → Under (state S.Store tx.old.conn.now) o last → Sees (state S.Store tx.old.conn.now) o (written (NewPromise ballot) last)
         → Under (state S.Store tx.new.conn.now) o last × OnOk result (Sees (state S.Store tx.new.conn.now) o (written (NewVote position (record { ballot = ballot; value = v })) last)) }
     ensures clean { doubt (state S.Store tx.old.conn.now).is_clean ≤ doubt (state S.Store tx.new.conn.now).is_clean }
 {
-    let round = signed(ballot.round);
+    let round = round_of(ballot);
     let member = u32::from(ballot.member);
     tx.execute(
         "INSERT INTO votes (position, round, leader, value) VALUES (?1, ?2, ?3, ?4) ON CONFLICT (position) DO UPDATE SET round = ?2, leader = ?3, value = ?4",
@@ -51,21 +57,22 @@ fn second<S: Alter>(
     )
 }
 
-/// Runs both statements in one transaction.
+/// Writes the vote and its ballot as the promise, in one transaction.
 fn run<S: Alter>(
-    conn: &mut Connection<S>,
+    connection: &mut Connection<S>,
     ballot: Ballot,
     position: u32,
     value: &[u8],
 ) -> Result<(), Error>
-    requires ballot { ballot.round < 2 ^ 40 }
+    requires ballot { IsBallot ballot }
     requires least { 1 ≤ position }
-    requires mode { conn.old.in_transaction ≡ false }
-    ensures law { HasCleanDisk (state S.Store conn.new) → (o : Setup) (last : Record) (v : Value) → value.now ≡ value_spelling v → IsValue v → IsTrue (state S.Store conn.old).is_open → Holds (state S.Store conn.old) o last last
-        → Written (state S.Store conn.new) o last (written (NewVote position (record { ballot = ballot; value = v })) last) result }
-    ensures clean { doubt (state S.Store conn.old).is_clean ≤ doubt (state S.Store conn.new).is_clean }
+    requires most { position ≤ positions }
+    requires mode { connection.old.in_transaction ≡ false }
+    ensures law { HasCleanDisk (state S.Store connection.new) → (o : Setup) (last : Record) (v : Value) → value.now ≡ value_spelling v → IsValue v → IsTrue (state S.Store connection.old).is_open → below ballot last.promise ≡ false → Holds (state S.Store connection.old) o last last
+        → Written (state S.Store connection.new) o last (written (NewVote position (record { ballot = ballot; value = v })) last) result }
+    ensures clean { doubt (state S.Store connection.old).is_clean ≤ doubt (state S.Store connection.new).is_clean }
 {
-    let mut tx = conn.transaction();
+    let mut tx = connection.transaction();
     match first(&mut tx, ballot) {
         Ok(_) => {}
         Err(error) => {
@@ -85,27 +92,29 @@ fn run<S: Alter>(
 
 /// Acknowledges a vote, and its ballot as the promise.
 pub(super) fn put_vote<S: Alter>(
-    conn: &mut Connection<S>,
+    connection: &mut Connection<S>,
     ballot: Ballot,
     position: u32,
     value: &[u8],
 ) -> Result<(), RecordsFault>
-    requires ballot { ballot.round < 2 ^ 40 }
+    requires ballot { IsBallot ballot }
     requires least { 1 ≤ position }
-    ensures law { HasCleanDisk (state S.Store conn.new) → (o : Setup) (last : Record) (v : Value) → value.now ≡ value_spelling v → IsValue v → Holds (state S.Store conn.old) o last last
-        → Puts (Holds (state S.Store conn.new) o) last (written (NewVote position (record { ballot = ballot; value = v })) last) result }
-    ensures clean { doubt (state S.Store conn.old).is_clean ≤ doubt (state S.Store conn.new).is_clean }
+    requires most { position ≤ positions }
+    ensures law { HasCleanDisk (state S.Store connection.new) → (o : Setup) (last : Record) (v : Value) → value.now ≡ value_spelling v → IsValue v
+        → (IsTrue (state S.Store connection.old).is_open → below ballot last.promise ≡ false) → Holds (state S.Store connection.old) o last last
+        → Puts (Holds (state S.Store connection.new) o) last (written (NewVote position (record { ballot = ballot; value = v })) last) result }
+    ensures clean { doubt (state S.Store connection.old).is_clean ≤ doubt (state S.Store connection.new).is_clean }
 {
-    match look(conn) {
+    match look(connection) {
         Ok(_) => {}
         Err(error) if is_memory(&error) => return Err(RecordsFault::Memory),
         Err(_) => return Err(RecordsFault::Store),
     }
-    if !conn.is_autocommit() {
+    if !connection.is_autocommit() {
         return Err(RecordsFault::Store);
     }
-    match run(conn, ballot, position, value) {
+    match run(connection, ballot, position, value) {
         Ok(()) => Ok(()),
-        Err(error) => judge(conn, &error),
+        Err(error) => judge(connection, &error),
     }
 }

@@ -1,4 +1,3 @@
-use Rattle.std.proofs.Common.{◌≡◌, sym}
 use Rattle.sql_records.proofs.store.SqlRecords.open.Goals as goal
 
 pub returns-in-Ok-prepare-clause-found : goal.returns-in-Ok-prepare-clause-found

@@ -1,15 +1,19 @@
-use Rattle.std.proofs.Common.{◌≡◌, ◌<◌, ◌≤◌, ◌^◌, sym, subst, arith}
-use Rattle.ballots.specs.Ballot.{last_round}
+use Rattle.std.proofs.Common.{◌≡◌, false, IsTrue, sym, subst, arith}
+use Rattle.ballots.specs.Ballot.{below}
+use Rattle.sqlite.specs.State.{HasCleanDisk}
 use Rattle.sqlite.specs.Held.{state}
-use Rattle.paxos.specs.Records.{NewPromise, written}
+use Rattle.paxos.specs.Records.{Record, NewPromise, written}
 use Rattle.records.specs.Law.{Puts}
 use Rattle.sql_records.specs.Holds.{Holds}
+use Rattle.sql_records.proofs.Judged.{one_stands}
 use Rattle.sql_records.proofs.store.SqlRecordsRecords.put_promise.Goals as goal
-
-pub put_promise-done-requires : goal.put_promise-done-requires
-unfolding last_round
-put_promise-done-requires g c = let most = c.requires.ballot.1 in omega (arith, most)
 
 pub returns-clause-law : goal.returns-clause-law
 returns-clause-law g c clean last h =
-    subst (Puts (Holds (state g.S.Store c.put_promise-done.new.conn) c.args.self.now.setup) last (written (NewPromise c.args.ballot) last)) (sym c.answer.ensures.result) (c.put_promise-done.ensures.law clean c.args.self.now.setup last h)
+    let old = state g.S.Store c.args.self.now.connection in
+    let o = c.args.self.now.setup in
+    let was : HasCleanDisk old = omega (arith, c.put_promise-done.ensures.clean) in
+    let it = c.requires.not_below was in
+    let over : IsTrue old.is_open → below c.args.ballot last.promise ≡ false =
+    λ up. subst (λ (r : Record). below c.args.ballot r.promise ≡ false) (one_stands c.spellings.ensures.no_beginning old o it.0 last (λ s. g.met.S.Store.stays c.args.self.now.connection.store s) up it.1 h) it.2 in
+    subst (Puts (Holds (state g.S.Store c.put_promise-done.new.connection) o) last (written (NewPromise c.args.ballot) last)) (sym c.answer.ensures.result) (c.put_promise-done.ensures.law clean o last over h)
