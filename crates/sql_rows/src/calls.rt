@@ -1,0 +1,163 @@
+//! Calls of an acceptor over a database.
+//!
+//! `begin ROUND MEMBER`, `prepare ROUND MEMBER POSITION` and `accept POSITION ROUND MEMBER`, which votes for the no-op. What
+//! the rules refuse is `silent`.
+
+ghost use Rattle.std.specs.Prelude.{◌≡◌, ◌≤◌, true};
+ghost use Rattle.ballots.specs.Ballot.{IsBallot};
+ghost use Rattle.ballots.specs.Values.{positions};
+
+use super::opening::{first_setup, opened, shown};
+use acceptor::Acceptor;
+use ballots::limits::{LAST_ROUND, MOST_MEMBERS, POSITIONS};
+use ballots::{Ballot, Entry, Value, Vote, Window};
+use records::RecordsFault;
+use rows::{RowFault, Words};
+use sql_records::SqlRecords;
+use sqlite::MemStore;
+use std::alloc::Global;
+
+/// An acceptor over a database in memory.
+pub(super) type Kept = Acceptor<SqlRecords<MemStore>>;
+
+/// Whether there may be that ballot.
+#[tactic(auto, unfolding(ballots::specs::Ballot::last_round))]
+fn is_ballot(ballot: Ballot) -> bool
+    ensures { result ≡ true → IsBallot ballot }
+{
+    1 <= ballot.round
+        && ballot.round <= LAST_ROUND
+        && 1 <= ballot.member
+        && ballot.member <= MOST_MEMBERS
+}
+
+/// Whether there may be that position.
+#[tactic(auto, unfolding(ballots::specs::Values::positions))]
+fn is_position(position: u32) -> bool
+    ensures { result ≡ true → (1 ≤ position) × (position ≤ positions) }
+{
+    1 <= position && position <= POSITIONS
+}
+
+/// The next two words, a ballot. Fault: `NotARow`.
+fn ballot(words: &mut Words) -> Result<Ballot, RowFault> {
+    let round = words.number()?;
+    let member = u8::try_from(words.number()?).ok().ok_or(RowFault::NotARow)?;
+    Ok(Ballot { round, member })
+}
+
+/// The next word, a position. Fault: `NotARow`.
+fn position(words: &mut Words) -> Result<u32, RowFault> {
+    u32::try_from(words.number()?).ok().ok_or(RowFault::NotARow)
+}
+
+/// A vote for the no-op.
+fn vote(ballot: Ballot) -> Vote
+    ensures { result.ballot ≡ ballot }
+{
+    let value = Value::NoOp;
+    Vote { ballot, value }
+}
+
+/// The answers to the calls of a row, and what stands then.
+pub(super) fn plays(alloc: Global, mut words: Words) -> Result<String, RowFault> {
+    let text = words.text(alloc)?;
+    let setup = first_setup(alloc)?;
+    let mut acceptor = opened(alloc, &setup)?;
+    let mut answers = String::new(alloc);
+    for call in text.lines() {
+        play(alloc, &mut acceptor, call, &mut answers)?;
+    }
+    let connection = acceptor.into_records().into_connection();
+    answers.push_str(shown(alloc, connection, &setup)?.as_str())?;
+    Ok(answers)
+}
+
+/// Makes one call, and appends the answer. Faults: `NotARow`, and `Memory`.
+pub(super) fn play(
+    alloc: Global,
+    acceptor: &mut Kept,
+    call: &str,
+    answers: &mut String,
+) -> Result<(), RowFault> {
+    let mut words = Words::new(call);
+    let answer = match words.plain()? {
+        "begin" => begin(alloc, acceptor, &mut words)?,
+        "prepare" => prepare(alloc, acceptor, &mut words)?,
+        "accept" => accept(alloc, acceptor, &mut words)?,
+        _ => return Err(RowFault::NotARow),
+    };
+    answers.push_str(answer.as_str())?;
+    answers.push_str("; ")?;
+    Ok(())
+}
+
+/// What a failure of the store is to a row.
+fn failed(alloc: Global, fault: RecordsFault) -> Result<String, RowFault> {
+    match fault {
+        RecordsFault::Memory => Err(RowFault::Memory),
+        RecordsFault::Store => Ok(String::from_str(alloc, "store failed")?),
+    }
+}
+
+/// Promises a ballot of its own.
+fn begin(alloc: Global, acceptor: &mut Kept, words: &mut Words) -> Result<String, RowFault> {
+    let ballot = ballot(words)?;
+    let promised = acceptor.promised();
+    if !is_ballot(ballot) || !promised.is_below(ballot) {
+        return Err(RowFault::NotARow);
+    }
+    match acceptor.on_begin(alloc, ballot) {
+        Ok(()) => Ok(String::from_str(alloc, "begun")?),
+        Err(fault) => failed(alloc, fault),
+    }
+}
+
+/// Answers a Prepare.
+fn prepare(alloc: Global, acceptor: &mut Kept, words: &mut Words) -> Result<String, RowFault> {
+    let ballot = ballot(words)?;
+    let from = position(words)?;
+    if !is_ballot(ballot) {
+        return Err(RowFault::NotARow);
+    }
+    match acceptor.on_prepare(alloc, ballot, from) {
+        Ok(Some(window)) => window_text(alloc, &window),
+        Ok(None) => Ok(String::from_str(alloc, "silent")?),
+        Err(fault) => failed(alloc, fault),
+    }
+}
+
+/// The votes of a window.
+fn window_text(alloc: Global, window: &Window) -> Result<String, RowFault> {
+    let mut text = String::from_str(alloc, "promised")?;
+    for entry in window.entries.as_slice() {
+        push_vote(alloc, &mut text, entry)?;
+    }
+    Ok(text)
+}
+
+/// Appends a vote's position and ballot.
+fn push_vote(alloc: Global, text: &mut String, entry: &Entry) -> Result<(), RowFault> {
+    let (at, round, member) = (
+        entry.position,
+        entry.vote.ballot.round,
+        entry.vote.ballot.member,
+    );
+    let vote = format!(in alloc; " {round},{member} at {at}")?;
+    text.push_str(vote.as_str())?;
+    Ok(())
+}
+
+/// Answers an Accept.
+fn accept(alloc: Global, acceptor: &mut Kept, words: &mut Words) -> Result<String, RowFault> {
+    let position = position(words)?;
+    let ballot = ballot(words)?;
+    if !is_ballot(ballot) || !is_position(position) {
+        return Err(RowFault::NotARow);
+    }
+    match acceptor.on_accept(alloc, position, &vote(ballot)) {
+        Ok(true) => Ok(String::from_str(alloc, "accepted")?),
+        Ok(false) => Ok(String::from_str(alloc, "silent")?),
+        Err(fault) => failed(alloc, fault),
+    }
+}
