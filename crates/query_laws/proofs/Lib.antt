@@ -1,0 +1,5 @@
+pub mod Faults
+pub mod Spelt
+pub mod Standing
+pub mod Strings
+pub mod Written

@@ -1,0 +1,47 @@
+-- The data of the worked examples.
+use Rattle.std.specs.Prelude.{ℕ, Bool, List, [], ◌∷◌, codes}
+use Rattle.trees.specs.declared.axis.Axis.{Axis}
+use Rattle.trees.specs.declared.axis.Axis.TheVariants as axis
+use Rattle.query_grammar.specs.declared.ast.Binary.{Binary}
+use Rattle.query_grammar.specs.declared.ast.Expr.{Expr}
+use Rattle.query_grammar.specs.declared.ast.Expr.TheVariants as e
+use Rattle.query_grammar.specs.declared.ast.KindTest.{KindTest}
+use Rattle.query_grammar.specs.declared.ast.NodeTest.TheVariants as test
+use Rattle.query_grammar.specs.declared.ast.Operation.{Operation}
+use Rattle.static_checks.specs.Functions.{is_function}
+
+-- the element children of that name
+abbrev pub child : List ℕ → Expr
+child name = e.Step axis.Child (test.Name name) []
+
+abbrev pub a : Expr
+a = child (codes "a")
+
+abbrev pub b : Expr
+b = child (codes "b")
+
+abbrev pub c : Expr
+c = child (codes "c")
+
+abbrev pub none : Expr
+none = e.Sequence []
+
+-- the nodes on an axis that are named `a`
+abbrev pub on : Axis → Expr
+on axis = e.Step axis (test.Name (codes "a")) []
+
+-- the children of a kind
+abbrev pub of_kind : KindTest → Expr
+of_kind kind = e.Step axis.Child (test.Kind kind) []
+
+-- an operator and its right operand
+abbrev pub then : Binary → Expr → Operation Expr
+then operator x = record { operator = operator; operand = x }
+
+-- one operator between `a` and `b`
+abbrev pub between : Binary → Expr
+between operator = e.Chain a (then operator b ∷ [])
+
+-- whether there is a function of that name that takes none, one, two and three arguments
+abbrev pub takes : List ℕ → List Bool
+takes name = is_function name 0 ∷ is_function name 1 ∷ is_function name 2 ∷ is_function name 3 ∷ []

@@ -1,0 +1,4 @@
+pub mod Faults
+pub mod Examples
+pub mod Standing
+pub mod Written

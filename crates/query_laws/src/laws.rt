@@ -1,0 +1,102 @@
+//! Laws of texts and their expressions, each the contract of a function that does nothing.
+
+ghost use Rattle.std.specs.Prelude.{◌≡◌, ◌↔◌, ℕ, List, [], ◌∷◌, codes, length, Some, None, Err, true, false};
+ghost use Rattle.trees.specs.declared.axis.Axis.TheVariants as axis;
+ghost use Rattle.values.specs.declared.code.Code.{Code};
+ghost use Rattle.values.specs.declared.compare.Comparison.TheVariants as comparison;
+ghost use Rattle.values.specs.declared.operators.Operator.TheVariants as arithmetic;
+ghost use Rattle.query_grammar.specs.declared.ast.Binary.TheVariants as operator;
+ghost use Rattle.query_grammar.specs.declared.ast.Clause.TheVariants as clause;
+ghost use Rattle.query_grammar.specs.declared.ast.Expr.{Expr};
+ghost use Rattle.query_grammar.specs.declared.ast.Expr.TheVariants as e;
+ghost use Rattle.query_grammar.specs.declared.ast.KindTest.TheVariants as kind;
+ghost use Rattle.query_grammar.specs.declared.ast.Name.TheVariants.{Written, Computed};
+ghost use Rattle.query_grammar.specs.declared.ast.NodeTest.TheVariants as test;
+ghost use Rattle.query_grammar.specs.declared.ast.Place.TheVariants as place;
+ghost use Rattle.query_grammar.specs.declared.ast.Quantifier.TheVariants as quantifier;
+ghost use Rattle.query_grammar.specs.declared.ast.Sign.TheVariants.{Plus, Minus};
+ghost use Rattle.static_checks.specs.Functions.{is_function};
+ghost use Rattle.static_checks.specs.Static.{IsExpression, parsed};
+ghost use Rattle.std.specs.List.{All};
+ghost use Rattle.query_tokens.specs.Lexing.{tokens};
+ghost use Rattle.query_tokens.specs.Reading.{Gives};
+ghost use Rattle.query_tokens.specs.declared.token.Token.{Token};
+ghost use Rattle.query_laws.specs.Written.{HasXmlString};
+ghost use Rattle.query_laws.specs.Examples.{a, b, c, none, on, of_kind, then, between, takes};
+ghost use Rattle.query_laws.specs.Faults.{FirstFault, IsSpelt};
+ghost use Rattle.query_laws.specs.Standing.{StandsIn, IsPlaced};
+
+/// A text is refused with a code exactly where that is the code of the first pass in which a fault stands. The grammar's fault is that
+/// the tokens are spelt as no expression.
+pub fn first_fault()
+    ensures { (level : ℕ) (text : List ℕ) (code : Code) → (parsed level text ≡ Err code) ↔ FirstFault level text code }
+{}
+
+/// Each call in the expression of a text is of a function that there is, with a number of arguments that it takes.
+pub fn calls_are_known()
+    ensures { (level : ℕ) (text : List ℕ) (x : Expr) (name : List ℕ) (arguments : List Expr)
+        → IsExpression level text x → StandsIn (e.Call name arguments) x → is_function name (length arguments) ≡ true }
+{}
+
+/// In the expression of a text updating expressions stand only where they may, and each category is that of the inner parts.
+pub fn updates_are_placed()
+    ensures { (level : ℕ) (text : List ℕ) (x inner : Expr) → IsExpression level text x → StandsIn inner x → IsPlaced inner }
+{}
+
+/// Each string among the tokens of a text is the UTF-8 of characters of XML 1.0, of at most 65,536 bytes.
+pub fn strings_are_xml()
+    ensures { (text : List ℕ) (ts : List Token) (rest : List ℕ) → tokens text ≡ Gives ts rest → All HasXmlString ts }
+{}
+
+/// What some texts are spelt as: each axis, test, operator, sign, primary expression, constructor, clause, place and update stands in one.
+pub fn examples()
+    ensures axes { IsSpelt 1 (codes "child::a/descendant::a/descendant-or-self::a/self::a/attribute::a/parent::a/ancestor::a/following-sibling::a/preceding-sibling::a") (e.Path (on axis.Child) (on axis.Descendant ∷ on axis.DescendantOrSelf ∷ on axis.SelfAxis ∷ on axis.Attribute ∷ on axis.Parent ∷ on axis.Ancestor ∷ on axis.FollowingSibling ∷ on axis.PrecedingSibling ∷ [])) }
+    ensures kind_tests { IsSpelt 1 (codes "node(), document-node(), element(), text(), comment(), processing-instruction(), *") (e.Sequence (of_kind kind.AnyNode ∷ of_kind kind.Document ∷ of_kind kind.Element ∷ of_kind kind.Text ∷ of_kind kind.Comment ∷ of_kind kind.Instruction ∷ e.Step axis.Child test.AnyName [] ∷ [])) }
+    ensures short_axes { IsSpelt 1 (codes "@a/..") (e.Path (on axis.Attribute) (e.Step axis.Parent (test.Kind kind.AnyNode) [] ∷ [])) }
+    ensures short_paths { IsSpelt 1 (codes "a//b//@a[1]") (e.Path a (e.Step axis.Descendant (test.Name (codes "b")) [] ∷ e.Step axis.DescendantOrSelf (test.Kind kind.AnyNode) [] ∷ e.Step axis.Attribute (test.Name (codes "a")) (e.Integer 1 ∷ []) ∷ [])) }
+    ensures signs { IsSpelt 1 (codes "-+1") (e.Signed (Minus ∷ Plus ∷ []) (e.Integer 1)) }
+    ensures set_operators { IsSpelt 1 (codes "a intersect b except c, a union b | c") (e.Sequence (e.Chain a (then operator.Intersect b ∷ then operator.Except c ∷ []) ∷ e.Chain a (then operator.Union b ∷ then operator.Union c ∷ []) ∷ [])) }
+    ensures arithmetic_operators { IsSpelt 1 (codes "a * b idiv c mod 4, a + b - c") (e.Sequence (e.Chain a (then (operator.Arithmetic arithmetic.Multiply) b ∷ then (operator.Arithmetic arithmetic.IntegerDivide) c ∷ then (operator.Arithmetic arithmetic.Modulo) (e.Integer 4) ∷ []) ∷ e.Chain a (then (operator.Arithmetic arithmetic.Add) b ∷ then (operator.Arithmetic arithmetic.Subtract) c ∷ []) ∷ [])) }
+    ensures general_comparisons { IsSpelt 1 (codes "a = b, a != b, a < b, a <= b, a > b, a >= b") (e.Sequence (between (operator.General comparison.Equal) ∷ between (operator.General comparison.NotEqual) ∷ between (operator.General comparison.Less) ∷ between (operator.General comparison.LessOrEqual) ∷ between (operator.General comparison.Greater) ∷ between (operator.General comparison.GreaterOrEqual) ∷ [])) }
+    ensures value_comparisons { IsSpelt 1 (codes "a eq b, a ne b, a lt b, a le b, a gt b, a ge b") (e.Sequence (between (operator.Value comparison.Equal) ∷ between (operator.Value comparison.NotEqual) ∷ between (operator.Value comparison.Less) ∷ between (operator.Value comparison.LessOrEqual) ∷ between (operator.Value comparison.Greater) ∷ between (operator.Value comparison.GreaterOrEqual) ∷ [])) }
+    ensures other_operators { IsSpelt 1 (codes "a is b, a << b, a >> b, a to b, a and b, a or b") (e.Sequence (between operator.Is ∷ between operator.Precedes ∷ between operator.Follows ∷ between operator.To ∷ between operator.And ∷ between operator.Or ∷ [])) }
+    ensures levels { IsSpelt 1 (codes "a or a and a < a to a + a * a union a intersect b") (e.Chain a (then operator.Or (e.Chain a (then operator.And (e.Chain a (then (operator.General comparison.Less) (e.Chain a (then operator.To (e.Chain a (then (operator.Arithmetic arithmetic.Add) (e.Chain a (then (operator.Arithmetic arithmetic.Multiply) (e.Chain a (then operator.Union (between operator.Intersect) ∷ [])) ∷ [])) ∷ [])) ∷ [])) ∷ [])) ∷ [])) ∷ [])) }
+    ensures primaries { IsSpelt 1 (codes "7, 'b', $a, ., (), b(), b(a, c), a[b][c], (a)[b]") (e.Sequence (e.Integer 7 ∷ e.String (codes "b") ∷ e.Variable (codes "a") ∷ e.Context ∷ none ∷ e.Call (codes "b") [] ∷ e.Call (codes "b") (a ∷ c ∷ []) ∷ e.Step axis.Child (test.Name (codes "a")) (b ∷ c ∷ []) ∷ e.Filter a (b ∷ []) ∷ [])) }
+    ensures constructors { IsSpelt 1 (codes "document {a}, text {a}, comment {a}, element a {b}, element {a} {}, attribute a {b}, attribute {a} {}, processing-instruction a {b}, processing-instruction {a} {}") (e.Sequence (e.Document a ∷ e.Text a ∷ e.Comment a ∷ e.Element (Written (codes "a")) b ∷ e.Element (Computed a) none ∷ e.Attribute (Written (codes "a")) b ∷ e.Attribute (Computed a) none ∷ e.Instruction (Written (codes "a")) b ∷ e.Instruction (Computed a) none ∷ [])) }
+    ensures conditional { IsSpelt 1 (codes "if (a) then b else c") (e.If a b c) }
+    ensures quantified { IsSpelt 1 (codes "some $a in b, $b in c satisfies a, every $a in b satisfies c") (e.Sequence (e.Quantified quantifier.Some (record { variable = codes "a"; source = b } ∷ record { variable = codes "b"; source = c } ∷ []) a ∷ e.Quantified quantifier.Every (record { variable = codes "a"; source = b } ∷ []) c ∷ [])) }
+    ensures clauses { IsSpelt 1 (codes "for $a in b, $c at $d in a let $b := c where a order by a, b ascending, c descending return b") (e.Flwor (clause.For (record { variable = codes "a"; source = b }) ∷ clause.ForAt (record { variable = codes "c"; source = a }) (codes "d") ∷ clause.Let (record { variable = codes "b"; source = c }) ∷ []) (Some a) (record { key = a; is_descending = false } ∷ record { key = b; is_descending = false } ∷ record { key = c; is_descending = true } ∷ []) b) }
+    ensures result_alone { IsSpelt 1 (codes "let $a := b return c") (e.Flwor (clause.Let (record { variable = codes "a"; source = b }) ∷ []) None [] c) }
+    ensures insertions { IsSpelt 1 (codes "insert node a into b, insert nodes a as first into b, insert node a as last into b, insert node a after b, insert node a before b") (e.Sequence (e.Insert a place.Into b ∷ e.Insert a place.FirstInto b ∷ e.Insert a place.LastInto b ∷ e.Insert a place.After b ∷ e.Insert a place.Before b ∷ [])) }
+    ensures other_updates { IsSpelt 1 (codes "delete node a, delete nodes a, replace node a with b, replace value of node a with b, rename node a as b") (e.Sequence (e.Delete a ∷ e.Delete a ∷ e.ReplaceNode a b ∷ e.ReplaceValue a b ∷ e.Rename a b ∷ [])) }
+    ensures copied { IsSpelt 2 (codes "copy $a := b, $b := c modify a return b") (e.Copy (record { variable = codes "a"; source = b } ∷ record { variable = codes "b"; source = c } ∷ []) a b) }
+{}
+
+/// How many arguments each function takes, of none to three. A name of no function takes none of these.
+pub fn functions()
+    ensures true_ { takes (codes "true") ≡ true ∷ false ∷ false ∷ false ∷ [] }
+    ensures false_ { takes (codes "false") ≡ true ∷ false ∷ false ∷ false ∷ [] }
+    ensures position_ { takes (codes "position") ≡ true ∷ false ∷ false ∷ false ∷ [] }
+    ensures last_ { takes (codes "last") ≡ true ∷ false ∷ false ∷ false ∷ [] }
+    ensures root_ { takes (codes "root") ≡ true ∷ true ∷ false ∷ false ∷ [] }
+    ensures name_ { takes (codes "name") ≡ true ∷ true ∷ false ∷ false ∷ [] }
+    ensures string_ { takes (codes "string") ≡ true ∷ true ∷ false ∷ false ∷ [] }
+    ensures doc_ { takes (codes "doc") ≡ false ∷ true ∷ false ∷ false ∷ [] }
+    ensures data_ { takes (codes "data") ≡ false ∷ true ∷ false ∷ false ∷ [] }
+    ensures count_ { takes (codes "count") ≡ false ∷ true ∷ false ∷ false ∷ [] }
+    ensures empty_ { takes (codes "empty") ≡ false ∷ true ∷ false ∷ false ∷ [] }
+    ensures exists_ { takes (codes "exists") ≡ false ∷ true ∷ false ∷ false ∷ [] }
+    ensures reverse_ { takes (codes "reverse") ≡ false ∷ true ∷ false ∷ false ∷ [] }
+    ensures not_ { takes (codes "not") ≡ false ∷ true ∷ false ∷ false ∷ [] }
+    ensures boolean_ { takes (codes "boolean") ≡ false ∷ true ∷ false ∷ false ∷ [] }
+    ensures string_length_ { takes (codes "string-length") ≡ false ∷ true ∷ false ∷ false ∷ [] }
+    ensures sum_ { takes (codes "sum") ≡ false ∷ true ∷ false ∷ false ∷ [] }
+    ensures distinct_values_ { takes (codes "distinct-values") ≡ false ∷ true ∷ false ∷ false ∷ [] }
+    ensures contains_ { takes (codes "contains") ≡ false ∷ false ∷ true ∷ false ∷ [] }
+    ensures starts_with_ { takes (codes "starts-with") ≡ false ∷ false ∷ true ∷ false ∷ [] }
+    ensures ends_with_ { takes (codes "ends-with") ≡ false ∷ false ∷ true ∷ false ∷ [] }
+    ensures string_join_ { takes (codes "string-join") ≡ false ∷ false ∷ true ∷ false ∷ [] }
+    ensures concat_ { takes (codes "concat") ≡ false ∷ false ∷ true ∷ true ∷ [] }
+    ensures node_ { takes (codes "node") ≡ false ∷ false ∷ false ∷ false ∷ [] }
+    ensures id_ { takes (codes "id") ≡ false ∷ false ∷ false ∷ false ∷ [] }
+{}

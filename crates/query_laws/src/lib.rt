@@ -1,0 +1,4 @@
+//! Laws of texts and their expressions, in the words of those who read expressions.
+#![tactic(auto)]
+
+pub mod laws;
