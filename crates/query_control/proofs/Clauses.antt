@@ -1,0 +1,37 @@
+-- The first clause of a FLWOR expression, the first binding of a quantified one.
+use Rattle.std.proofs.Common.{Bool, ◌≡◌, List, ◌∷◌, ℕ, map, Result, Ok, sym, ap, ◌∙◌, subst}
+use Rattle.values.specs.declared.fault.ValueFault.{ValueFault}
+use Rattle.values.specs.declared.atom.Item.{Item}
+use Rattle.query_grammar.specs.declared.ast.Expr.{Expr}
+use Rattle.query_grammar.specs.declared.ast.Binding.{Binding}
+use Rattle.query_grammar.specs.declared.ast.Clause.{Clause}
+use Rattle.query_grammar.specs.declared.ast.Clause.TheVariants as clause
+use Rattle.query_grammar.specs.declared.ast.Quantifier.{Quantifier}
+use Rattle.query_meaning.specs.Environment.{Environment}
+use Rattle.query_meaning.specs.Meaning.{mean}
+use Rattle.query_meaning.specs.Running.{M, Run}
+use Rattle.query_meaning.specs.Sequences.{Meaning, satisfied, tuples, until_decided}
+use Rattle.query_control.specs.Gives.{Any, Gives, GivesIn, Stand}
+use Rattle.query_control.specs.Parts.{binding_of, clause_of, source_of, for_each_at, satisfied_by}
+use Rattle.query_control.proofs.Each.{then_gives}
+
+-- a `for` clause with a position
+pub tuples_for_at : (cs : List (Clause Expr)) (c : Clause Expr) (rest : List (Clause Expr)) (b : Binding Expr) (at : List ℕ) (source : Expr) (k : Environment → List Item → M (List Item)) (env : Environment)
+    (items seen given : List Item) (old mid new : Run) (r : Result (List Item) ValueFault)
+    → cs ≡ c ∷ rest → c ≡ clause.ForAt b at → source ≡ source_of c → GivesIn Stand (mean source env) old (Ok items) mid → seen ≡ items
+    → Gives (for_each_at b.variable at (map (clause_of mean) rest) k env seen given) mid r new → Gives (tuples (map (clause_of mean) cs) k env given) old r new
+tuples_for_at cs c rest b at source k env items seen given old mid new r is form of g same h =
+    let P : List (Clause Expr) → Type 0 = λ cs. Gives (tuples (map (clause_of mean) cs) k env given) old r new in
+    let Q : Expr → Type 0 = λ x. GivesIn Stand (mean x env) old (Ok items) mid in
+    let R : List Item → Type 0 = λ xs. Gives (for_each_at b.variable at (map (clause_of mean) rest) k env xs given) mid r new in
+    subst P (sym (is ∙ ap (λ c. c ∷ rest) form)) (then_gives Stand Stand (mean b.source env) (λ items. for_each_at b.variable at (map (clause_of mean) rest) k env items given) old mid new items r (subst Q (of ∙ ap source_of form) g) (subst R same h))
+
+-- the first of several bindings
+pub satisfied_first : (q : Quantifier) (bs : List (Binding Expr)) (b : Binding Expr) (rest : List (Binding Expr)) (m : Meaning) (env : Environment)
+    (items seen : List Item) (old mid new : Run) (r : Result Bool ValueFault)
+    → bs ≡ b ∷ rest → GivesIn Stand (mean b.source env) old (Ok items) mid → seen ≡ items
+    → GivesIn Any (until_decided q (satisfied_by q b.variable (map (binding_of mean) rest) m env) seen) mid r new → GivesIn Any (satisfied q (map (binding_of mean) bs) m env) old r new
+satisfied_first q bs b rest m env items seen old mid new r is g same h =
+    let P : List (Binding Expr) → Type 0 = λ bs. GivesIn Any (satisfied q (map (binding_of mean) bs) m env) old r new in
+    let R : List Item → Type 0 = λ xs. GivesIn Any (until_decided q (satisfied_by q b.variable (map (binding_of mean) rest) m env) xs) mid r new in
+    subst P (sym is) (then_gives Stand Any (mean b.source env) (until_decided q (satisfied_by q b.variable (map (binding_of mean) rest) m env)) old mid new items r g (subst R same h))

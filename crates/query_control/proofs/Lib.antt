@@ -1,0 +1,5 @@
+pub mod Calls
+pub mod Clauses
+pub mod Deciding
+pub mod Each
+pub mod Values

@@ -1,0 +1,37 @@
+-- Values of variables.
+use Rattle.std.proofs.Common.{◌≡◌, ℕ, zero, suc, List, [], ◌∷◌, Some, Bool, true, false, cond, sym, ap, ap₂, Ok, ◌∙◌, arith, subst}
+use Rattle.std.specs.List.{All}
+use Rattle.std.specs.Str.{bytes_eq}
+use Rattle.values.specs.declared.atom.Item.{Item}
+use Rattle.query_meaning.specs.Environment.{Bound, value_in}
+use Rattle.query_meaning.specs.Running.{Run, come_to}
+use Rattle.query_control.specs.Gives.{Stand, GivesIn, IsReady}
+use Rattle.query_meaning.specs.Sequences.{variable}
+use Rattle.query_meaning.specs.Environment.{Environment, with_variable}
+use Rattle.query_control.proofs.Each.{grows_refl}
+use Rattle.values.specs.Atoms.{or_fault}
+use Rattle.values.specs.declared.code.Code.TheVariants.{XPST0008}
+use Rattle.std.proofs.lemmas.Option.{none-some, same_Some}
+
+-- the value of a variable stands where all of them do
+pub of_value : (name : List ℕ) (bs : List Bound) (run : Run) (items : List Item) → All (λ b. Stand b.items run) bs → value_in name bs ≡ Some items → Stand items run
+of_value name [] run items all e = absurd (none-some _ e)
+of_value name (b ∷ bs) run items all e = first (bytes_eq name b.variable) e (of_value name bs run items (λ k d below. all (suc k) d (omega (arith, below))))
+  where
+    first : (t : Bool) → cond t (Some b.items) (value_in name bs) ≡ Some items → (value_in name bs ≡ Some items → Stand items run) → Stand items run
+    first true e rest = let P : List Item → Type 0 = λ xs. Stand xs run in subst P (same_Some _ _ e) (all zero b (omega arith))
+    first false e rest = rest e
+
+pub variable_found : (name n : List ℕ) (vs : List Bound) (env : Environment) (run : Run) (items copied : List Item)
+    → Some items ≡ value_in n vs → n ≡ name → vs ≡ env.variables → copied ≡ items → IsReady env run → GivesIn Stand (variable name env) run (Ok copied) run
+variable_found name n vs env run items copied found same_name same_variables same ready =
+    let there : value_in name env.variables ≡ Some copied = sym (ap₂ value_in same_name same_variables) ∙ sym found ∙ ap (λ i. Some i) (sym same) in
+    (ap (λ o. come_to (or_fault XPST0008 o) run) there, (grows_refl run, of_value name env.variables run copied ready.variables there))
+
+-- with one variable more
+pub ready_with : (x : List ℕ) (items : List Item) (env : Environment) (run : Run) → IsReady env run → Stand items run → IsReady (with_variable x items env) run
+ready_with x items env run ready stand = record { focus = ready.focus; variables = all }
+  where
+    all : All (λ b. Stand b.items run) (record { variable = x; items = items } ∷ env.variables)
+    all zero d below = stand
+    all (suc k) d below = ready.variables k d (omega (arith, below))

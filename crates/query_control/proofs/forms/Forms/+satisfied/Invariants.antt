@@ -1,0 +1,18 @@
+use Rattle.std.proofs.Common.{◌+◌, ◌*◌, length, map}
+use Rattle.query_meaning.specs.Meaning.{mean}
+use Rattle.query_control.specs.Parts.{binding_of, satisfied_by}
+use Rattle.query_control.proofs.Deciding.{Seeks}
+use Rattle.query_control.proofs.forms.Forms.+satisfied.Given as goal
+
+abbrev pub decreases-satisfied : goal.decreases-satisfied
+decreases-satisfied g l = 3 * length l.bindings.now
+
+abbrev pub decreases-until_decided : goal.decreases-until_decided
+decreases-until_decided g l = 3 * length l.bindings.now + 2
+
+abbrev pub decreases-satisfied_by : goal.decreases-satisfied_by
+decreases-satisfied_by g l = 3 * length l.bindings.now + 1
+
+abbrev pub invariant-until_decided-loop-item : goal.invariant-until_decided-loop-item
+invariant-until_decided-loop-item g l =
+    Seeks l.fn.quantifier (λ x. satisfied_by l.fn.quantifier l.fn.variable (map (binding_of mean) l.fn.bindings) (mean l.fn.test) l.fn.env x) l.fn.items l.fn.run l.item-index l.run

@@ -1,0 +1,6 @@
+pub mod Around
+pub mod Evaluates
+pub mod Gives
+pub mod Linked
+pub mod Parts
+pub mod Within

@@ -1,0 +1,165 @@
+//! Forms over a function that evaluates their parts, so that each is proved by itself: literals, variables, the context item, the comma
+//! and `if`.
+
+ghost use Rattle.std.specs.Prelude.{◌≡◌, ◌∷◌, [], map, Some};
+ghost use Rattle.query_meaning.specs.Meaning.{mean};
+ghost use Rattle.query_meaning.specs.Sequences as meaning;
+ghost use Rattle.query_control.specs.Evaluates.{Evaluates};
+ghost use Rattle.query_control.specs.Gives.{Any, Gives, GivesIn, IsReady, Stand};
+
+use crate::environment::Environment;
+use crate::evaluation::Evaluation;
+use crate::sequence::Sequence;
+use query_grammar::Expr;
+use sqlite_items::{Boxed, Items};
+use values::{Atom, Code, Item, Text, ValueFault, truth};
+
+/// The forms of expressions, over a function that evaluates their parts.
+#[derive(Clone, Copy)]
+pub struct Forms<F> {
+    /// The function.
+    pub value_of: F,
+}
+
+impl<F: Fn(&mut Evaluation, &Expr, &Environment) -> Result<Sequence, ValueFault>> Forms<F> {
+    /// The value of a part.
+    pub(crate) fn value_of(
+        &self,
+        run: &mut Evaluation,
+        x: &Expr,
+        env: &Environment,
+    ) -> Result<Sequence, ValueFault>
+        requires evaluates { Evaluates (F.pre self.now.value_of) (F.post self.now.value_of) (x.now ∷ []) }
+        requires ready { IsReady env.now run.old }
+        ensures { Gives (mean x.now env.now) run.old result run.new }
+    {
+        (self.value_of)(run, x, env)
+    }
+
+    /// The effective boolean value of a part (XQuery 1.0, section 2.4.3).
+    pub(crate) fn holds(
+        &self,
+        run: &mut Evaluation,
+        x: &Expr,
+        env: &Environment,
+    ) -> Result<bool, ValueFault>
+        requires evaluates { Evaluates (F.pre self.now.value_of) (F.post self.now.value_of) (x.now ∷ []) }
+        requires ready { IsReady env.now run.old }
+        ensures { GivesIn Any (meaning.tested (Some (mean x.now)) env.now) run.old result run.new }
+    {
+        let items = self.value_of(run, x, env)?;
+        Ok(truth(items.as_slice())?)
+    }
+
+    /// `if (a) then b else c` (XQuery 1.0, section 3.10).
+    pub fn conditional(
+        &self,
+        run: &mut Evaluation,
+        test: &Boxed<Expr>,
+        then: &Boxed<Expr>,
+        otherwise: &Boxed<Expr>,
+        env: &Environment,
+    ) -> Result<Sequence, ValueFault>
+        requires evaluates { Evaluates (F.pre self.now.value_of) (F.post self.now.value_of) (test.now ∷ then.now ∷ otherwise.now ∷ []) }
+        requires ready { IsReady env.now run.old }
+        ensures { Gives (meaning.conditional (mean test.now) (mean then.now) (mean otherwise.now) env.now) run.old result run.new }
+    {
+        if self.holds(run, test.get(), env)? {
+            self.value_of(run, then.get(), env)
+        } else {
+            self.value_of(run, otherwise.get(), env)
+        }
+    }
+
+    /// `a, b, ..` (XQuery 1.0, section 3.3.1). Code: that of the first part that has one, or PXQ0002 at the part that brings the
+    /// 10,001st item.
+    pub fn sequence(
+        &self,
+        run: &mut Evaluation,
+        parts: &Items<Expr>,
+        env: &Environment,
+    ) -> Result<Sequence, ValueFault>
+        requires evaluates { Evaluates (F.pre self.now.value_of) (F.post self.now.value_of) parts.now }
+        requires ready { IsReady env.now run.old }
+        ensures { Gives (meaning.sequence (map mean parts.now) env.now) run.old result run.new }
+    {
+        self.in_turn(run, parts.as_slice(), env)
+    }
+
+    fn in_turn(
+        &self,
+        run: &mut Evaluation,
+        parts: &[Expr],
+        env: &Environment,
+    ) -> Result<Sequence, ValueFault>
+        requires evaluates { Evaluates (F.pre self.now.value_of) (F.post self.now.value_of) parts.now }
+        requires ready { IsReady env.now run.old }
+        ensures { Gives (meaning.sequence (map mean parts.now) env.now) run.old result run.new }
+    {
+        let mut given = Sequence::new(run.alloc());
+        for part in parts {
+            given = self.and_items(run, given, part, env)?;
+        }
+        Ok(given)
+    }
+
+    /// The items before, and then those of an expression.
+    pub(crate) fn and_items(
+        &self,
+        run: &mut Evaluation,
+        given: Sequence,
+        x: &Expr,
+        env: &Environment,
+    ) -> Result<Sequence, ValueFault>
+        requires evaluates { Evaluates (F.pre self.now.value_of) (F.post self.now.value_of) (x.now ∷ []) }
+        requires ready { IsReady env.now run.old }
+        requires stand { Stand given run.old }
+        ensures { Gives (meaning.and_items env.now given (mean x.now)) run.old result run.new }
+    {
+        let items = self.value_of(run, x, env)?;
+        given.joined(items)
+    }
+}
+
+/// A number (XQuery 1.0, section 3.1.1). Code: FOAR0002 from 2^63 on.
+pub fn number(run: &mut Evaluation, value: u64, env: &Environment) -> Result<Sequence, ValueFault>
+    ensures { Gives (meaning.number value env.now) run.old result run.new }
+{
+    match i64::try_from(value) {
+        Ok(value) => Ok(Sequence::one(run.alloc(), Item::Atomic(Atom::Integer(value)))?),
+        Err(_) => Err(ValueFault::Code(Code::FOAR0002)),
+    }
+}
+
+/// A string (XQuery 1.0, section 3.1.1).
+pub fn string(run: &mut Evaluation, text: &Text, env: &Environment) -> Result<Sequence, ValueFault>
+    ensures { Gives (meaning.string text.now env.now) run.old result run.new }
+{
+    Ok(Sequence::one(run.alloc(), Item::Atomic(Atom::String(text.clone()?)))?)
+}
+
+/// `$name` (XQuery 1.0, section 3.1.2). Code: XPST0008 where no variable has that name.
+pub fn variable(
+    run: &mut Evaluation,
+    name: &Text,
+    env: &Environment,
+) -> Result<Sequence, ValueFault>
+    requires ready { IsReady env.now run.old }
+    ensures { Gives (meaning.variable name.now env.now) run.old result run.new }
+{
+    match env.variables().get(name.as_str()) {
+        Some(items) => Ok(items.copy(run.alloc())?),
+        None => Err(ValueFault::Code(Code::XPST0008)),
+    }
+}
+
+/// `.` (XQuery 1.0, section 3.1.4). Code: XPDY0002 where there is no context item.
+pub fn context_item(run: &mut Evaluation, env: &Environment) -> Result<Sequence, ValueFault>
+    requires ready { IsReady env.now run.old }
+    ensures { Gives (meaning.context_item env.now) run.old result run.new }
+{
+    match env.item() {
+        Some(item) => Ok(Sequence::one(run.alloc(), item.clone()?)?),
+        None => Err(ValueFault::Code(Code::XPDY0002)),
+    }
+}

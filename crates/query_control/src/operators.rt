@@ -1,0 +1,151 @@
+//! Operators between atomic values, signs, and `and` and `or` (XQuery 1.0, sections 3.3.1, 3.4, 3.5 and 3.6).
+
+ghost use Rattle.std.specs.Prelude.{◌≡◌, ◌∷◌, [], IfOk, Some};
+ghost use Rattle.query_meaning.specs.Meaning.{mean};
+ghost use Rattle.query_meaning.specs.Operators as meaning;
+ghost use Rattle.query_control.specs.Evaluates.{Evaluates};
+ghost use Rattle.query_control.specs.Gives.{Gives, IsReady, Stand};
+
+use crate::environment::Environment;
+use crate::evaluation::Evaluation;
+use crate::forms::Forms;
+use crate::sequence::Sequence;
+use query_grammar::Expr;
+use std::alloc::AllocError;
+use values::{Atom, Comparison, Item, Operator, ValueFault, arithmetic, compare_value, truth};
+
+impl<F: Fn(&mut Evaluation, &Expr, &Environment) -> Result<Sequence, ValueFault>> Forms<F> {
+    /// `and`, which `false` decides, and `or`, which `true` decides, after their left side (XQuery 1.0, section 3.6). The right side is
+    /// evaluated only where the left one doesn't decide.
+    pub fn either_side(
+        &self,
+        run: &mut Evaluation,
+        deciding: bool,
+        left: &Sequence,
+        right: &Expr,
+        env: &Environment,
+    ) -> Result<Sequence, ValueFault>
+        requires evaluates { Evaluates (F.pre self.now.value_of) (F.post self.now.value_of) (right.now ∷ []) }
+        requires ready { IsReady env.now run.old }
+        ensures { Gives (meaning.either_side deciding left.now (mean right.now env.now)) run.old result run.new }
+    {
+        if truth(left.as_slice())? == deciding {
+            Ok(boolean(run, deciding)?)
+        } else {
+            self.truth_of(run, right, env)
+        }
+    }
+
+    /// The effective boolean value of an expression.
+    fn truth_of(
+        &self,
+        run: &mut Evaluation,
+        x: &Expr,
+        env: &Environment,
+    ) -> Result<Sequence, ValueFault>
+        requires evaluates { Evaluates (F.pre self.now.value_of) (F.post self.now.value_of) (x.now ∷ []) }
+        requires ready { IsReady env.now run.old }
+        ensures { Gives (meaning.truth_of (mean x.now env.now)) run.old result run.new }
+    {
+        let value = self.holds(run, x, env)?;
+        Ok(boolean(run, value)?)
+    }
+}
+
+/// One boolean.
+pub(crate) fn boolean(run: &Evaluation, value: bool) -> Result<Sequence, AllocError>
+    ensures { IfOk result (λ s. s ≡ meaning.booleans (Some value)) }
+{
+    Sequence::one(run.alloc(), Item::Atomic(Atom::Boolean(value)))
+}
+
+/// `+`, `-`, `*`, `idiv` and `mod` (XQuery 1.0, section 3.4). Codes: PXQ0002 where a string value is too long, and those of the operands
+/// and the result.
+pub fn calculated(
+    run: &mut Evaluation,
+    op: Operator,
+    left: &Sequence,
+    right: &Sequence,
+) -> Result<Sequence, ValueFault>
+    requires left { Stand left.now run.old }
+    requires right { Stand right.now run.old }
+    ensures { Gives (meaning.between_atoms (meaning.calculated op) left.now right.now) run.old result run.new }
+{
+    let xs = run.atoms(left)?;
+    let ys = run.atoms(right)?;
+    calculated_of(run, op, &xs, &ys)
+}
+
+fn calculated_of(
+    run: &mut Evaluation,
+    op: Operator,
+    xs: &[Atom],
+    ys: &[Atom],
+) -> Result<Sequence, ValueFault>
+    ensures { Gives (meaning.calculated op xs.now ys.now) run.old result run.new }
+{
+    match arithmetic(op, xs, ys)? {
+        None => Ok(Sequence::new(run.alloc())),
+        Some(value) => Ok(Sequence::one(run.alloc(), Item::Atomic(Atom::Integer(value)))?),
+    }
+}
+
+/// `eq`, `ne`, `lt`, `le`, `gt` and `ge` (XQuery 1.0, section 3.5.1). Codes: PXQ0002 where a string value is too long; XPTY0004 where
+/// there is more than one value on a side, or the two are of different types.
+pub fn compared_by_value(
+    run: &mut Evaluation,
+    op: Comparison,
+    left: &Sequence,
+    right: &Sequence,
+) -> Result<Sequence, ValueFault>
+    requires left { Stand left.now run.old }
+    requires right { Stand right.now run.old }
+    ensures { Gives (meaning.between_atoms (meaning.compared_by_value op) left.now right.now) run.old result run.new }
+{
+    let xs = run.atoms(left)?;
+    let ys = run.atoms(right)?;
+    compared_of(run, op, &xs, &ys)
+}
+
+fn compared_of(
+    run: &mut Evaluation,
+    op: Comparison,
+    xs: &[Atom],
+    ys: &[Atom],
+) -> Result<Sequence, ValueFault>
+    ensures { Gives (meaning.compared_by_value op xs.now ys.now) run.old result run.new }
+{
+    match compare_value(op, xs, ys)? {
+        None => Ok(Sequence::new(run.alloc())),
+        Some(value) => Ok(boolean(run, value)?),
+    }
+}
+
+/// `=`, `!=`, `<`, `<=`, `>` and `>=` (XQuery 1.0, section 3.5.2). Each pair that is tried takes a turn. Codes: PXQ0002 where a string
+/// value is too long or no turn is left; that of the first pair that has one.
+pub fn compared_by_pairs(
+    run: &mut Evaluation,
+    op: Comparison,
+    left: &Sequence,
+    right: &Sequence,
+) -> Result<Sequence, ValueFault>
+    requires left { Stand left.now run.old }
+    requires right { Stand right.now run.old }
+    ensures { Gives (meaning.between_atoms (meaning.compared_by_pairs op) left.now right.now) run.old result run.new }
+{
+    let xs = run.atoms(left)?;
+    let ys = run.atoms(right)?;
+    pairs_of(run, op, &xs, &ys)
+}
+
+fn pairs_of(
+    run: &mut Evaluation,
+    op: Comparison,
+    xs: &[Atom],
+    ys: &[Atom],
+) -> Result<Sequence, ValueFault>
+    ensures { Gives (meaning.compared_by_pairs op xs.now ys.now) run.old result run.new }
+{
+    let holds = run.compare(op, xs, ys)?;
+    Ok(boolean(run, holds)?)
+}

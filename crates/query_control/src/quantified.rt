@@ -1,0 +1,138 @@
+//! Quantified expressions, over a function that evaluates their parts (XQuery 1.0, section 3.11).
+
+ghost use Rattle.std.specs.Prelude.{◌≡◌, ◌∷◌, [], map};
+ghost use Rattle.values.specs.Items.{IsThere};
+ghost use Rattle.query_meaning.specs.Environment.{with_variable};
+ghost use Rattle.query_meaning.specs.Meaning.{mean};
+ghost use Rattle.query_meaning.specs.Running.{trees_of};
+ghost use Rattle.query_meaning.specs.Sequences as meaning;
+ghost use Rattle.query_control.specs.Evaluates.{EvaluatesQuantified};
+ghost use Rattle.query_control.specs.Gives.{Any, Gives, GivesIn, IsReady, Stand};
+ghost use Rattle.query_control.specs.Parts as part;
+
+use crate::environment::{Environment, Variables};
+use crate::evaluation::Evaluation;
+use crate::forms::Forms;
+use crate::operators::boolean;
+use crate::sequence::Sequence;
+use query_grammar::{Binding, Expr, Quantifier};
+use sqlite_items::{Boxed, Items};
+use values::{Item, Text, ValueFault};
+
+impl<F: Fn(&mut Evaluation, &Expr, &Environment) -> Result<Sequence, ValueFault>> Forms<F> {
+    /// `some` and `every` (XQuery 1.0, section 3.11). Each item that a variable is bound to takes a turn, until one decides. Codes: that
+    /// of the first part that has one; PXQ0002 where no turn is left.
+    pub fn quantified(
+        &self,
+        run: &mut Evaluation,
+        quantifier: Quantifier,
+        bindings: &Items<Binding<Expr>>,
+        test: &Boxed<Expr>,
+        env: &Environment,
+    ) -> Result<Sequence, ValueFault>
+        requires quantified { EvaluatesQuantified (F.pre self.now.value_of) (F.post self.now.value_of) bindings.now test.now }
+        requires ready { IsReady env.now run.old }
+        ensures { Gives (meaning.quantified quantifier (map (part.binding_of mean) bindings.now) (mean test.now) env.now) run.old result run.new }
+    {
+        let value = self.satisfied(run, quantifier, bindings.as_slice(), test, env)?;
+        Ok(boolean(run, value)?)
+    }
+
+    #[cycle(satisfied)]
+    #[tactic(auto, using(crate::proofs::Calls::quantified_rest, crate::proofs::Values::ready_with))]
+    fn satisfied(
+        &self,
+        run: &mut Evaluation,
+        quantifier: Quantifier,
+        bindings: &[Binding<Expr>],
+        test: &Boxed<Expr>,
+        env: &Environment,
+    ) -> Result<bool, ValueFault>
+        requires quantified { EvaluatesQuantified (F.pre self.now.value_of) (F.post self.now.value_of) bindings.now test.now }
+        requires ready { IsReady env.now run.old }
+        ensures { GivesIn Any (meaning.satisfied quantifier (map (part.binding_of mean) bindings.now) (mean test.now) env.now) run.old result run.new }
+    {
+        let Some((binding, rest)) = bindings.split_first() else {
+            return self.holds(run, test.get(), env);
+        };
+        let items = self.value_of(run, &binding.source, env)?;
+        self.until_decided(
+            run,
+            quantifier,
+            &binding.variable,
+            items.as_slice(),
+            rest,
+            test,
+            env,
+        )
+    }
+
+    #[cycle(satisfied)]
+    #[tactic(auto, using(crate::proofs::Calls::quantified_rest, crate::proofs::Values::ready_with))]
+    fn until_decided(
+        &self,
+        run: &mut Evaluation,
+        quantifier: Quantifier,
+        variable: &Text,
+        items: &[Item],
+        bindings: &[Binding<Expr>],
+        test: &Boxed<Expr>,
+        env: &Environment,
+    ) -> Result<bool, ValueFault>
+        requires quantified { EvaluatesQuantified (F.pre self.now.value_of) (F.post self.now.value_of) bindings.now test.now }
+        requires ready { IsReady env.now run.old }
+        requires items { Stand items.now run.old }
+        ensures { GivesIn Any (meaning.until_decided quantifier (part.satisfied_by quantifier variable.now (map (part.binding_of mean) bindings.now) (mean test.now) env.now) items.now) run.old result run.new }
+    {
+        for item in items {
+            let value = self.satisfied_by(run, quantifier, variable, item, bindings, test, env)?;
+            if decides(quantifier, value) {
+                return Ok(value);
+            }
+        }
+        Ok(undecided(quantifier))
+    }
+
+    #[cycle(satisfied)]
+    #[tactic(auto, using(crate::proofs::Calls::quantified_rest, crate::proofs::Values::ready_with))]
+    fn satisfied_by(
+        &self,
+        run: &mut Evaluation,
+        quantifier: Quantifier,
+        variable: &Text,
+        item: &Item,
+        bindings: &[Binding<Expr>],
+        test: &Boxed<Expr>,
+        env: &Environment,
+    ) -> Result<bool, ValueFault>
+        requires quantified { EvaluatesQuantified (F.pre self.now.value_of) (F.post self.now.value_of) bindings.now test.now }
+        requires ready { IsReady env.now run.old }
+        requires item { IsThere (trees_of run.old) item.now }
+        ensures { GivesIn Any (part.satisfied_by quantifier variable.now (map (part.binding_of mean) bindings.now) (mean test.now) env.now item.now) run.old result run.new }
+    {
+        run.turn()?;
+        let items = Sequence::one(run.alloc(), item.clone()?)?;
+        let variables = Variables::and(variable.as_str(), &items, env.variables());
+        self.satisfied(run, quantifier, bindings, test, &env.with(&variables))
+    }
+}
+
+/// Whether the value of one item decides.
+fn decides(quantifier: Quantifier, value: bool) -> bool
+    ensures { result ≡ meaning.decides quantifier value }
+{
+    match quantifier {
+        Quantifier::Some => value,
+        Quantifier::Every => !value,
+    }
+}
+
+/// What it comes to where none decides.
+fn undecided(quantifier: Quantifier) -> bool
+    ensures { result ≡ meaning.undecided quantifier }
+{
+    match quantifier {
+        Quantifier::Some => false,
+        Quantifier::Every => true,
+    }
+}
