@@ -1,0 +1,42 @@
+//! Laws of what expressions mean, each the contract of a function that does nothing.
+
+ghost use Rattle.std.specs.Prelude.{◌≡◌, ◌≤◌, ◌+◌, ◌++◌, ◌↔◌, ◌⊎◌, ℕ, List, [], ◌∷◌, Ok};
+ghost use Rattle.trees.specs.Forest.{ForestTerm};
+ghost use Rattle.trees.specs.Trees.{Trees, append};
+ghost use Rattle.pending.specs.Primitives.{PrimitiveTerm};
+ghost use Rattle.values.specs.declared.atom.Item.{Item};
+ghost use Rattle.query_grammar.specs.declared.ast.Expr.{Expr};
+ghost use Rattle.query_meaning.specs.Environment.{Environment};
+ghost use Rattle.query_meaning.specs.Meaning.{mean, evaluated, Outcome};
+ghost use Rattle.query_meaning.specs.Paths.{path};
+ghost use Rattle.query_meaning.specs.Running.{Run, trees_of, most_nodes};
+ghost use Rattle.query_meaning.specs.Sequences.{Meaning, sequence};
+ghost use Rattle.meaning_laws.specs.Order.{IsInOrder, IsAtomic};
+
+/// An expression leaves the forest that was lent, the trees that stood beside it, and the update primitives that there were: it only adds.
+pub fn nothing_is_lost()
+    ensures forest { (x : Expr) (env : Environment) (run after : Run) (items : List Item) → mean x env run ≡ Ok (items, after) → after.shelf.lent ≡ run.shelf.lent }
+    ensures trees { (x : Expr) (env : Environment) (run after : Run) (items : List Item) → mean x env run ≡ Ok (items, after)
+        → (more : Trees) × (after.shelf.own.trees ≡ append run.shelf.own.trees more) }
+    ensures primitives { (x : Expr) (env : Environment) (run after : Run) (items : List Item) → mean x env run ≡ Ok (items, after)
+        → (more : List PrimitiveTerm) × (after.primitives ≡ run.primitives ++ more) }
+{}
+
+/// New nodes take the identities from the next one on, and at most as many as there may be.
+pub fn identities_are_limited()
+    ensures { (x : Expr) (lent : ForestTerm) (o : Outcome) → evaluated x lent ≡ Ok o → (lent.next ≤ o.next) × (o.next ≤ lent.next + most_nodes) }
+{}
+
+/// The comma is associative, and `()` is its unit: parts in parentheses come to just what they come to without them.
+pub fn parentheses_do_not_matter()
+    ensures associative { (ls ms ns : List Meaning) (env : Environment) (run after : Run) (items : List Item)
+        → (sequence (ls ++ (sequence ms ∷ ns)) env run ≡ Ok (items, after)) ↔ (sequence (ls ++ (ms ++ ns)) env run ≡ Ok (items, after)) }
+    ensures unit { (ls ns : List Meaning) (env : Environment) (run after : Run) (items : List Item)
+        → (sequence (ls ++ (sequence [] ∷ ns)) env run ≡ Ok (items, after)) ↔ (sequence (ls ++ ns) env run ≡ Ok (items, after)) }
+{}
+
+/// A path gives nodes in document order, each once, or atomic values.
+pub fn paths_are_in_order()
+    ensures { (m n : Meaning) (ms : List Meaning) (env : Environment) (run after : Run) (items : List Item)
+        → path m (n ∷ ms) env run ≡ Ok (items, after) → IsInOrder (trees_of after) items ⊎ IsAtomic items }
+{}
