@@ -2,4 +2,5 @@ pub mod Calls
 pub mod Clauses
 pub mod Deciding
 pub mod Each
+pub mod Signing
 pub mod Values

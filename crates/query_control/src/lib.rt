@@ -11,6 +11,7 @@ mod forms;
 mod operators;
 mod quantified;
 mod sequence;
+mod signs;
 
 pub use environment::{Environment, Variables};
 pub use evaluation::Evaluation;

@@ -1,4 +1,4 @@
-//! Operators between atomic values, signs, and `and` and `or` (XQuery 1.0, sections 3.3.1, 3.4, 3.5 and 3.6).
+//! Operators between atomic values, and `and` and `or` (XQuery 1.0, sections 3.4, 3.5 and 3.6).
 
 ghost use Rattle.std.specs.Prelude.{◌≡◌, ◌∷◌, [], IfOk, Some};
 ghost use Rattle.query_meaning.specs.Meaning.{mean};
