@@ -2,5 +2,6 @@ pub mod Calls
 pub mod Clauses
 pub mod Deciding
 pub mod Each
+pub mod Ranging
 pub mod Signing
 pub mod Values

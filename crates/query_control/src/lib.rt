@@ -10,6 +10,7 @@ mod flwor;
 mod forms;
 mod operators;
 mod quantified;
+mod ranges;
 mod sequence;
 mod signs;
 
@@ -17,4 +18,5 @@ pub use environment::{Environment, Variables};
 pub use evaluation::Evaluation;
 pub use forms::{Forms, context_item, number, string, variable};
 pub use operators::{calculated, compared_by_pairs, compared_by_value};
+pub use ranges::ranged;
 pub use sequence::{MOST_ITEMS, Sequence};

@@ -1,6 +1,10 @@
 //! Sequences of items (XQuery 1.0 and XPath 2.0 Data Model, section 2.1).
 
-ghost use Rattle.std.specs.Prelude.{◌≡◌, ◌≤◌, ◌∷◌, [], ◌++◌, length, Ok, Err, IfOk, IfErr};
+ghost use Rattle.std.specs.Prelude.{◌≡◌, ◌≤◌, ◌<◌, ◌^◌, ◌+ℤ◌, pos, ℕ, ◌∷◌, [], ◌++◌, length, map, FitsSigned, Ok, Err, IfOk, IfErr};
+ghost use Rattle.std.specs.Int.{w64};
+ghost use Rattle.std.specs.List.{range_with_len};
+ghost use Rattle.values.specs.declared.atom.Atom.TheVariants as atom;
+ghost use Rattle.values.specs.declared.atom.Item.TheVariants as item;
 ghost use Rattle.values.specs.declared.code.Code.{Code};
 ghost use Rattle.values.specs.declared.fault.ValueFault.{ValueFault};
 ghost use Rattle.query_meaning.specs.Running.{most_items, within};
@@ -8,7 +12,7 @@ ghost use Rattle.query_control.specs.Gives.{Says};
 
 use std::alloc::{AllocError, Global};
 use std::marker::Model;
-use values::{Code, Item, ValueFault};
+use values::{Atom, Code, Item, ValueFault};
 
 /// The most items in a sequence (our own limit).
 pub const MOST_ITEMS: usize = 10_000;
@@ -56,6 +60,20 @@ impl Sequence {
         Ok(Sequence { items })
     }
 
+    /// So many integers from the first on. It fails where memory is refused.
+    #[tactic(auto, unfolding(query_meaning::specs::Running::most_items))]
+    pub(crate) fn integers(alloc: Global, first: i64, count: usize) -> Result<Sequence, AllocError>
+        requires most { count ≤ most_items }
+        requires range { (k : ℕ) → k < count → FitsSigned w64 (first +ℤ pos k) }
+        ensures { IfOk result (λ s. s ≡ map (λ k. item.Atomic (atom.Integer (first +ℤ pos k))) (range_with_len 0 count)) }
+    {
+        let mut items = Vec::with_capacity(alloc, count)?;
+        for offset in 0..count {
+            items.push(nth(first, offset))?;
+        }
+        Ok(Sequence { items })
+    }
+
     /// The items.
     pub fn as_slice(&self) -> &[Item]
         ensures items { result.now ≡ self.now }
@@ -86,6 +104,15 @@ impl Sequence {
             items: copies(alloc, &self.items)?,
         })
     }
+}
+
+/// The integer that is so many after the first.
+fn nth(first: i64, offset: usize) -> Item
+    requires range { FitsSigned w64 (first +ℤ pos offset) }
+    requires most { offset < 2 ^ 32 }
+    ensures { result ≡ item.Atomic (atom.Integer (first +ℤ pos offset)) }
+{
+    Item::Atomic(Atom::Integer(first + offset as i64))
 }
 
 /// The same items. It fails where memory is refused.
