@@ -1,0 +1,84 @@
+//! Comparisons of nodes (XQuery 1.0, section 3.5.3).
+
+ghost use Rattle.std.specs.Prelude.{◌≡◌, Ok, option_map};
+ghost use Rattle.trees.specs.Order.{precedes};
+ghost use Rattle.query_meaning.specs.Operators as meaning;
+ghost use Rattle.query_control.specs.Gives.{Gives, Stand};
+
+use crate::evaluation::Evaluation;
+use crate::operators::boolean;
+use crate::sequence::Sequence;
+use trees::NodeId;
+use values::{Code, Item, ValueFault};
+
+/// `is`: whether both sides are the same node (XQuery 1.0, section 3.5.3); nothing where a side is empty. Code: XPTY0004 where a side has
+/// more than one item, or an atomic value.
+pub fn is_same(
+    run: &mut Evaluation,
+    left: &Sequence,
+    right: &Sequence,
+) -> Result<Sequence, ValueFault>
+    ensures { Gives (meaning.between_nodes meaning.is_same left.now right.now) run.old result run.new }
+{
+    let a = one_node(left.as_slice())?;
+    let b = one_node(right.as_slice())?;
+    match (a, b) {
+        (Some(a), Some(b)) => Ok(boolean(run, a == b)?),
+        _ => Ok(Sequence::new(run.alloc())),
+    }
+}
+
+/// `<<`: whether the node on the left comes before that on the right in document order (XQuery 1.0, section 3.5.3); nothing where a side
+/// is empty. Code: XPTY0004 where a side has more than one item, or an atomic value.
+pub fn precedes(
+    run: &mut Evaluation,
+    left: &Sequence,
+    right: &Sequence,
+) -> Result<Sequence, ValueFault>
+    requires left { Stand left.now run.old }
+    requires right { Stand right.now run.old }
+    ensures { Gives (meaning.between_nodes precedes left.now right.now) run.old result run.new }
+{
+    let a = one_node(left.as_slice())?;
+    let b = one_node(right.as_slice())?;
+    match (a, b) {
+        (Some(a), Some(b)) => {
+            let holds = run.shelf().before(a, b);
+            Ok(boolean(run, holds)?)
+        }
+        _ => Ok(Sequence::new(run.alloc())),
+    }
+}
+
+/// `>>`: whether the node on the left comes after that on the right in document order (XQuery 1.0, section 3.5.3); nothing where a side
+/// is empty. Code: XPTY0004 where a side has more than one item, or an atomic value.
+pub fn follows(
+    run: &mut Evaluation,
+    left: &Sequence,
+    right: &Sequence,
+) -> Result<Sequence, ValueFault>
+    requires left { Stand left.now run.old }
+    requires right { Stand right.now run.old }
+    ensures { Gives (meaning.between_nodes meaning.follows left.now right.now) run.old result run.new }
+{
+    let a = one_node(left.as_slice())?;
+    let b = one_node(right.as_slice())?;
+    match (a, b) {
+        (Some(a), Some(b)) => {
+            let holds = run.shelf().before(b, a);
+            Ok(boolean(run, holds)?)
+        }
+        _ => Ok(Sequence::new(run.alloc())),
+    }
+}
+
+/// The node of a sequence, or none. Code: XPTY0004 where it has more than one item, or an atomic value.
+fn one_node(items: &[Item]) -> Result<Option<NodeId>, Code>
+    ensures { result ≡ meaning.one_node items.now }
+{
+    match items {
+        [] => Ok(None),
+        [Item::Node(id)] => Ok(Some(*id)),
+        _ => Err(Code::XPTY0004),
+    }
+}
