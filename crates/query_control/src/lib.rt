@@ -4,6 +4,7 @@
 //! Contracts speak of the definition of what expressions mean: each form gives what its definition comes to by what its parts mean.
 #![tactic(auto)]
 
+mod chain;
 mod environment;
 mod evaluation;
 mod flwor;
@@ -15,6 +16,7 @@ mod ranges;
 mod sequence;
 mod signs;
 
+pub use chain::SetOperator;
 pub use environment::{Environment, Variables};
 pub use evaluation::Evaluation;
 pub use forms::{Forms, context_item, number, string, variable};
