@@ -4,9 +4,9 @@ ghost use Rattle.std.specs.Prelude.{◌≡◌, ◌≤◌, ◌↔◌, IfOk, IsErr
 ghost use Rattle.ballots.specs.Terms.{IsPlace};
 
 use super::ballot::Members;
+use document_names::Names;
 use std::alloc::Global;
 use std::marker::Model;
-use trees::Names;
 
 /// Why there is no setup.
 #[derive(Clone, Copy, PartialEq, Eq, Debug)]

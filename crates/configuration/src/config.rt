@@ -8,9 +8,9 @@ ghost use Rattle.configuration.specs.Configured.{config_term};
 use super::entries::{
     begin_of, has_entries_alone, number_of, read_addresses, read_docs, read_records,
 };
+use document_names::Names;
 use std::alloc::{AllocError, Global};
 use toml::{Table, Value};
-use trees::Names;
 
 /// The configuration of a node.
 #[derive(Drop)]

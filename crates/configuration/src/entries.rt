@@ -6,10 +6,10 @@ ghost use Rattle.toml.specs.Data.{get};
 ghost use Rattle.toml.specs.View.{view, array_view, table_view};
 ghost use Rattle.configuration.specs.Configuration.{has_entries_alone, is_entry, number_in, addresses_of, begin_of, docs_of, list_of, records_of, texts_of};
 
+use document_names::{Names, NamesFault};
 use std::alloc::{AllocError, Global};
 use toml::value::Array;
 use toml::{Table, Value};
-use trees::{Names, NamesFault};
 
 /// The number that a value is, if it is one up to `most`.
 pub(super) fn number_up_to(value: &Value, least: u32, most: u32) -> Option<u32>

@@ -4,7 +4,7 @@ use Rattle.std.specs.List.{before_first, after_first, slice_split}
 use Rattle.std.specs.Option.{option_map}
 use Rattle.std.specs.Str.{bytes_eq, is_utf8}
 use Rattle.ballots.specs.Terms.{Request as RequestTerm}
-use Rattle.trees.specs.Names.{are_document_names}
+use Rattle.document_names.specs.Names.{are_document_names}
 use Rattle.query_forms.specs.Forms.{◌>>=◌}
 use Rattle.paxq_files.specs.Script.{has_text_length, is_space, number_below}
 use Rattle.world.specs.declared.event.Event.TheVariants as event

@@ -43,7 +43,7 @@ impl From<AllocError> for EventFileFault {
 /// Reads an event file: lines that end with line feeds, of which the last need not. No line is skipped.
 ///
 /// Single spaces stand between the parts of a line. The first line is `members N NAME ..`: N members, 1 to 63, and the names of
-/// the documents as [`trees::Names`] takes them. The lines after it that begin with `fail` are `fail M W kept` or `fail M W lost`:
+/// the documents as [`document_names::Names`] takes them. The lines after it that begin with `fail` are `fail M W kept` or `fail M W lost`:
 /// write W, from 1, of member M fails, and leaves its record or the one before it. Each further line is one of
 ///
 /// - `begin M`, `resend M`, `catchup M`: a tick comes to member M;

@@ -7,9 +7,9 @@ ghost use Rattle.event_files.specs.Within.{IsFailureOf};
 use super::lines::utf8_of;
 use super::parts::{read_count, read_kept, read_member, read_number_to};
 use ballots::Members;
+use document_names::{Names, NamesFault};
 use paxq_files::{cut_at, read_names};
 use std::alloc::{AllocError, Global};
-use trees::{Names, NamesFault};
 
 /// How many members there are, and the names of the documents that each of them has.
 #[derive(Drop)]

@@ -4,9 +4,10 @@ ghost use Rattle.std.specs.Prelude.{IsSome};
 ghost use Rattle.trees.specs.Trees.{find};
 ghost use Rattle.shelves.specs.Shelf.{shelf_trees};
 
+use document_names::Names;
 use shelves::Shelf;
 use std::alloc::Global;
-use trees::{Content, Forest, Kind, Names, NodeId};
+use trees::{Content, Forest, Kind, NodeId};
 use values::{Atom, Comparison, Item, Text, atomize, compare_general, item_text};
 
 /// The bytes of each text.

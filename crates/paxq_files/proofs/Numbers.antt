@@ -6,7 +6,7 @@ use Rattle.std.specs.Str.Parse.{ParsesUnsigned}
 use Rattle.std.proofs.lemmas.Bool.Decides.{nat_tests}
 use Rattle.std.proofs.lemmas.Grind.{common_steps}
 use Rattle.std.proofs.lemmas.Str.Parse.{IsNumeralModel, numerals_by_fold, parse_digits}
-use Rattle.trees.specs.Characters.{is_digit}
+use Rattle.document_names.specs.Characters.{is_digit}
 use Rattle.paxq_files.specs.Script.{is_space, number_below, submit_of, submit_with}
 
 -- the number that digits after others stand for

@@ -2,8 +2,8 @@
 use Rattle.std.specs.Prelude.{ℕ, ◌+◌, ◌*◌, ◌^◌, ◌-◌, Bool, ◌&&◌, not, nat_lt, nat_le, ◌==◌, if◌then◌else◌, List, [], ◌∷◌, ◌++◌, length, filter, fold, codes, Option, Some, None, is_some}
 use Rattle.std.specs.Option.{option_map, option_map_or}
 use Rattle.std.specs.List.{list_all, slice_split, before_first, after_first, enumerate_from, starts_with}
-use Rattle.trees.specs.Characters.{is_digit}
-use Rattle.trees.specs.Names.{are_document_names}
+use Rattle.document_names.specs.Characters.{is_digit}
+use Rattle.document_names.specs.Names.{are_document_names}
 use Rattle.query_forms.specs.Forms.{insertion_of, path_of, text_after, ◌>>=◌}
 use Rattle.ballots.specs.Terms.{Request as RequestTerm}
 

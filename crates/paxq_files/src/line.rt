@@ -3,7 +3,7 @@
 ghost use Rattle.std.specs.Prelude.{◌≡◌, ◌≤◌, ◌^◌, IfOk, length};
 ghost use Rattle.std.specs.List.{list_all};
 ghost use Rattle.std.specs.Option.{option_copied, option_map};
-ghost use Rattle.trees.specs.Characters.{is_digit};
+ghost use Rattle.document_names.specs.Characters.{is_digit};
 ghost use Rattle.query_forms.specs.Forms.{text_after};
 ghost use Rattle.paxq_files.specs.Commands.{command_term};
 ghost use Rattle.paxq_files.specs.Script.{ask_of, command_of, has_text_length, number_below, submit_of, submit_with};

@@ -2,7 +2,7 @@
 
 ghost use Rattle.std.specs.Prelude.{◌≡◌, ◌+◌, ◌^◌, ◌<◌, [], ◌∷◌, false, true, codes, length, map, string_bytes, IfErr, IfOk, IfSome, IsErrOf, MatchOption, OnOk};
 ghost use Rattle.std.specs.List.{slice_split};
-ghost use Rattle.trees.specs.Names.{are_document_names};
+ghost use Rattle.document_names.specs.Names.{are_document_names};
 ghost use Rattle.paxq_files.specs.Commands.{IsFaultOf};
 ghost use Rattle.paxq_files.specs.Lines.{lines_after};
 ghost use Rattle.paxq_files.specs.Script.{after_docs, commands_from, is_space, script, script_of};
@@ -10,10 +10,10 @@ ghost use Rattle.paxq_files.specs.Script.{after_docs, commands_from, is_space, s
 use crate::line::{read_command, text_after};
 use crate::lines::{Line, first_line};
 use ballots::Request;
+use document_names::{Names, NamesFault};
 use std::alloc::{AllocError, Global};
 use std::collections::VecDeque;
 use std::marker::Model;
-use trees::{Names, NamesFault};
 
 /// What a line of a script asks for.
 #[derive(Drop)]

@@ -6,7 +6,7 @@ use Rattle.std.proofs.lemmas.Str.{encodes-chars}
 use Rattle.std.specs.Fmt.{signed_decimal}
 use Rattle.std.specs.List.{AllZip, list_all}
 use Rattle.std.specs.Str.{bytes_eq, str_to_ascii_lowercase}
-use Rattle.trees.specs.Characters.{is_name, is_xml_character}
+use Rattle.document_names.specs.Characters.{is_name, is_xml_character}
 use Rattle.trees.specs.Tidy.{is_xml_text, holds_text}
 use Rattle.trees.specs.Trees.{Trees, no_trees, tree}
 use Rattle.trees.specs.declared.node.Kind.{Kind as NodeKind}

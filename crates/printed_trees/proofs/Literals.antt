@@ -2,7 +2,7 @@
 use Rattle.std.proofs.Common.{◌≡◌, ℕ, suc, ◌+◌, ◌-◌, ◌≤◌, Bool, true, false, not, cond, ◌==◌, ◌||◌, nat_lt, All, List, [], ◌∷◌, ◌++◌, length, drop, flat_map, refl, ap, ap₂, sym, ◌∙◌, subst, arith, append_assoc, append-nil, length-append, encode_utf8, encode_utf8_all, codes}
 use Rattle.std.proofs.lemmas.Bool.{eqb-true, le-ltb}
 use Rattle.std.proofs.lemmas.List.Elements.{All-head, All-tail}
-use Rattle.trees.specs.Characters.{is_xml_character}
+use Rattle.document_names.specs.Characters.{is_xml_character}
 use Rattle.values.specs.Printing.{escaped}
 use Rattle.values.specs.declared.code.Code.TheVariants.{XPST0003, PXQ0002}
 use Rattle.query_tokens.specs.Reading.{Gives, Fails, on_read, fails, pure, rounds, begins}

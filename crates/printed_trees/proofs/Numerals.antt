@@ -3,7 +3,7 @@ use Rattle.std.proofs.Common.{◌≡◌, ℕ, ◌+◌, ◌-◌, ◌*◌, ◌/◌
 use Rattle.std.proofs.lemmas.Bool.Decides.{nat_tests}
 use Rattle.std.proofs.lemmas.Fmt.{decimal_by_steps}
 use Rattle.std.proofs.lemmas.List.Elements.{All-nil, All-cons, All-append}
-use Rattle.trees.specs.Characters.{is_digit}
+use Rattle.document_names.specs.Characters.{is_digit}
 use Rattle.query_tokens.specs.Lexing.{decimal_of}
 
 -- the digits of a number

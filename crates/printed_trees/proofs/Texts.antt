@@ -8,7 +8,7 @@ use Rattle.std.proofs.lemmas.List.Elements.{All-nil, All-cons, All-head, All-tai
 use Rattle.std.proofs.lemmas.Str.{chars-encodes, encodes-append, encode_ascii, encodes-chars, scalars-chars}
 use Rattle.std.specs.Fmt.{signed_decimal}
 use Rattle.std.specs.List.{AllZip, list_all}
-use Rattle.trees.specs.Characters.{is_digit, is_name, is_name_character}
+use Rattle.document_names.specs.Characters.{is_digit, is_name, is_name_character}
 use Rattle.std.specs.Str.{bytes_eq, str_to_ascii_lowercase}
 use Rattle.trees.specs.Tidy.{is_xml_text, holds_text}
 use Rattle.trees.specs.declared.node.Kind.{Kind as NodeKind}

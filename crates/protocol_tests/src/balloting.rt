@@ -4,9 +4,9 @@ use ballots::{
     Ask, AskFault, Ballot, Entry, Members, Pair, Request, RequestFault, Setup, SetupFault, Value,
     ValueFault, Vote, put_value, take_value,
 };
+use document_names::Names;
 use std::alloc::Global;
 use std::test::Fail;
-use trees::Names;
 
 // A request's spelling: client 10, number 1, level 1, text `1`.
 const REQUEST: [u8; 17] = [1, 0, 0, 0, 10, 0, 0, 0, 0, 0, 0, 0, 1, 1, 0, 1, 49];

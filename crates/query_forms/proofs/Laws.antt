@@ -7,7 +7,7 @@ use Rattle.std.proofs.lemmas.List.Sums.{AllPass-from_list_all}
 use Rattle.std.proofs.lemmas.Option.{cond_some, option_and_then_some}
 use Rattle.std.proofs.lemmas.Str.{IsCharBoundary-after_ascii, IsCharBoundary-before_ascii, IsUtf8-drop, IsUtf8-take, NoCharPasses-byte, encodes-chars}
 use Rattle.query_forms.proofs.Texts.{cut_at_first, first_after, text_after-at, text_after_past_all, text_after_some, text_before-at, text_before_some}
-use Rattle.trees.specs.Characters.{is_name, is_name_character, is_name_start, is_xml_character}
+use Rattle.document_names.specs.Characters.{is_name, is_name_character, is_name_start, is_xml_character}
 use Rattle.query_forms.specs.Forms.{ChildPath, Insertion, IsChildPath, IsInsertion, insertion_of, insertion_with, insertion_text, is_plain_character, path_of, path_text, path_with, target_of, text_after}
 
 -- both parts of a test that passes

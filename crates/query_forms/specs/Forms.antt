@@ -3,7 +3,7 @@ use Rattle.std.specs.Prelude.{◌≡◌, ℕ, ◌-◌, Bool, true, ◌&&◌, not
 use Rattle.std.specs.List.{after_first, before_first, ends_with, list_all, starts_with}
 use Rattle.std.specs.Option.{option_and_then}
 use Rattle.std.specs.Str.{chars}
-use Rattle.trees.specs.Characters.{is_name, is_xml_character}
+use Rattle.document_names.specs.Characters.{is_name, is_xml_character}
 
 -- a character that stands for itself between two `"`
 abbrev pub is_plain_character : ℕ → Bool

@@ -2,7 +2,7 @@
 ghost use Rattle.std.specs.Prelude.{◌≡◌};
 ghost use Rattle.std.specs.List.{list_all};
 ghost use Rattle.std.specs.Str.{chars};
-ghost use Rattle.trees.specs.Characters.{is_name, is_name_character, is_name_start, is_xml_character};
+ghost use Rattle.document_names.specs.Characters.{is_name, is_name_character, is_name_start, is_xml_character};
 ghost use Rattle.query_forms.specs.Forms.{is_plain_character};
 
 fn is_name_start(byte: u8) -> bool

@@ -5,7 +5,7 @@ use Rattle.std.proofs.lemmas.List.Elements.{All-nil, All-cons, All-append}
 use Rattle.std.specs.List.{All, list_all}
 use Rattle.std.specs.Str.{bytes_eq}
 use Rattle.std.specs.Prelude.{codes}
-use Rattle.trees.specs.Characters.{is_digit, is_name_start, is_name_character}
+use Rattle.document_names.specs.Characters.{is_digit, is_name_start, is_name_character}
 use Rattle.values.specs.declared.code.Code.TheVariants.{XPST0003}
 use Rattle.query_tokens.specs.declared.kind.Kind.{Kind}
 use Rattle.query_tokens.specs.declared.kind.Kind.TheVariants as k

@@ -2,7 +2,7 @@
 use Rattle.std.specs.Prelude.{◌≡◌, ◌≤◌, ℕ, true, List, length}
 use Rattle.std.specs.List.{list_all}
 use Rattle.std.specs.Str.{encode_utf8_all}
-use Rattle.trees.specs.Characters.{is_xml_character}
+use Rattle.document_names.specs.Characters.{is_xml_character}
 use Rattle.query_tokens.specs.declared.kind.Kind.TheVariants as kind
 use Rattle.query_tokens.specs.declared.token.Token.{Token}
 use Rattle.query_tokens.specs.Lexing.{most_bytes}

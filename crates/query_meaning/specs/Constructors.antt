@@ -1,7 +1,7 @@
 -- Computed constructors (XQuery 1.0, section 3.7.3): first the name, then the content is evaluated; then the node takes its identity.
 use Rattle.std.specs.Prelude.{ℕ, not, ◌||◌, if◌then◌else◌, List, [], ◌∷◌, codes, Option, Result, Ok, Err}
 use Rattle.std.specs.Str.{bytes_eq, str_to_ascii_lowercase}
-use Rattle.trees.specs.Characters.{is_name}
+use Rattle.document_names.specs.Characters.{is_name}
 use Rattle.trees.specs.Tidy.{holds_text, ends_in_hyphen}
 use Rattle.trees.specs.Trees.{Trees, no_trees, tree, leaf}
 use Rattle.trees.specs.declared.node.Kind.{Kind}

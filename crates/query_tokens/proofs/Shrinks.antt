@@ -1,7 +1,7 @@
 -- Each token takes a character at least, so as many turns as the text has characters read it to its end.
 use Rattle.std.proofs.Common.{◌≡◌, ℕ, codes, zero, suc, ◌==◌, nat_lt, ◌||◌, ◌-◌, ◌<◌, ◌≤◌, Bool, true, false, cond, List, [], ◌∷◌, ◌++◌, length, drop, Option, Some, None, refl, sym, ap, ◌∙◌, arith}
 use Rattle.std.proofs.lemmas.List.{length-drop}
-use Rattle.trees.specs.Characters.{is_digit, is_name_start, is_name_character, is_xml_character}
+use Rattle.document_names.specs.Characters.{is_digit, is_name_start, is_name_character, is_xml_character}
 use Rattle.values.specs.declared.code.Code.{Code}
 use Rattle.values.specs.declared.code.Code.TheVariants.{XPST0003, XQST0090, PXQ0002}
 use Rattle.query_tokens.specs.declared.token.Token.{Token}

@@ -4,7 +4,7 @@ use Rattle.std.proofs.lemmas.Bool.Decides.{nat_tests}
 use Rattle.std.proofs.lemmas.List.Elements.{All-head, All-tail}
 use Rattle.std.proofs.lemmas.Str.{encode_ascii}
 use Rattle.std.specs.Str.{encode_utf8_all}
-use Rattle.trees.specs.Characters.{is_name_character}
+use Rattle.document_names.specs.Characters.{is_name_character}
 
 is_ascii : (c : ℕ) → is_name_character c ≡ true → c < 128
 is_ascii c h = grind (arith, nat_tests)

@@ -2,7 +2,7 @@
 use Rattle.std.specs.Prelude.{◌≡◌, All, ℕ, suc, ◌+◌, ◌-◌, ◌*◌, Bool, true, false, not, ◌&&◌, ◌||◌, ◌==◌, nat_le, nat_lt, if◌then◌else◌, List, [], ◌∷◌, ◌++◌, length, fold, codes, Option, Some, None}
 use Rattle.std.specs.Char.{encode_utf8}
 use Rattle.std.specs.Str.{bytes_eq}
-use Rattle.trees.specs.Characters.{is_digit, is_name_start, is_name_character, is_xml_character}
+use Rattle.document_names.specs.Characters.{is_digit, is_name_start, is_name_character, is_xml_character}
 use Rattle.values.specs.declared.code.Code.TheVariants.{XPST0003, XQST0090, PXQ0002}
 use Rattle.query_tokens.specs.declared.kind.Kind.{Kind}
 use Rattle.query_tokens.specs.declared.kind.Kind.TheVariants as kind

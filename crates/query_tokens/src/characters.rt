@@ -1,7 +1,7 @@
 //! The classes of characters, and steps over them.
 
 ghost use Rattle.std.specs.Prelude.{◌≡◌, drop};
-ghost use Rattle.trees.specs.Characters as class;
+ghost use Rattle.document_names.specs.Characters as class;
 ghost use Rattle.query_tokens.specs.Lexing as lexing;
 
 // Space, tab, line feed or carriage return.

@@ -1,7 +1,7 @@
 //! Names and numbers.
 
 ghost use Rattle.std.specs.Prelude.{◌≡◌, ◌≤◌, ◌<◌, MatchOption, IfOk, All, true, string_bytes};
-ghost use Rattle.trees.specs.Characters as class;
+ghost use Rattle.document_names.specs.Characters as class;
 ghost use Rattle.query_tokens.specs.Lexing as lexing;
 ghost use Rattle.query_tokens.specs.Outcome.{IsNext};
 

@@ -1,7 +1,7 @@
 //! References to characters, in strings.
 
 ghost use Rattle.std.specs.Prelude.{◌≡◌, ◌<◌, ◌^◌, MatchOption, min, drop, length, true, false};
-ghost use Rattle.trees.specs.Characters as class;
+ghost use Rattle.document_names.specs.Characters as class;
 ghost use Rattle.query_tokens.specs.Reading.{begins, first_of};
 ghost use Rattle.query_tokens.specs.Lexing as lexing;
 ghost use Rattle.query_tokens.specs.Outcome.{IsNext};

@@ -13,10 +13,11 @@ ghost use Rattle.ballots.specs.declared.reply.Reply.{Reply as ReplyTerm};
 use super::answer::answer_text;
 use super::execute::{Outcome, execute};
 use ballots::{Answer, Reply, Request, RequestId, Value};
+use document_names::Names;
 use indexmap::IndexMap;
 use std::alloc::Global;
 use std::marker::Model;
-use trees::{Forest, Names};
+use trees::Forest;
 
 /// Memory was refused.
 #[derive(Clone, Copy, PartialEq, Eq, Debug)]

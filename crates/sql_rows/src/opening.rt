@@ -3,12 +3,12 @@
 use super::calls::{Kept, play};
 use acceptor::Acceptor;
 use ballots::{Setup, SetupFault};
+use document_names::{Names, NamesFault};
 use records::{Records, RecordsFault};
 use rows::{RowFault, Words};
 use sql_records::{OpenFault, SqlRecords};
 use sqlite::{Connection, MemStore};
 use std::alloc::Global;
-use trees::{Names, NamesFault};
 
 /// The setup of a member whose one document is `db`.
 fn setup(alloc: Global, group: u32, member: u8, members: u8) -> Result<Setup, RowFault> {

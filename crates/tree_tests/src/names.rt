@@ -1,7 +1,7 @@
 //! Lists of document names.
 
+use document_names::{Names, NamesFault};
 use std::alloc::{AllocError, Global};
-use trees::{Names, NamesFault};
 
 /// The texts, as a list of its own.
 pub fn list(alloc: Global, texts: &[&str]) -> Result<Vec<String>, AllocError> {

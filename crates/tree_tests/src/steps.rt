@@ -4,10 +4,11 @@ use super::described::push_number;
 use super::forests::step_on_forest;
 use super::names::list;
 use super::own::step_on_shelf;
+use document_names::Names;
 use shelves::Shelf;
 use std::alloc::Global;
 use std::test::Fail;
-use trees::{Forest, Kind, Names};
+use trees::{Forest, Kind};
 
 /// A change of a forest or of a shelf, in which nodes stand by their numbers.
 #[derive(Clone, Copy)]

@@ -1,4 +1,3 @@
-pub mod Characters
 pub mod Trees
 pub mod Changes
 pub mod Order
@@ -8,7 +7,6 @@ pub mod Forest
 pub mod Tree
 pub mod Planted
 pub mod Axes
-pub mod Names
 pub mod Walks
 pub mod Flat
 pub mod Inside

@@ -15,11 +15,11 @@ ghost use Rattle.trees.specs.Paths.{path_of, shared, order_steps_of};
 ghost use Rattle.trees.specs.Flat.{entry_in};
 ghost use Rattle.trees.specs.Inside.{entry_of_row};
 
-use super::names::Names;
 use super::node::{Content, Kind, NodeId, Part};
 use super::table::{Row, Rows};
 use super::tree::Tree;
 use super::{copy, plant, table, tree, walk};
+use document_names::Names;
 use indexmap::IndexMap;
 use std::alloc::{AllocError, Global};
 use std::collections::BTreeMap;

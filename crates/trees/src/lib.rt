@@ -7,7 +7,6 @@ mod axis;
 mod copy;
 mod forest;
 pub mod laws;
-mod names;
 mod node;
 mod plant;
 mod table;
@@ -16,6 +15,5 @@ mod walk;
 
 pub use axis::Axis;
 pub use forest::{Forest, MakeFault};
-pub use names::{Names, NamesFault};
 pub use node::{Content, Kind, NodeId};
 pub use tree::Tree;

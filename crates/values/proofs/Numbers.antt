@@ -6,7 +6,7 @@ use Rattle.std.specs.Str.Parse.{ParsesSigned}
 use Rattle.std.proofs.lemmas.Bool.{false≢true}
 use Rattle.std.proofs.lemmas.Bool.Decides.{nat_tests}
 use Rattle.std.proofs.lemmas.Str.Parse.{IsNumeralModel, IsDigitsTest, numerals_by_fold, parse_signed_minus, parse_signed_plus, parse_signed_plain}
-use Rattle.trees.specs.Characters.{is_digit}
+use Rattle.document_names.specs.Characters.{is_digit}
 use Rattle.values.specs.Readings.{number_from, are_digits, not_negative, not_positive, signed}
 
 digits : IsDigitsTest (λ ds. list_all is_digit ds ≡ true)

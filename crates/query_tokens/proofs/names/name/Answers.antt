@@ -1,6 +1,6 @@
 use Rattle.std.proofs.Common.{◌∙◌, arith}
 use Rattle.std.proofs.lemmas.Grind.{common_steps}
-use Rattle.trees.specs.Characters.{is_name_character}
+use Rattle.document_names.specs.Characters.{is_name_character}
 use Rattle.query_tokens.specs.Lexing.{name_of}
 use Rattle.query_tokens.proofs.Runs.{run_then}
 use Rattle.query_tokens.proofs.names.name.Goals as goal

@@ -1,7 +1,7 @@
 use Rattle.std.proofs.Common.{◌∙◌, arith}
 use Rattle.std.proofs.lemmas.Bool.Decides.{nat_tests}
 use Rattle.std.proofs.lemmas.Grind.{common_steps}
-use Rattle.trees.specs.Characters.{is_digit}
+use Rattle.document_names.specs.Characters.{is_digit}
 use Rattle.query_tokens.specs.Lexing.{number_of}
 use Rattle.query_tokens.proofs.Runs.{run_then}
 use Rattle.query_tokens.proofs.names.number.Goals as goal

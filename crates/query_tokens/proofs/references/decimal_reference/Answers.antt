@@ -1,4 +1,4 @@
-use Rattle.trees.specs.Characters.{is_digit}
+use Rattle.document_names.specs.Characters.{is_digit}
 use Rattle.query_tokens.specs.Lexing.{closed}
 use Rattle.query_tokens.proofs.Rounds.{same_read}
 use Rattle.query_tokens.proofs.Runs.{run_then}
