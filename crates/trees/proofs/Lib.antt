@@ -22,3 +22,7 @@ pub mod Axes
 pub mod Nests
 pub mod Onces
 pub mod Plants
+pub mod Labels
+pub mod LabelSteps
+pub mod Ordered
+pub mod Ups

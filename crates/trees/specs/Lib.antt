@@ -11,3 +11,4 @@ pub mod Walks
 pub mod Flat
 pub mod Inside
 pub mod Nested
+pub mod Labels

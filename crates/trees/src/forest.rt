@@ -406,6 +406,7 @@ impl Forest {
             parent: None,
             attributes: Vec::new(alloc),
             children: Vec::new(alloc),
+            place: 0,
         };
         match self.rows.insert(id, row) {
             Ok(_) => {

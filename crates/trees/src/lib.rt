@@ -5,6 +5,7 @@
 
 mod axis;
 mod copy;
+mod order;
 mod forest;
 pub mod laws;
 mod node;
