@@ -25,4 +25,7 @@ pub mod Plants
 pub mod Labels
 pub mod LabelSteps
 pub mod Ordered
+pub mod Numbers
+pub mod Listings
+pub mod Numbered
 pub mod Ups

@@ -18,7 +18,7 @@ ghost use Rattle.trees.specs.Inside.{entry_of_row};
 use super::node::{Content, Kind, NodeId, Part};
 use super::table::{Row, Rows};
 use super::tree::Tree;
-use super::{copy, plant, table, tree, walk};
+use super::{copy, order, plant, table, tree, walk};
 use document_names::Names;
 use indexmap::IndexMap;
 use std::alloc::{AllocError, Global};
@@ -406,7 +406,7 @@ impl Forest {
             parent: None,
             attributes: Vec::new(alloc),
             children: Vec::new(alloc),
-            place: 0,
+            place: id,
         };
         match self.rows.insert(id, row) {
             Ok(_) => {
@@ -442,6 +442,7 @@ impl Forest {
     {
         let next = node.identity.number() + 1;
         table::make_below(&mut self.rows, alloc, Part::Children, parent, index, node)?;
+        order::settle(&mut self.rows, Part::Children, parent, index);
         self.next = next;
         self.nodes += 1;
         Ok(())
@@ -481,6 +482,7 @@ impl Forest {
         let mut at = index;
         for node in nodes {
             table::move_below(&mut self.rows, part, parent, at, *node);
+            order::settle(&mut self.rows, part, parent, at);
             at += 1;
         }
         Ok(())
@@ -645,7 +647,7 @@ impl Forest {
         ensures refused { OnErr result (self.new ≡ self.old) }
     {
         let trees = slice::from_ref(tree);
-        match plant::plant_all(&mut self.rows, alloc, trees, None) {
+        match plant::plant_all(&mut self.rows, alloc, trees, None, 0) {
             Ok(_) => {
                 self.nodes += plant::count_all(trees);
                 self.next = plant::larger(self.next, plant::past_all(trees));

@@ -5,10 +5,10 @@
 
 mod axis;
 mod copy;
-mod order;
 mod forest;
 pub mod laws;
 mod node;
+mod order;
 mod plant;
 mod table;
 mod tree;
