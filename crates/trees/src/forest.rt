@@ -1,6 +1,6 @@
 //! Forests: trees of nodes, documents by name, and the next identity.
 
-ghost use Rattle.std.specs.Prelude.{◌≡◌, ◌≢◌, ℕ, ◌+◌, ◌<◌, ◌≤◌, ◌^◌, ◌↔◌, ◌-◌, min, Option, Some, None, IfOk, OnOk, OnErr, IfSome, IsErrOf, IsSome, List, [], ◌∷◌, ◌++◌, length, map, is_some, string_bytes, IsTrue, max, option_map};
+ghost use Rattle.std.specs.Prelude.{◌≡◌, ◌≢◌, ℕ, ◌+◌, ◌<◌, ◌≤◌, ◌^◌, ◌↔◌, ◌-◌, min, Option, Some, None, IfOk, OnOk, OnErr, IfSome, IsErrOf, IsSome, List, [], ◌∷◌, ◌++◌, length, map, is_some, string_bytes, IsTrue, true, false, max, option_map};
 ghost use Rattle.std.specs.Map.{lookup};
 ghost use Rattle.std.specs.Str.{bytes_eq};
 ghost use Rattle.trees.specs.Trees.{no_trees, append, leaf, find, count, size, height, children_of, attributes_of, parent_of, string_value_of, text_within, IsAt, Content as NodeContent};
@@ -10,7 +10,8 @@ ghost use Rattle.trees.specs.Order.{precedes};
 ghost use Rattle.trees.specs.Forest.{ForestTerm, IsForest, IsDocument, document_node, opening_forest};
 ghost use Rattle.trees.specs.Tree.{trees_of_tree};
 ghost use Rattle.trees.specs.Planted.{past};
-ghost use Rattle.trees.specs.Walks.{root_of, depth_of};
+ghost use Rattle.trees.specs.Walks.{depth_of};
+ghost use Rattle.trees.specs.Labels.{IsOrdered};
 ghost use Rattle.trees.specs.Paths.{path_of, shared, order_steps_of};
 ghost use Rattle.trees.specs.Flat.{entry_in};
 ghost use Rattle.trees.specs.Inside.{entry_of_row};
@@ -249,34 +250,6 @@ impl Forest {
         let _next = &self.next;
     }
 
-    /// The root of the tree in which a node stands.
-    fn root(&self, id: NodeId) -> NodeId
-        requires { IsSome (find id self.now.trees) }
-        ensures { result ≡ root_of id self.now.trees }
-    {
-        self.facts();
-        let mut at = id;
-        while let Some(parent) = self.parent(at) {
-            at = parent;
-        }
-        at
-    }
-
-    /// Whether the node `a` comes before the node `b` in document order. It walks up from both, and where they stand in one tree also through that tree.
-    pub fn before(&self, a: NodeId, b: NodeId) -> bool
-        requires has_a { IsSome (find a self.now.trees) }
-        requires has_b { IsSome (find b self.now.trees) }
-        ensures { result ≡ precedes a b self.now.trees }
-    {
-        let levels = self.next;
-        let first = self.root(a);
-        let second = self.root(b);
-        if first != second {
-            return first < second;
-        }
-        walk::first_of(&self.rows, &[first], levels, a, b).unwrap_or(false)
-    }
-
     /// How many nodes stand above a node.
     fn level(&self, id: NodeId) -> u64
         requires { IsSome (find id self.now.trees) }
@@ -293,6 +266,13 @@ impl Forest {
         levels
     }
 
+    /// Numbers tell the order of the nodes of one list. It does nothing.
+    fn numbered(&self)
+        ensures { IsOrdered self.now.trees }
+    {
+        let _rows = &self.rows;
+    }
+
     /// The node so many levels above a node.
     fn lifted(&self, id: NodeId, levels: u64) -> NodeId
         requires has { IsSome (find id self.now.trees) }
@@ -302,8 +282,14 @@ impl Forest {
         ensures kept { (path : List ℕ)
             → length path ≤ depth_of result self.now.trees + 1
             → shared (path_of id self.now.trees) path ≡ shared (path_of result self.now.trees) path }
+        ensures own { levels ≡ 0 → result ≡ id }
+        ensures above { 0 < levels → (precedes result id self.now.trees ≡ true) × (precedes id result self.now.trees ≡ false) }
+        ensures order { (other : ℕ) → IsSome (find other self.now.trees)
+            → depth_of other self.now.trees ≤ depth_of result self.now.trees → other ≢ result
+            → (precedes id other self.now.trees ≡ precedes result other self.now.trees) × (precedes other id self.now.trees ≡ precedes other result self.now.trees) }
     {
         self.facts();
+        self.numbered();
         let mut at = id;
         for _ in 0..levels {
             let Some(parent) = self.parent(at) else {
@@ -314,33 +300,66 @@ impl Forest {
         at
     }
 
-    /// How many nodes two nodes of one level, which have `level` others above them, and what is above them have in common.
-    fn levels_shared(&self, a: NodeId, b: NodeId, level: u64) -> u64
+    /// How many of the nodes above two others of one level, which have `level` nodes above them, these have in common, and whether
+    /// the first comes before the second.
+    fn parted(&self, a: NodeId, b: NodeId, level: u64) -> (u64, bool)
         requires has_a { IsSome (find a self.now.trees) }
         requires has_b { IsSome (find b self.now.trees) }
         requires level_a { depth_of a self.now.trees ≡ level }
         requires level_b { depth_of b self.now.trees ≡ level }
-        requires few { level < 2 ^ 63 }
-        ensures shared { result ≡ shared (path_of a self.now.trees) (path_of b self.now.trees) }
-        ensures apart { a ≢ b → result ≤ level }
-        ensures most { result ≤ level + 1 }
+        requires apart { a ≢ b }
+        ensures shared { result.0 ≡ shared (path_of a self.now.trees) (path_of b self.now.trees) }
+        ensures most { result.0 ≤ level }
+        ensures before { result.1 ≡ precedes a b self.now.trees }
     {
         self.facts();
         let mut first = a;
         let mut second = b;
-        let mut levels = level + 1;
-        while first != second {
-            let Some(above_first) = self.parent(first) else {
-                return 0;
-            };
+        let mut levels = level;
+        while let Some(above_first) = self.parent(first) {
             let Some(above_second) = self.parent(second) else {
-                return 0;
+                return (0, false);
             };
+            if above_first == above_second {
+                let place = order::place(&self.rows, first);
+                return (levels, place < order::place(&self.rows, second));
+            }
             first = above_first;
             second = above_second;
             levels -= 1;
         }
-        levels
+        (0, first < second)
+    }
+
+    /// Whether the node `a` comes before the node `b` in document order, and how many levels tell it. It goes up from the deeper
+    /// node, and then from both, until their parents are one.
+    fn compared(&self, a: NodeId, b: NodeId) -> (bool, u64)
+        requires has_a { IsSome (find a self.now.trees) }
+        requires has_b { IsSome (find b self.now.trees) }
+        ensures before { result.0 ≡ precedes a b self.now.trees }
+        ensures steps { result.1 ≡ order_steps_of a b self.now.trees }
+    {
+        self.bounds();
+        self.numbered();
+        let high = self.level(a);
+        let low = self.level(b);
+        let level = if high < low { high } else { low };
+        let first = self.lifted(a, high - level);
+        let second = self.lifted(b, low - level);
+        if first == second {
+            return (high < low, level + 1);
+        }
+        let (shared, before) = self.parted(first, second, level);
+        (before, shared + 1)
+    }
+
+    /// Whether the node `a` comes before the node `b` in document order. It walks up from both, and takes no memory.
+    pub fn before(&self, a: NodeId, b: NodeId) -> bool
+        requires has_a { IsSome (find a self.now.trees) }
+        requires has_b { IsSome (find b self.now.trees) }
+        ensures { result ≡ precedes a b self.now.trees }
+    {
+        self.compared(a, b).0
     }
 
     /// Whether the node `a` comes before the node `b` in document order, and how many levels from the root down tell it: those of
@@ -353,17 +372,8 @@ impl Forest {
         ensures steps { result.1 ≡ min (order_steps_of a b self.now.trees) (2 ^ 32 - 1) }
         ensures few { (most : ℕ) → height self.now.trees ≤ most → result.1 ≤ most }
     {
-        self.bounds();
-        let high = self.level(a);
-        let low = self.level(b);
-        let level = if high < low { high } else { low };
-        let first = self.lifted(a, high - level);
-        let second = self.lifted(b, low - level);
-        let mut steps = self.levels_shared(first, second, level);
-        if first != second {
-            steps += 1;
-        }
-        (self.before(a, b), u32::try_from(steps).unwrap_or(u32::MAX))
+        let (before, steps) = self.compared(a, b);
+        (before, u32::try_from(steps).unwrap_or(u32::MAX))
     }
 
     /// Makes a node with no parent, which takes the next identity.

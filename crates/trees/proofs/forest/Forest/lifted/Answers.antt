@@ -1,4 +1,6 @@
-use Rattle.std.proofs.Common.{◌∙◌, sym, arith, ap}
+use Rattle.std.proofs.Common.{◌≢◌, ℕ, ◌≤◌, ◌∙◌, sym, arith, ap, refl}
+use Rattle.trees.specs.Walks.{depth_of}
+use Rattle.trees.proofs.LabelSteps.{order-lift, order-parent}
 use Rattle.trees.specs.Paths.{path_of, shared}
 use Rattle.trees.proofs.Paths.{path-up, path-top, path-length, shared-last}
 use Rattle.trees.proofs.Climbs.{there-counts}
@@ -12,10 +14,21 @@ loop-preserved c =
     let level = up.1 in
     let was = i.level in
     let long = path-length c.in-Some.parent ts (there-counts c.in-Some.parent ts up.0) in
+    let w = c.numbered.ensures.0 in
+    let o = c.numbered.ensures.1 in
+    let p = c.in-Some.parent in
+    let x = c.loop.at in
+    let is = sym c.parent.ensures ∙ c.in-Some.is in
+    let deeper : (y : ℕ) → depth_of y ts ≤ depth_of p ts → y ≢ x = λ y l same. (let e = ap (λ j. depth_of j ts) same in absurd (omega arith)) in
     record {
       there = up.0;
       level = omega arith;
       kept = λ path h. i.kept path (omega arith) ∙ ap (λ p. shared p path) up.2 ∙ shared-last c.loop.at (path_of c.in-Some.parent ts) path (omega arith);
+      own = λ e. absurd (omega arith);
+      above = λ l. (let old = i.order p up.0 (omega arith) (deeper p (omega arith)) in let one = order-parent w ts o x p (there-counts x ts i.there) is in (old.1 ∙ one.0, old.0 ∙ one.1));
+      order = λ y hy deep ne. (let old = i.order y hy (omega arith) (deeper y deep) in
+          let lift = order-lift w ts o x p y (there-counts x ts i.there) (there-counts y ts hy) is deep ne in
+          (old.0 ∙ lift.0, old.1 ∙ lift.1));
     }
 
 pub returns-in_default-clause-level : goal.returns-in_default-clause-level
@@ -27,3 +40,19 @@ returns-in_default-clause-level c =
     let more = c.loop-test.true in
     let enough = c.requires.enough in
     absurd (omega arith)
+
+never : (c : goal.In_default) → ⊥
+never c =
+    let i = c.loop.invariant in
+    let top = path-top c.loop.at c.args.self.now.trees c.facts.ensures.distinct i.there (sym c.parent.ensures ∙ c.in_default.is) in
+    let level = top.1 in
+    let was = i.level in
+    let more = c.loop-test.true in
+    let enough = c.requires.enough in
+    absurd (omega arith)
+
+pub returns-in_default-clause-own : goal.returns-in_default-clause-own
+returns-in_default-clause-own c = absurd (never c)
+
+pub returns-in_default-clause-above : goal.returns-in_default-clause-above
+returns-in_default-clause-above c = absurd (never c)

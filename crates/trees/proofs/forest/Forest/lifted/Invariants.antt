@@ -1,5 +1,6 @@
-use Rattle.std.proofs.Common.{◌≡◌, ◌+◌, ◌≤◌, ℕ, List, length, IsSome}
+use Rattle.std.proofs.Common.{◌≡◌, ◌≢◌, ◌+◌, ◌≤◌, ◌<◌, true, false, ℕ, List, length, IsSome}
 use Rattle.trees.specs.Trees.{find}
+use Rattle.trees.specs.Order.{precedes}
 use Rattle.trees.specs.Walks.{depth_of}
 use Rattle.trees.specs.Paths.{path_of, shared}
 use Rattle.trees.proofs.forest.Forest.lifted.Given as goal
@@ -10,4 +11,8 @@ invariant-loop l =
       there : IsSome (find l.at l.self.trees);
       level : depth_of l.at l.self.trees + l.counter ≡ depth_of l.fn.id l.self.trees;
       kept : (path : List ℕ) → length path ≤ depth_of l.at l.self.trees + 1 → shared (path_of l.fn.id l.self.trees) path ≡ shared (path_of l.at l.self.trees) path;
+      own : l.counter ≡ 0 → l.at ≡ l.fn.id;
+      above : 0 < l.counter → (precedes l.at l.fn.id l.self.trees ≡ true) × (precedes l.fn.id l.at l.self.trees ≡ false);
+      order : (other : ℕ) → IsSome (find other l.self.trees) → depth_of other l.self.trees ≤ depth_of l.at l.self.trees → other ≢ l.at
+          → (precedes l.fn.id other l.self.trees ≡ precedes l.at other l.self.trees) × (precedes other l.fn.id l.self.trees ≡ precedes other l.at l.self.trees);
     }

@@ -1,0 +1,8 @@
+use Rattle.trees.specs.Inside.{table_of}
+use Rattle.trees.specs.Labels.{place_of}
+use Rattle.trees.proofs.Forests.{now-table}
+use Rattle.trees.proofs.Ups.{orders-of}
+use Rattle.trees.proofs.forest.Forest.numbered.Goals as goal
+
+pub returns : goal.returns
+returns c = (place_of c.self.inside.rows, orders-of (place_of c.self.inside.rows) (table_of c.self.inside.rows) c.self.inside.next c.args.self.now.trees (now-table c.self.inside c.args.self.now c.self.view_is c.self.invariant) c.self.invariant.numbered)
