@@ -1,5 +1,5 @@
 -- What the rows of a forest's table list.
-use Rattle.std.proofs.Common.{◌≡◌, ℕ, ◌+◌, ◌≤◌, ◌<◌, ◌^◌, List, [], ◌∷◌, ◌++◌, length, cond, eqb, refl, ap, sym, ◌∙◌, arith, ⊎_elim, Option, Some, None, is_some, subst, true, false}
+use Rattle.std.proofs.Common.{◌≡◌, ℕ, ◌+◌, ◌≤◌, ◌<◌, ◌^◌, length, refl, ap, ◌∙◌, arith, ⊎_elim, Option, Some, None}
 use Rattle.std.proofs.lemmas.Bool.Decides.{eqb_tells}
 use Rattle.std.proofs.lemmas.List.{length-append}
 use Rattle.trees.specs.Trees.{Trees, no_trees, tree, roots, count, size}
@@ -13,7 +13,8 @@ use Rattle.trees.proofs.Takes.{count-most}
 use Rattle.trees.proofs.Onces.{once-below}
 use Rattle.trees.proofs.Axes.{Below, lists-below}
 
-length-roots : (ts : Trees) → length (roots ts) ≤ size ts
+-- a list is no longer than there are nodes
+pub length-roots : (ts : Trees) → length (roots ts) ≤ size ts
 length-roots no_trees = omega arith
 length-roots (tree c bs cs rest) = omega (arith, length-roots rest)
 

@@ -1,22 +1,23 @@
 -- What keeps the numbers of the rows rising.
 use Prim.Native.Nat.{zero, suc}
-use Rattle.std.proofs.Common.{◌≡◌, ◌≢◌, ℕ, ◌+◌, ◌*◌, ◌/◌, ◌≤◌, ◌<◌, ◌^◌, Bool, true, false, not, List, [], ◌∷◌, ◌++◌, length, take, drop, get_or, filter, cond, eqb, ltb, refl, ap, sym, ◌∙◌, arith, ⊎_elim, ◌⊎◌, inl, inr, Option, Some, None, IfSome, IsSome, is_some, option_map, subst, append-nil}
-use Rattle.std.specs.List.{insert, slice_get}
+use Rattle.std.proofs.Common.{◌≡◌, ◌≢◌, ℕ, ◌+◌, ◌*◌, ◌/◌, ◌≤◌, ◌<◌, Bool, true, false, not, List, [], ◌∷◌, ◌++◌, length, take, drop, filter, cond, eqb, ltb, refl, ap, sym, ◌∙◌, arith, ⊎_elim, ◌⊎◌, inl, inr, Option, Some, None, IfSome, IsSome, is_some, option_map, subst}
+use Rattle.std.specs.List.{slice_get}
 use Rattle.std.proofs.Math.Nat.{add-mul, mul-le-mul_left, mul_comm, mul-div-le, le-div_iff_mul-le}
 use Rattle.std.proofs.lemmas.List.{take-append-drop, append_assoc, length-take-le, length-append}
-use Rattle.std.proofs.lemmas.Bool.Decides.{nat_tests, eqb_tells}
+use Rattle.std.proofs.lemmas.Bool.Decides.{eqb_tells}
 use Rattle.trees.specs.Trees.{Trees, no_trees, tree, Content, append, roots, count, size}
 use Rattle.trees.specs.Changes.{renumbered, ranked}
 use Rattle.trees.specs.Walks.{held}
-use Rattle.trees.specs.Flat.{Entry, Table, entry_of, Holds, IsTableOf, IsChangedAt, Makes, Puts, listed, with_child, without_child, with_parent}
+use Rattle.trees.specs.Flat.{Entry, Table, Holds, IsTableOf, IsChangedAt, Makes, Puts, listed, with_child}
 use Rattle.trees.specs.declared.node.Part.{Part}
 use Rattle.trees.specs.declared.node.Part.TheVariants.{Attributes, Children}
 use Rattle.trees.specs.Labels.{AllAbove, Ascends, AreNumbered, AreRanked, HasNumbers, RisesBut, AreListed, lists_in, get_before, position_in, parent_in}
 use Rattle.trees.proofs.Weights.{eqb-same}
-use Rattle.trees.proofs.Climbs.{AreDistinct, any-tells}
-use Rattle.trees.proofs.Firsts.{eqb-swap, held-append}
+use Rattle.trees.proofs.Climbs.{any-tells}
+use Rattle.trees.proofs.Firsts.{held-append}
 use Rattle.trees.proofs.Tables.{Sets}
 use Rattle.trees.proofs.Takes.{Takes}
+use Rattle.trees.proofs.Onces.{held-roots}
 use Rattle.trees.proofs.Labels.{Ascends-left, Ascends-right}
 
 -- ---- what keeps numbers rising
@@ -298,14 +299,10 @@ AreNumbered-ranked w k us no_trees h y = h
 AreNumbered-ranked w k us (tree c bs cs rest) h y =
     elim (ltb k c.identity) as (λ v. AreNumbered w (cond v (append us (tree c bs cs rest)) (tree c bs cs (ranked k us rest)))) [ true ↦ AreNumbered-append w us (tree c bs cs rest) h y | false ↦ (y.0, y.1, y.2, AreNumbered-ranked w k us rest h y.3) ]
 
-roots-count : (i : ℕ) (ts : Trees) → held i (roots ts) ≤ count i ts
-roots-count i no_trees = omega arith
-roots-count i (tree c bs cs rest) = omega (arith, roots-count i rest)
-
 pub AreNumbered-same : (w v : ℕ → ℕ) (ts : Trees) → ((i : ℕ) → 0 < count i ts → v i ≡ w i) → AreNumbered w ts → AreNumbered v ts
 AreNumbered-same w v no_trees same h = tt
 AreNumbered-same w v (tree c bs cs rest) same h = (
-  ascends-same w v (roots bs ++ roots cs) (λ i k. same i (let z = rw (held-append i (roots bs) (roots cs)) at k in let b = roots-count i bs in let s = roots-count i cs in omega arith)) h.0,
+  ascends-same w v (roots bs ++ roots cs) (λ i k. same i (let z = rw (held-append i (roots bs) (roots cs)) at k in let b = held-roots i bs in let s = held-roots i cs in omega arith)) h.0,
   AreNumbered-same w v bs (λ i k. same i (omega arith)) h.1,
   AreNumbered-same w v cs (λ i k. same i (omega arith)) h.2,
   AreNumbered-same w v rest (λ i k. same i (omega arith)) h.3,

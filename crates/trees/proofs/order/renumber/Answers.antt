@@ -1,9 +1,9 @@
 use Prim.Native.Nat.{suc}
-use Rattle.std.proofs.Common.{◌≡◌, ◌≢◌, ℕ, ◌+◌, ◌*◌, ◌/◌, ◌<◌, ◌≤◌, ◌++◌, ◌∷◌, [], Some, None, List, length, take, drop, min, ap, sym, refl, ◌∙◌, arith, subst, add-one, ⊎_elim, take_all}
+use Rattle.std.proofs.Common.{◌≡◌, ◌≢◌, ℕ, ◌+◌, ◌<◌, ◌∷◌, [], List, length, take, ap, sym, refl, ◌∙◌, arith, subst, add-one, take_all}
 use Rattle.std.specs.List.{slice_get}
 use Rattle.trees.specs.Walks.{held}
 use Rattle.trees.specs.Inside.{table_of}
-use Rattle.trees.specs.Labels.{place_of, lists_in, Ascends, AreListed}
+use Rattle.trees.specs.Labels.{place_of, lists_in, AreListed}
 use Rattle.std.proofs.lemmas.List.{length-take-le}
 use Rattle.trees.proofs.Weights.{eqb-same}
 use Rattle.trees.proofs.Firsts.{held-append}

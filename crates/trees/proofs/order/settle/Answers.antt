@@ -1,13 +1,10 @@
-use Prim.Native.Nat.{suc}
-use Rattle.std.proofs.Common.{◌≡◌, ◌≢◌, ℕ, ◌+◌, ◌<◌, Option, Some, None, IfSome, option_map, ap, sym, ◌∙◌, arith, subst, add-one, ⊎_elim}
+use Rattle.std.proofs.Common.{◌≡◌, ℕ, ◌+◌, ◌<◌, Option, Some, IfSome, option_map, ap, sym, ◌∙◌, arith, subst, add-one}
 use Rattle.std.specs.List.{slice_get}
-use Rattle.std.proofs.lemmas.Bool.Decides.{eqb_tells}
-use Rattle.trees.specs.Flat.{Entry, Table}
+use Rattle.trees.specs.Flat.{Table}
 use Rattle.trees.specs.Walks.{held}
 use Rattle.trees.specs.Inside.{table_of}
-use Rattle.trees.specs.Labels.{place_of, lists_in, get_before, position_in, Ascends, AreListed, HasNumbers, RisesBut}
-use Rattle.trees.proofs.Climbs.{any-tells}
-use Rattle.trees.proofs.Numbers.{gap-filled, gap-node, listed-there, ascends-same, settled, held-at}
+use Rattle.trees.specs.Labels.{place_of, lists_in, get_before, HasNumbers, RisesBut}
+use Rattle.trees.proofs.Numbers.{gap-filled, gap-node, listed-there, settled, held-at}
 use Rattle.trees.proofs.order.settle.Goals as goal
 
 pub set_place-requires : goal.set_place-requires

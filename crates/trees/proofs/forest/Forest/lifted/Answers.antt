@@ -1,4 +1,4 @@
-use Rattle.std.proofs.Common.{◌≢◌, ℕ, ◌≤◌, ◌∙◌, sym, arith, ap, refl}
+use Rattle.std.proofs.Common.{◌≢◌, ℕ, ◌≤◌, ◌∙◌, sym, arith, ap}
 use Rattle.trees.specs.Walks.{depth_of}
 use Rattle.trees.proofs.LabelSteps.{order-lift, order-parent}
 use Rattle.trees.specs.Paths.{path_of, shared}

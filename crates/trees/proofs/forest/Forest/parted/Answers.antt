@@ -1,9 +1,9 @@
-use Rattle.std.proofs.Common.{◌≡◌, ◌≢◌, ◌+◌, ◌++◌, ◌∷◌, [], length, ap, sym, refl, ◌∙◌, arith, None, Some}
+use Rattle.std.proofs.Common.{◌≡◌, ◌+◌, ◌++◌, ◌∷◌, [], length, ap, sym, refl, ◌∙◌, arith, Some}
 use Rattle.trees.specs.Paths.{path_of, shared}
 use Rattle.trees.specs.Walks.{depth_of}
 use Rattle.trees.specs.Trees.{parent_of}
 use Rattle.trees.specs.Inside.{table_of}
-use Rattle.trees.specs.Labels.{place_of, Orders}
+use Rattle.trees.specs.Labels.{place_of}
 use Rattle.trees.proofs.Climbs.{there-counts}
 use Rattle.trees.proofs.Firsts.{lt-is}
 use Rattle.trees.proofs.Forests.{now-table}
