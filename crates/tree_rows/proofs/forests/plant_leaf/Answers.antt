@@ -4,7 +4,7 @@ use Rattle.trees.specs.Trees.{Trees, Content, append, leaf, count}
 use Rattle.trees.specs.Tree.{trees_of_tree}
 use Rattle.trees.proofs.CallerLemmas.{distinct-planted}
 use Rattle.shelves.proofs.Shelves.{count-leaf}
-use Rattle.tree_tests.proofs.forests.plant_leaf.Goals as goal
+use Rattle.tree_rows.proofs.forests.plant_leaf.Goals as goal
 
 one-leaf : (i : ℕ) (c : Content) → count i (leaf c) ≤ 1
 one-leaf i c = ⊎_elim (λ t. rw t.0 (omega arith)) (λ t. rw t.0 (omega arith)) (eqb_tells i c.identity)

@@ -5,7 +5,7 @@ use Rattle.trees.proofs.Climbs.{any-tells, find-absent, there-counts}
 use Rattle.trees.proofs.CallerLemmas.{find-append}
 use Rattle.trees.proofs.Lent.{lent-apart}
 use Rattle.shelves.specs.Shelf.{ShelfTerm, IsShelf, shelf_trees}
-use Rattle.tree_tests.proofs.own.take_out_own.Goals as goal
+use Rattle.tree_rows.proofs.own.take_out_own.Goals as goal
 
 find-own : (i : ℕ) (s : ShelfTerm) → IsShelf s → IsSome (find i s.own.trees) → find i (shelf_trees s) ≡ find i s.own.trees
 find-own i s facts own =
