@@ -1,5 +1,5 @@
-//! The bytes of a row: texts one after the other, `repeat N TEXT`, `byte N`, and `lines N TEXT TEXT` for N lines that have their numbers,
-//! from 1, between the two texts.
+//! The bytes of a row, to its end or the word `gives`: texts one after the other, `repeat N TEXT`, `byte N`, and `lines N TEXT TEXT` for N
+//! lines that have their numbers, from 1, between the two texts.
 
 use rows::{RowFault, Words};
 use std::alloc::{AllocError, Global};
@@ -7,16 +7,28 @@ use std::alloc::{AllocError, Global};
 /// How many parts the bytes of a row have at most.
 const MOST_PARTS: u32 = 1_000;
 
-/// The bytes that the words of a row make.
+/// The bytes that the words of a row make, up to the word `gives`, which is taken too.
 pub(super) fn bytes_of(alloc: Global, words: &mut Words<'_>) -> Result<Vec<u8>, RowFault> {
     let mut bytes = Vec::new(alloc);
     for _ in 0..MOST_PARTS {
-        if words.is_empty() {
+        if words.is_empty() || take_gives(words) {
             return Ok(bytes);
         }
         take_part(alloc, words, &mut bytes)?;
     }
     Err(RowFault::NotARow)
+}
+
+/// Takes the word `gives`, if it is the next one. Gives whether it was.
+fn take_gives(words: &mut Words<'_>) -> bool {
+    let mut ahead = *words;
+    match ahead.plain() {
+        Ok("gives") => {
+            *words = ahead;
+            true
+        }
+        _ => false,
+    }
 }
 
 /// Takes the next part, and appends its bytes.

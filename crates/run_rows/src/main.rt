@@ -1,12 +1,17 @@
-//! `run_rows FILE`: prints each row of a file with what comes of it: texts of the two forms, scripts that are read, and what runs of them
-//! print.
+//! `run_rows FILE`: prints each row of a file with what comes of it: texts of the two forms, scripts and event files that are read, what
+//! runs of them print, and what calls of states give.
 #![tactic(auto)]
 
 mod bytes;
+mod events;
+mod failing;
 mod forms;
 mod reading;
 mod running;
+mod simulating;
+mod states;
 
+use bytes::bytes_of;
 use rows::{Answers, RowFault, Words, run_table};
 use std::alloc::Global;
 use std::process::ExitCode;
@@ -26,19 +31,50 @@ struct RunRows;
 impl Answers for RunRows {
     fn answer(&mut self, alloc: Global, row: &str) -> Result<String, RowFault> {
         let mut words = Words::new(row);
-        let name = words.plain()?;
-        let bytes = bytes::bytes_of(alloc, &mut words)?;
-        result_of(alloc, name, &bytes)
+        let result = result_of(alloc, words.plain()?, &mut words)?;
+        if words.is_empty() {
+            Ok(result)
+        } else {
+            Err(RowFault::NotARow)
+        }
+    }
+}
+
+/// The result of an operation at the words after its name.
+fn result_of(alloc: Global, name: &str, words: &mut Words<'_>) -> Result<String, RowFault> {
+    match name {
+        "state" => states::state(alloc, words),
+        "request" => states::request(alloc, words),
+        "prints" => prints(alloc, words),
+        "unwritten" => unwritten(alloc, words),
+        _ => result_at(alloc, name, &bytes_of(alloc, words)?),
     }
 }
 
 /// The result of an operation at these bytes.
-fn result_of(alloc: Global, name: &str, bytes: &[u8]) -> Result<String, RowFault> {
+fn result_at(alloc: Global, name: &str, bytes: &[u8]) -> Result<String, RowFault> {
     match name {
         "insertion" => forms::insertion(alloc, bytes),
         "path" => forms::path(alloc, bytes),
         "script" => reading::script(alloc, bytes),
         "run" => running::run(alloc, bytes),
+        "unread" => running::unread(alloc, bytes),
+        "events" => events::events(alloc, bytes),
+        "sim" => simulating::sim(alloc, bytes),
         _ => Err(RowFault::NotARow),
     }
+}
+
+/// `BYTES gives BYTES`: a run of a script, and whether it prints what is given.
+fn prints(alloc: Global, words: &mut Words<'_>) -> Result<String, RowFault> {
+    let script = bytes_of(alloc, words)?;
+    let given = bytes_of(alloc, words)?;
+    running::prints(alloc, &script, &given)
+}
+
+/// `WRITES BYTES`: a run of a script whose output takes so many writes.
+fn unwritten(alloc: Global, words: &mut Words<'_>) -> Result<String, RowFault> {
+    let writes = words.number()?;
+    let script = bytes_of(alloc, words)?;
+    running::unwritten(alloc, writes, &script)
 }

@@ -1,11 +1,12 @@
 //! Runs of scripts, by readers and writers in memory.
 
 use super::bytes::text_of;
+use super::failing::{FailingReader, FailingWriter};
 use paxq_run::run_script;
 use rows::RowFault;
 use std::alloc::Global;
 
-/// `run TEXT`: the exit status of a run of a script, its output and its error output.
+/// `run BYTES`: the exit status of a run of a script, its output and its error output.
 pub(super) fn run(alloc: Global, bytes: &[u8]) -> Result<String, RowFault> {
     let mut reader = bytes;
     let mut output: Vec<u8> = Vec::new(alloc);
@@ -14,8 +15,45 @@ pub(super) fn run(alloc: Global, bytes: &[u8]) -> Result<String, RowFault> {
     shown(alloc, ended.ok(), &output, &errors)
 }
 
+/// `prints BYTES gives BYTES`: the exit status of a run of a script, its output or that it is as given, and its error output.
+pub(super) fn prints(alloc: Global, bytes: &[u8], given: &[u8]) -> Result<String, RowFault> {
+    let mut reader = bytes;
+    let mut output: Vec<u8> = Vec::new(alloc);
+    let mut errors: Vec<u8> = Vec::new(alloc);
+    let ended = run_script(alloc, "script.pxq", &mut reader, &mut output, &mut errors);
+    if output.as_slice() != given {
+        return shown(alloc, ended.ok(), &output, &errors);
+    }
+    let status = ended.ok().ok_or(RowFault::Memory)?;
+    let errors = text_of(&errors)?;
+    Ok(format!(in alloc; "{status} as given {errors:?}")?)
+}
+
+/// `unread BYTES`: a run of a script whose reader gives these bytes and then fails.
+pub(super) fn unread(alloc: Global, bytes: &[u8]) -> Result<String, RowFault> {
+    let mut reader = FailingReader::new(bytes);
+    let mut output: Vec<u8> = Vec::new(alloc);
+    let mut errors: Vec<u8> = Vec::new(alloc);
+    let ended = run_script(alloc, "script.pxq", &mut reader, &mut output, &mut errors);
+    shown(alloc, ended.ok(), &output, &errors)
+}
+
+/// `unwritten WRITES BYTES`: the exit status of a run of a script whose output takes so many writes, or `not written`, and its error
+/// output.
+pub(super) fn unwritten(alloc: Global, writes: u64, bytes: &[u8]) -> Result<String, RowFault> {
+    let mut reader = bytes;
+    let mut output = FailingWriter::new(writes);
+    let mut errors: Vec<u8> = Vec::new(alloc);
+    let ended = run_script(alloc, "script.pxq", &mut reader, &mut output, &mut errors);
+    let errors = text_of(&errors)?;
+    Ok(match ended {
+        Ok(status) => format!(in alloc; "{status} {errors:?}")?,
+        Err(_) => format!(in alloc; "not written {errors:?}")?,
+    })
+}
+
 /// The exit status, the output and the error output of a run.
-fn shown(
+pub(super) fn shown(
     alloc: Global,
     status: Option<u8>,
     output: &[u8],
