@@ -7,12 +7,12 @@
 //! the last of them.
 
 use ballots::{Answer, Reply, Request, RequestFault, RequestId, Value};
+use document_names::NamesFault;
 use paxq_files::read_names;
 use query_forms::{read_insertion, read_path};
 use rows::{RowFault, Words};
 use sessions::State;
 use std::alloc::{AllocError, Global};
-use trees::NamesFault;
 
 /// How many calls a row has at most.
 const MOST_CALLS: u32 = 1_000;

@@ -1,8 +1,9 @@
 //! Lists of document names.
 
+use document_names::{Names, NamesFault};
 use rows::{RowFault, Words};
 use std::alloc::Global;
-use trees::{Forest, Names, NamesFault};
+use trees::Forest;
 
 /// How many names a row has at most.
 const MOST_NAMES: u32 = 1_000;
