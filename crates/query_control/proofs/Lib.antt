@@ -4,4 +4,5 @@ pub mod Deciding
 pub mod Each
 pub mod Ranging
 pub mod Signing
+pub mod Unfolded
 pub mod Values

@@ -1,7 +1,10 @@
 //! Forms over a function that evaluates their parts, so that each is proved by itself: literals, variables, the context item, the comma
 //! and `if`.
 
-ghost use Rattle.std.specs.Prelude.{◌≡◌, ◌∷◌, [], map, Some};
+ghost use Rattle.std.specs.Prelude.{◌≡◌, ◌∷◌, [], map, Some, None, IfOk, IfErr};
+ghost use Rattle.values.specs.declared.code.Code.TheVariants.{XPST0008};
+ghost use Rattle.query_meaning.specs.Environment.{value_in};
+ghost use Rattle.query_meaning.specs.Running.{Run, come_to};
 ghost use Rattle.query_meaning.specs.Meaning.{mean};
 ghost use Rattle.query_meaning.specs.Sequences as meaning;
 ghost use Rattle.query_control.specs.Evaluates.{Evaluates};
@@ -36,7 +39,7 @@ impl<F: Fn(&mut Evaluation, &Expr, &Environment) -> Result<Sequence, ValueFault>
         (self.value_of)(run, x, env)
     }
 
-    /// The effective boolean value of a part (XQuery 1.0, section 2.4.3).
+    /// The effective boolean value of a part (XQuery 1.0, section 2.4.3). The items of a variable are not copied.
     pub(crate) fn holds(
         &self,
         run: &mut Evaluation,
@@ -47,6 +50,9 @@ impl<F: Fn(&mut Evaluation, &Expr, &Environment) -> Result<Sequence, ValueFault>
         requires ready { IsReady env.now run.old }
         ensures { GivesIn Any (meaning.tested (Some (mean x.now)) env.now) run.old result run.new }
     {
+        if let Expr::Variable(name) = x {
+            return Ok(truth_of_variable(name, env)?);
+        }
         let items = self.value_of(run, x, env)?;
         Ok(truth(items.as_slice())?)
     }
@@ -147,10 +153,27 @@ pub fn variable(
     requires ready { IsReady env.now run.old }
     ensures { Gives (meaning.variable name.now env.now) run.old result run.new }
 {
+    Ok(lent(name, env)?.copy(run.alloc())?)
+}
+
+/// The items of `$name`, lent to what only looks at them (XQuery 1.0, section 3.1.2). It takes no memory. Code: XPST0008 where no variable
+/// has that name.
+pub fn lent<'e>(name: &Text, env: &'e Environment) -> Result<&'e Sequence, Code>
+    ensures items { IfOk result (λ s. value_in name.now env.now.variables ≡ Some s.now) }
+    ensures code { IfErr result (λ code. (value_in name.now env.now.variables ≡ None) × (code ≡ XPST0008)) }
+{
     match env.variables().get(name.as_str()) {
-        Some(items) => Ok(items.copy(run.alloc())?),
-        None => Err(ValueFault::Code(Code::XPST0008)),
+        Some(items) => Ok(items),
+        None => Err(Code::XPST0008),
     }
+}
+
+/// The effective boolean value of `$name`. Codes: XPST0008 where no variable has that name; FORG0006 where the first of several items is
+/// an atomic value.
+fn truth_of_variable(name: &Text, env: &Environment) -> Result<bool, Code>
+    ensures { (run : Run) → come_to result run ≡ meaning.tested (Some (meaning.variable name.now)) env.now run }
+{
+    truth(lent(name, env)?.as_slice())
 }
 
 /// `.` (XQuery 1.0, section 3.1.4). Code: XPDY0002 where there is no context item.

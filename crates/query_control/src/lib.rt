@@ -19,7 +19,7 @@ mod signs;
 pub use chain::SetOperator;
 pub use environment::{Environment, Variables};
 pub use evaluation::Evaluation;
-pub use forms::{Forms, context_item, number, string, variable};
+pub use forms::{Forms, context_item, lent, number, string, variable};
 pub use nodes::{follows, is_same, precedes};
 pub use operators::{calculated, compared_by_pairs, compared_by_value};
 pub use ranges::ranged;
