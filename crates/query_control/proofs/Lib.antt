@@ -4,5 +4,6 @@ pub mod Deciding
 pub mod Each
 pub mod Ranging
 pub mod Signing
+pub mod Sorting
 pub mod Unfolded
 pub mod Values
