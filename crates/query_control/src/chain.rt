@@ -34,9 +34,7 @@ impl<F: Fn(&mut Evaluation, &Expr, &Environment) -> Result<Sequence, ValueFault>
     /// An expression, and operators with their right operands, from the left: `a + b - ..` (XQuery 1.0, sections 3.3 to 3.6). `set_of` is
     /// called with the operators between sets of nodes, and the items on both sides. Codes: that of the first operand or operator that
     /// has one.
-    pub fn chain<
-        S: Fn(&mut Evaluation, SetOperator, &Sequence, &Sequence) -> Result<Sequence, ValueFault>,
-    >(
+    pub fn chain<S>(
         &self,
         run: &mut Evaluation,
         set_of: &S,
@@ -44,6 +42,8 @@ impl<F: Fn(&mut Evaluation, &Expr, &Environment) -> Result<Sequence, ValueFault>
         operations: &Items<Operation<Expr>>,
         env: &Environment,
     ) -> Result<Sequence, ValueFault>
+    where
+        S: Fn(&mut Evaluation, SetOperator, &Sequence, &Sequence) -> Result<Sequence, ValueFault>,
         requires first { Evaluates (F.pre self.now.value_of) (F.post self.now.value_of) (first.now ∷ []) }
         requires operations { EvaluatesEach (F.pre self.now.value_of) (F.post self.now.value_of) part.operand_of operations.now }
         requires sets { ComputesSets (S.pre set_of.now) (S.post set_of.now) }
@@ -54,9 +54,7 @@ impl<F: Fn(&mut Evaluation, &Expr, &Environment) -> Result<Sequence, ValueFault>
         self.operated_in_turn(run, set_of, left, operations.as_slice(), env)
     }
 
-    fn operated_in_turn<
-        S: Fn(&mut Evaluation, SetOperator, &Sequence, &Sequence) -> Result<Sequence, ValueFault>,
-    >(
+    fn operated_in_turn<S>(
         &self,
         run: &mut Evaluation,
         set_of: &S,
@@ -64,6 +62,8 @@ impl<F: Fn(&mut Evaluation, &Expr, &Environment) -> Result<Sequence, ValueFault>
         operations: &[Operation<Expr>],
         env: &Environment,
     ) -> Result<Sequence, ValueFault>
+    where
+        S: Fn(&mut Evaluation, SetOperator, &Sequence, &Sequence) -> Result<Sequence, ValueFault>,
         requires operations { EvaluatesEach (F.pre self.now.value_of) (F.post self.now.value_of) part.operand_of operations.now }
         requires sets { ComputesSets (S.pre set_of.now) (S.post set_of.now) }
         requires ready { IsReady env.now run.old }
@@ -77,9 +77,7 @@ impl<F: Fn(&mut Evaluation, &Expr, &Environment) -> Result<Sequence, ValueFault>
         Ok(given)
     }
 
-    fn and_operation<
-        S: Fn(&mut Evaluation, SetOperator, &Sequence, &Sequence) -> Result<Sequence, ValueFault>,
-    >(
+    fn and_operation<S>(
         &self,
         run: &mut Evaluation,
         set_of: &S,
@@ -87,6 +85,8 @@ impl<F: Fn(&mut Evaluation, &Expr, &Environment) -> Result<Sequence, ValueFault>
         operation: &Operation<Expr>,
         env: &Environment,
     ) -> Result<Sequence, ValueFault>
+    where
+        S: Fn(&mut Evaluation, SetOperator, &Sequence, &Sequence) -> Result<Sequence, ValueFault>,
         requires evaluates { Evaluates (F.pre self.now.value_of) (F.post self.now.value_of) (part.operand_of operation.now ∷ []) }
         requires sets { ComputesSets (S.pre set_of.now) (S.post set_of.now) }
         requires ready { IsReady env.now run.old }
@@ -113,15 +113,15 @@ fn deciding(operator: Binary) -> Option<bool>
 }
 
 /// An operator whose sides are both evaluated.
-fn between<
-    S: Fn(&mut Evaluation, SetOperator, &Sequence, &Sequence) -> Result<Sequence, ValueFault>,
->(
+fn between<S>(
     run: &mut Evaluation,
     set_of: &S,
     operator: Binary,
     left: &Sequence,
     right: &Sequence,
 ) -> Result<Sequence, ValueFault>
+where
+    S: Fn(&mut Evaluation, SetOperator, &Sequence, &Sequence) -> Result<Sequence, ValueFault>,
     requires sets { ComputesSets (S.pre set_of.now) (S.post set_of.now) }
     requires both { part.deciding operator ≡ None }
     requires left { Stand left.now run.old }
