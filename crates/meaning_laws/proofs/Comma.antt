@@ -1,6 +1,7 @@
 -- A sequence within a sequence.
 use Rattle.std.proofs.Common.{◌≡◌, ◌↔◌, ℕ, zero, suc, ◌+◌, ◌≤◌, Bool, true, false, nat_le, if◌then◌else◌, List, [], ◌∷◌, ◌++◌, length, Result, Ok, Err, refl, ap, sym, subst, ◌∙◌, arith}
 use Rattle.std.proofs.lemmas.Bool.{leb-true, le-leb}
+use Rattle.std.proofs.lemmas.List.{append-nil, append_assoc, length-append}
 use Rattle.values.specs.declared.code.Code.{Code}
 use Rattle.values.specs.declared.code.Code.TheVariants.{PXQ0002}
 use Rattle.values.specs.declared.atom.Item.{Item}
@@ -8,14 +9,6 @@ use Rattle.query_meaning.specs.Running.{Run, M, pure, and_then, ◌>>=◌, come_
 use Rattle.query_meaning.specs.Environment.{Environment}
 use Rattle.query_meaning.specs.Sequences.{Meaning, and_items, sequence}
 use Rattle.meaning_laws.proofs.Keeps.{Comes, no_value}
-
-append_both : (xs ys zs : List Item) → (xs ++ ys) ++ zs ≡ xs ++ (ys ++ zs)
-append_both [] ys zs = refl
-append_both (x ∷ xs) ys zs = ap (λ us. x ∷ us) (append_both xs ys zs)
-
-length_both : (xs ys : List Item) → length (xs ++ ys) ≡ length xs + length ys
-length_both [] ys = omega arith
-length_both (x ∷ xs) ys = omega (arith, length_both xs ys)
 
 -- the same comes of the same values
 alike : {A B : Type 0} (f g : A → M B) → ((a : A) (run : Run) → f a run ≡ g a run) → (r : Result (A × Run) Code) → and_then r f ≡ and_then r g
@@ -101,7 +94,7 @@ module _ (env : Environment) where
   grows n [] given run p h = omega (arith, ap (λ (q : Value). length q.0) (same_value (given, run) p h))
   grows n (m ∷ ms) given run p h =
       let a = after_part (m env run) given (rest (suc n) ms) p h in
-      omega (arith, grows (suc n) ms (given ++ a.0.0) a.0.1 p a.3, length_both given a.0.0)
+      omega (arith, grows (suc n) ms (given ++ a.0.0) a.0.1 p a.3, length-append given a.0.0)
 
   -- and are never too many
   held : (n : ℕ) (ms : List Meaning) (given : List Item) (run : Run) (p : Value) → Comes (rest n ms given run) p → Fits given → Fits p.0
@@ -113,9 +106,9 @@ module _ (env : Environment) where
   fronted n [] before given run q h fit = ap (λ (v : Value). let r : Result Value Code = Ok (before ++ v.0, v.1) in r) (same_value (given, run) q h)
   fronted n (m ∷ ms) before given run q h fit =
       let a = after_part (m env run) given (rest (suc n) ms) q h in
-      let room : Fits ((before ++ given) ++ a.0.0) = omega (arith, fit, grows (suc n) ms (given ++ a.0.0) a.0.1 q a.3, length_both (before ++ given) a.0.0, length_both before given, length_both given a.0.0, length_both before q.0) in
+      let room : Fits ((before ++ given) ++ a.0.0) = omega (arith, fit, grows (suc n) ms (given ++ a.0.0) a.0.1 q a.3, length-append (before ++ given) a.0.0, length-append before given, length-append given a.0.0, length-append before q.0) in
       to_part (m env run) a.0 a.1 (before ++ given) (rest (suc n) ms) room
-      ∙ ap (λ items. rest (suc n) ms items a.0.1) (append_both before given a.0.0)
+      ∙ ap (λ items. rest (suc n) ms items a.0.1) (append_assoc before given a.0.0)
       ∙ fronted (suc n) ms before (given ++ a.0.0) a.0.1 q a.3 fit
 
   -- and what comes after more came after some
@@ -123,26 +116,22 @@ module _ (env : Environment) where
   unfronted n [] before given run p h = ((given, run), refl, sym (same_value (before ++ given, run) p h))
   unfronted n (m ∷ ms) before given run p h =
       let a = after_part (m env run) (before ++ given) (rest (suc n) ms) p h in
-      let b = unfronted (suc n) ms before (given ++ a.0.0) a.0.1 p (sym (ap (λ items. rest (suc n) ms items a.0.1) (append_both before given a.0.0)) ∙ a.3) in
-      let room : Fits (given ++ a.0.0) = omega (arith, a.2, length_both (before ++ given) a.0.0, length_both before given, length_both given a.0.0) in
+      let b = unfronted (suc n) ms before (given ++ a.0.0) a.0.1 p (sym (ap (λ items. rest (suc n) ms items a.0.1) (append_assoc before given a.0.0)) ∙ a.3) in
+      let room : Fits (given ++ a.0.0) = omega (arith, a.2, length-append (before ++ given) a.0.0, length-append before given, length-append given a.0.0) in
       (b.0, to_part (m env run) a.0 a.1 given (rest (suc n) ms) room ∙ b.1, b.2)
-
-  append_nothing : (xs : List Item) → xs ++ [] ≡ xs
-  append_nothing [] = refl
-  append_nothing (x ∷ xs) = ap (λ ys. x ∷ ys) (append_nothing xs)
 
   -- a result that is some value, or a fault
   flattened : (r : Result Value Code) (ms ns : List Meaning) (given : List Item) (run : Run) (p : Value) → rest 0 ms [] run ≡ r → Comes (and_then (and_then r (joined given)) (rest 1 ns)) p → Comes (and_then (rest 0 ms given run) (rest 0 ns)) p
   flattened r ms ns given run p e h =
       let a = after_part r given (rest 1 ns) p h in
-      ap (λ x. and_then x (rest 0 ns)) (ap (λ items. rest 0 ms items run) (sym (append_nothing given)) ∙ fronted 0 ms given [] run a.0 (e ∙ a.1) a.2)
+      ap (λ x. and_then x (rest 0 ns)) (ap (λ items. rest 0 ms items run) (sym (append-nil given)) ∙ fronted 0 ms given [] run a.0 (e ∙ a.1) a.2)
       ∙ any_number 0 1 ns (given ++ a.0.0) a.0.1
       ∙ a.3
 
   nested : (r : Result Value Code) (ms ns : List Meaning) (given : List Item) (run : Run) (p : Value) → rest 0 ms given run ≡ r → Fits given → Comes (and_then r (rest 0 ns)) p → Comes (and_then (and_then (rest 0 ms [] run) (joined given)) (rest 1 ns)) p
   nested (Err e) ms ns given run p is fit h = absurd (no_value e p h)
   nested (Ok k) ms ns given run p is fit h =
-      let b = unfronted 0 ms given [] run k (ap (λ items. rest 0 ms items run) (append_nothing given) ∙ is) in
+      let b = unfronted 0 ms given [] run k (ap (λ items. rest 0 ms items run) (append-nil given) ∙ is) in
       let room : Fits (given ++ b.0.0) = subst (λ (q : Value). Fits q.0) b.2 (held 0 ms given run k is fit) in
       to_part (rest 0 ms [] run) b.0 b.1 given (rest 1 ns) room
       ∙ any_number 1 0 ns (given ++ b.0.0) b.0.1

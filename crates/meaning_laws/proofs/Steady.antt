@@ -1,7 +1,9 @@
 -- Relations of runs that each single change keeps.
 use Rattle.std.proofs.Common.{◌≡◌, ℕ, ◌≤◌, ◌+◌, nat_le, true, List, [], ◌∷◌, ◌++◌, refl, ap, sym, ◌∙◌, arith}
 use Rattle.std.proofs.lemmas.Bool.{leb-true}
-use Rattle.trees.specs.Trees.{Trees, no_trees, tree, append}
+use Rattle.std.proofs.lemmas.List.{append-nil, append_assoc}
+use Rattle.trees.proofs.Weights.{append-none, append-append}
+use Rattle.trees.specs.Trees.{Trees, no_trees, append}
 use Rattle.pending.specs.Primitives.{PrimitiveTerm}
 use Rattle.query_meaning.specs.Running.{Run, most_nodes}
 use Rattle.meaning_laws.proofs.Keeps.{IsSteady}
@@ -39,38 +41,22 @@ numbers = record {
 abbrev pub Longer : List PrimitiveTerm → List PrimitiveTerm → Type 0
 Longer xs ys = (more : List PrimitiveTerm) × (ys ≡ xs ++ more)
 
-append_none : (xs : List PrimitiveTerm) → xs ≡ xs ++ []
-append_none [] = refl
-append_none (x ∷ xs) = ap (λ ys. x ∷ ys) (append_none xs)
-
-append_both : (xs ys zs : List PrimitiveTerm) → (xs ++ ys) ++ zs ≡ xs ++ (ys ++ zs)
-append_both [] ys zs = refl
-append_both (x ∷ xs) ys zs = ap (λ us. x ∷ us) (append_both xs ys zs)
-
 -- primitives are put after those that there are
 abbrev pub MorePrimitives : Run → Run → Type 0
 MorePrimitives a b = Longer a.primitives b.primitives
 
 pub more_primitives : IsSteady MorePrimitives
 more_primitives = record {
-  same = λ run. ([], append_none run.primitives);
-  chained = λ a b c h g. (h.0 ++ g.0, g.1 ∙ ap (λ xs. xs ++ g.0) h.1 ∙ append_both a.primitives h.0 g.0);
-  turned = λ run n. ([], append_none run.primitives);
+  same = λ run. ([], sym (append-nil run.primitives));
+  chained = λ a b c h g. (h.0 ++ g.0, g.1 ∙ ap (λ xs. xs ++ g.0) h.1 ∙ append_assoc a.primitives h.0 g.0);
+  turned = λ run n. ([], sym (append-nil run.primitives));
   added = λ run p. (p ∷ [], refl);
-  numbered = λ run n h. ([], append_none run.primitives);
-  stood = λ run ts. ([], append_none run.primitives);
+  numbered = λ run n h. ([], sym (append-nil run.primitives));
+  stood = λ run ts. ([], sym (append-nil run.primitives));
 }
 
 abbrev pub Beside : Trees → Trees → Type 0
 Beside ts us = (more : Trees) × (us ≡ append ts more)
-
-no_more : (ts : Trees) → ts ≡ append ts no_trees
-no_more no_trees = refl
-no_more (tree c bs cs rest) = ap (λ us. tree c bs cs us) (no_more rest)
-
-more_both : (ts us vs : Trees) → append (append ts us) vs ≡ append ts (append us vs)
-more_both no_trees us vs = refl
-more_both (tree c bs cs rest) us vs = ap (λ ws. tree c bs cs ws) (more_both rest us vs)
 
 -- new trees stand beside those that there are
 abbrev pub MoreTrees : Run → Run → Type 0
@@ -78,10 +64,10 @@ MoreTrees a b = Beside a.shelf.own.trees b.shelf.own.trees
 
 pub more_trees : IsSteady MoreTrees
 more_trees = record {
-  same = λ run. (no_trees, no_more run.shelf.own.trees);
-  chained = λ a b c h g. (append h.0 g.0, g.1 ∙ ap (λ ts. append ts g.0) h.1 ∙ more_both a.shelf.own.trees h.0 g.0);
-  turned = λ run n. (no_trees, no_more run.shelf.own.trees);
-  added = λ run p. (no_trees, no_more run.shelf.own.trees);
-  numbered = λ run n h. (no_trees, no_more run.shelf.own.trees);
+  same = λ run. (no_trees, sym (append-none run.shelf.own.trees));
+  chained = λ a b c h g. (append h.0 g.0, g.1 ∙ ap (λ ts. append ts g.0) h.1 ∙ append-append a.shelf.own.trees h.0 g.0);
+  turned = λ run n. (no_trees, sym (append-none run.shelf.own.trees));
+  added = λ run p. (no_trees, sym (append-none run.shelf.own.trees));
+  numbered = λ run n h. (no_trees, sym (append-none run.shelf.own.trees));
   stood = λ run ts. (ts, refl);
 }
