@@ -1,11 +1,11 @@
 -- A sequence within a sequence.
-use Rattle.std.proofs.Common.{◌≡◌, ◌↔◌, ℕ, zero, suc, ◌+◌, ◌≤◌, Bool, true, false, nat_le, if◌then◌else◌, List, [], ◌∷◌, ◌++◌, length, Result, Ok, Err, refl, ap, sym, subst, ◌∙◌, arith}
+use Rattle.std.proofs.Common.{◌≡◌, ℕ, suc, ◌≤◌, Bool, true, false, nat_le, if◌then◌else◌, List, [], ◌∷◌, ◌++◌, length, Result, Ok, Err, refl, ap, sym, subst, ◌∙◌, arith}
 use Rattle.std.proofs.lemmas.Bool.{leb-true, le-leb}
 use Rattle.std.proofs.lemmas.List.{append-nil, append_assoc, length-append}
 use Rattle.values.specs.declared.code.Code.{Code}
 use Rattle.values.specs.declared.code.Code.TheVariants.{PXQ0002}
 use Rattle.values.specs.declared.atom.Item.{Item}
-use Rattle.query_meaning.specs.Running.{Run, M, pure, and_then, ◌>>=◌, come_to, each, joined, within, most_items}
+use Rattle.query_meaning.specs.Running.{Run, M, and_then, ◌>>=◌, come_to, each, joined, within, most_items}
 use Rattle.query_meaning.specs.Environment.{Environment}
 use Rattle.query_meaning.specs.Sequences.{Meaning, and_items, sequence}
 use Rattle.meaning_laws.proofs.Keeps.{Comes, no_value}

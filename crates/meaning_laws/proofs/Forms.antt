@@ -1,18 +1,15 @@
 -- Each form keeps what its parts keep.
-use Rattle.std.proofs.Common.{◌≡◌, ℕ, zero, suc, ◌+◌, ℤ, pos, neg_ℤ, ◌+ℤ◌, Bool, true, false, not, ◌&&◌, ◌||◌, nat_le, if◌then◌else◌, List, [], ◌∷◌, ◌++◌, length, map, reverse, filter, Option, Some, None, is_some, Result, Ok, Err, refl}
+use Rattle.std.proofs.Common.{ℕ, suc, ◌+◌, ℤ, pos, neg_ℤ, ◌+ℤ◌, Bool, true, false, not, ◌&&◌, ◌||◌, if◌then◌else◌, List, [], ◌∷◌, ◌++◌, length, map, reverse, filter, Option, Some, None, Result, Err}
 use Rattle.std.specs.List.{starts_with, ends_with, concat}
 use Rattle.std.specs.Prelude.{◌==◌, chars}
 use Rattle.trees.specs.Order.{identities, precedes}
 use Rattle.trees.specs.Axes.{is_in}
 use Rattle.trees.specs.Changes.{renumbered}
-use Rattle.trees.specs.Tidy.{is_document}
-use Rattle.trees.specs.Trees.{Trees, no_trees, tree, leaf, append, Place as Standing, Content, find, size}
+use Rattle.trees.specs.Trees.{Trees, no_trees, tree, leaf, append, find, size}
 use Rattle.trees.specs.Walks.{root_of}
 use Rattle.trees.specs.declared.axis.Axis.{Axis}
 use Rattle.trees.specs.declared.node.Kind.{Kind}
 use Rattle.trees.specs.declared.node.Kind.TheVariants as kind
-use Rattle.pending.specs.Primitives.{PrimitiveTerm, insert_before, insert_after, insert_into, insert_into_as_first, insert_into_as_last, insert_attributes}
-use Rattle.pending.specs.Primitives.{delete as delete_node, replace_node as replace_by, replace_value as replace_text, replace_element_content, rename as rename_to}
 use Rattle.values.specs.declared.code.Code.{Code}
 use Rattle.values.specs.declared.code.Code.TheVariants as code
 use Rattle.values.specs.declared.compare.Comparison.{Comparison}
@@ -33,13 +30,11 @@ use Rattle.query_grammar.specs.declared.ast.Name.{Name}
 use Rattle.query_grammar.specs.declared.ast.Name.TheVariants.{Written, Computed}
 use Rattle.query_grammar.specs.declared.ast.NodeTest.{NodeTest}
 use Rattle.query_grammar.specs.declared.ast.Operation.{Operation}
-use Rattle.query_grammar.specs.declared.ast.Place.{Place}
-use Rattle.query_grammar.specs.declared.ast.Place.TheVariants as place
 use Rattle.query_grammar.specs.declared.ast.Quantifier.{Quantifier}
 use Rattle.query_grammar.specs.declared.ast.Sign.{Sign}
 use Rattle.query_grammar.specs.declared.ast.Sign.TheVariants.{Plus, Minus}
 use Rattle.query_grammar.specs.declared.ast.SortKey.{SortKey}
-use Rattle.query_meaning.specs.Running.{Run, M, pure, fault, ◌>>=◌, come_to, seen, atoms, each, turn, turns, adding, new_nodes, standing, joined, within}
+use Rattle.query_meaning.specs.Running.{Run, M, pure, ◌>>=◌, come_to, atoms, each, turn, joined, within}
 use Rattle.query_meaning.specs.Environment.{Environment, Focus, value_in, with_variable, with_focus}
 use Rattle.query_meaning.specs.Sequences as sequences
 use Rattle.query_meaning.specs.Sequences.{Meaning, one, focus_of, Tuple}
@@ -48,9 +43,8 @@ use Rattle.query_meaning.specs.Paths as paths
 use Rattle.query_meaning.specs.Functions as functions
 use Rattle.query_meaning.specs.Content as contents
 use Rattle.query_meaning.specs.Constructors as constructors
-use Rattle.query_meaning.specs.Updates as updates
 use Rattle.query_meaning.specs.Strings.{limited, one_text, spaced, separated, text_in}
-use Rattle.meaning_laws.proofs.Keeps.{Keeps, Each, IsSteady, pure_keeps, fault_keeps, come_keeps, seen_keeps, atoms_keep, bind, each_keeps, turn_keeps, turns_keep, adding_keeps, new_nodes_keep, standing_keeps, joined_keeps}
+use Rattle.meaning_laws.proofs.Keeps.{Keeps, Each, IsQuiet, pure_keeps, fault_keeps, come_keeps, seen_keeps, atoms_keep, bind, each_keeps, turn_keeps, turns_keep, new_nodes_keep, standing_keeps, joined_keeps}
 
 -- what a clause binds to
 abbrev pub source_of : {A : Type 0} → Clause A → A
@@ -58,7 +52,7 @@ source_of (clause.For b) = b.source
 source_of (clause.ForAt b at) = b.source
 source_of (clause.Let b) = b.source
 
-module _ (R : Run → Run → Type 0) (s : IsSteady R) where
+module _ (R : Run → Run → Type 0) (s : IsQuiet R) where
   abbrev K : {A : Type 0} → M A → Type 0
   K {A = A} m = Keeps R A m
 
@@ -482,7 +476,7 @@ module _ (R : Run → Run → Type 0) (s : IsSteady R) where
 
   -- Constructors.
 
-  new_text : (text : List ℕ) → K (contents.new_text text)
+  pub new_text : (text : List ℕ) → K (contents.new_text text)
   new_text text = step (new_nodes_keep R s 1) (λ i. pure_ (contents.text_node text i))
 
   copied : (i : ℕ) → K (contents.copied i)
@@ -492,13 +486,13 @@ module _ (R : Run → Run → Type 0) (s : IsSteady R) where
   made (contents.values more) = step (come (spaced more)) (λ text. new_text text)
   made (contents.node i) = copied i
 
-  content : (xs : List Item) → K (contents.content xs)
+  pub content : (xs : List Item) → K (contents.content xs)
   content xs = each_keeps R s {f = λ _ given x. contents.made x >>= (λ us. pure (append given us))} (λ n given x. step (made x) (λ us. pure_ (append given us))) 0 (contents.parts_of xs) no_trees
 
   rooted : (i : ℕ) (t : Trees) → K (constructors.rooted i t)
   rooted i t = step (standing_keeps R s t) (λ _. pure_ (item.Node i ∷ []))
 
-  named : (kind : Kind) (m : Meaning) → Good m → (env : Environment) → K (constructors.named kind m env)
+  pub named : (kind : Kind) (m : Meaning) → Good m → (env : Environment) → K (constructors.named kind m env)
   named kind m g env = step (g env) (λ items. step (atoms_keep R s items) (λ values. step (come (one_text values)) (λ text. come (constructors.name_for kind text))))
 
   abbrev pub GoodName : Name Meaning → Type 0
@@ -542,85 +536,3 @@ module _ (R : Run → Run → Type 0) (s : IsSteady R) where
   pub instruction : (n : Name Meaning) (m : Meaning) → GoodName n → Good m → Good (constructors.instruction n m)
   instruction n m gn g env =
       step (name_of kind.Instruction n gn env) (λ name. step (text_of m g env) (λ given. step (come (constructors.instruction_text given)) (λ text. with_text kind.Instruction name text)))
-
-  -- Updating expressions.
-
-  must : (b : Bool) (e : Code) → K (updates.must b e)
-  must true e = pure_ tt
-  must false e = come (Err e)
-
-  target_of : (may : Kind → Bool) (e : Code) (items : List Item) → K (updates.target_of may e items)
-  target_of may e [] = come (Err code.XUDY0027)
-  target_of may e (item.Node i ∷ []) = step (seen_keeps R s (find i)) (λ x. come (updates.of_kinds may e x))
-  target_of may e (item.Node i ∷ x ∷ xs) = come (Err e)
-  target_of may e (item.Atomic a ∷ xs) = come (Err e)
-
-  adding_trees : (g : Trees → PrimitiveTerm) (us : Trees) → K (updates.adding_trees g us)
-  adding_trees g no_trees = pure_ tt
-  adding_trees g (tree x bs cs rest) = adding_keeps R s (g (tree x bs cs rest))
-
-  adding_insertions : (i : ℕ) (g : Trees → PrimitiveTerm) (us : Trees) → K (updates.adding_insertions i g us)
-  adding_insertions i g us = step (adding_trees (insert_attributes i) (contents.attributes us)) (λ _. step (adding_trees g (contents.others us)) (λ _. pure_ []))
-
-  inserted_into : (g : ℕ → Trees → PrimitiveTerm) (us : Trees) (items : List Item) → K (updates.inserted_into g us items)
-  inserted_into g us items =
-      step (target_of updates.has_children code.XUTY0005 items) (λ (x : Standing).
-      step (must (updates.is_none (contents.attributes us) || not (is_document x.content.kind)) code.XUTY0022) (λ _. adding_insertions x.content.identity (g x.content.identity) us))
-
-  inserted_beside : (g : ℕ → Trees → PrimitiveTerm) (us : Trees) (items : List Item) → K (updates.inserted_beside g us items)
-  inserted_beside g us items =
-      step (target_of updates.may_be_sibling code.XUTY0006 items) (λ (x : Standing). step (come (or_fault code.XUDY0029 x.parent)) (λ parent. step (seen_keeps R s (find parent)) (λ above.
-      step (must (updates.is_none (contents.attributes us) || not (updates.is_document_at above)) code.XUDY0030) (λ _. adding_insertions parent (g x.content.identity) us))))
-
-  inserted : (at : Place) (us : Trees) (items : List Item) → K (updates.inserted at us items)
-  inserted place.Into us items = inserted_into insert_into us items
-  inserted place.FirstInto us items = inserted_into insert_into_as_first us items
-  inserted place.LastInto us items = inserted_into insert_into_as_last us items
-  inserted place.Before us items = inserted_beside insert_before us items
-  inserted place.After us items = inserted_beside insert_after us items
-
-  pub insert : (source : Meaning) (at : Place) (target : Meaning) → Good source → Good target → Good (updates.insert source at target)
-  insert source at target gs gt env =
-      step (gs env) (λ items. step (content items) (λ us. step (must (contents.has_attributes_first us) code.XUTY0004) (λ _. step (gt env) (λ found. inserted at us found))))
-
-  pub delete : (target : Meaning) → Good target → Good (updates.delete target)
-  delete target g env =
-      step (g env) (λ items. step (come (operators.all_nodes code.XUTY0007 items))
-      (λ is. each_keeps R s {f = λ _ given i. adding (delete_node i) >>= (λ _. pure given)} (λ n given i. step (adding_keeps R s (delete_node i)) (λ _. pure_ given)) 0 is []))
-
-  replaces : (kind : Kind) (us : Trees) → K (updates.replaces kind us)
-  replaces kind.Attribute us = must (contents.are_all contents.is_attribute us) code.XUTY0011
-  replaces kind.Document us = must (contents.are_all contents.is_other us) code.XUTY0010
-  replaces kind.Element us = must (contents.are_all contents.is_other us) code.XUTY0010
-  replaces kind.Text us = must (contents.are_all contents.is_other us) code.XUTY0010
-  replaces kind.Comment us = must (contents.are_all contents.is_other us) code.XUTY0010
-  replaces kind.Instruction us = must (contents.are_all contents.is_other us) code.XUTY0010
-
-  pub replace_node : (target source : Meaning) → Good target → Good source → Good (updates.replace_node target source)
-  replace_node target source gt gs env =
-      step (gt env) (λ found. step (target_of updates.may_be_replaced code.XUTY0008 found) (λ (x : Standing). step (must (is_some x.parent) code.XUDY0009) (λ _.
-      step (gs env) (λ items. step (content items) (λ us. step (replaces x.content.kind us) (λ _. step (adding_keeps R s (replace_by x.content.identity us)) (λ _. pure_ [])))))))
-
-  new_text_of : (values : List Atom) → K (updates.text_of_values values)
-  new_text_of [] = pure_ no_trees
-  new_text_of (a ∷ more) = step (come (spaced (a ∷ more))) (λ text. new_text text)
-
-  value_replaced : (x : Content) (us : Trees) → K (updates.value_replaced x us)
-  value_replaced x us = step (come (updates.text_for x.kind (updates.first_text us))) (λ text. step (adding_keeps R s (replace_text x.identity text)) (λ _. pure_ []))
-
-  content_replaced : (x : Content) (us : Trees) → K (updates.content_replaced x us)
-  content_replaced x us = step (adding_keeps R s (replace_element_content x.identity us)) (λ _. pure_ [])
-
-  either : (b : Bool) (x : Content) (us : Trees) → K (if b then updates.content_replaced x us else updates.value_replaced x us)
-  either true x us = content_replaced x us
-  either false x us = value_replaced x us
-
-  pub replace_value : (target source : Meaning) → Good target → Good source → Good (updates.replace_value target source)
-  replace_value target source gt gs env =
-      step (gt env) (λ found. step (target_of updates.may_be_replaced code.XUTY0008 found) (λ (x : Standing).
-      step (gs env) (λ items. step (atoms_keep R s items) (λ values. step (new_text_of values) (λ us. either _ x.content us)))))
-
-  pub rename : (target name : Meaning) → Good target → Good name → Good (updates.rename target name)
-  rename target name gt gn env =
-      step (gt env) (λ found. step (target_of updates.has_name code.XUTY0012 found) (λ (x : Standing).
-      step (named x.content.kind name gn env) (λ given. step (adding_keeps R s (rename_to x.content.identity given)) (λ _. pure_ []))))

@@ -1,5 +1,5 @@
 -- What every step of an evaluation leaves of a run.
-use Rattle.std.proofs.Common.{◌≡◌, ℕ, zero, suc, ◌+◌, ◌≤◌, Bool, true, false, nat_le, if◌then◌else◌, ◌==◌, ◌-◌, List, [], ◌∷◌, ◌++◌, length, Option, Some, None, Result, Ok, Err, refl, ap, subst, sym, ◌∙◌, arith}
+use Rattle.std.proofs.Common.{◌≡◌, ℕ, suc, ◌+◌, Bool, true, false, nat_le, if◌then◌else◌, ◌==◌, ◌-◌, List, [], ◌∷◌, ◌++◌, length, Result, Ok, Err, refl, ap, subst, sym}
 use Rattle.trees.specs.Trees.{Trees, append}
 use Rattle.pending.specs.Compatible.{most_primitives}
 use Rattle.pending.specs.Primitives.{PrimitiveTerm}
@@ -14,15 +14,19 @@ use Rattle.query_meaning.specs.Running.{Run, M, trees_of, pure, fault, and_then,
 pub record Keeps (R : Run → Run → Type 0) (A : Type 0) (m : M A) : Type 0 where
   pub kept : (run : Run) (p : A × Run) → m run ≡ Ok p → R run p.1
 
--- a relation of runs that each single change keeps
-pub record IsSteady (R : Run → Run → Type 0) : Type 0 where
+-- a relation of runs that each single change keeps, but for those of the update primitives
+pub record IsQuiet (R : Run → Run → Type 0) : Type 0 where
   pub same : (run : Run) → R run run
   pub chained : (a b c : Run) → R a b → R b c → R a c
   pub turned : (run : Run) (n : ℕ) → R run (record run { turns = n })
-  pub added : (run : Run) (p : PrimitiveTerm) → R run (record run { primitives = run.primitives ++ p ∷ [] })
   pub numbered : (run : Run) (n : ℕ) → nat_le (run.shelf.own.next + n) (run.shelf.lent.next + most_nodes) ≡ true
       → R run (record run { shelf = record run.shelf { own = record run.shelf.own { next = run.shelf.own.next + n } } })
   pub stood : (run : Run) (ts : Trees) → R run (record run { shelf = record run.shelf { own = record run.shelf.own { trees = append run.shelf.own.trees ts } } })
+
+-- a relation of runs that each single change keeps
+pub record IsSteady (R : Run → Run → Type 0) : Type 0 where
+  pub quiet : IsQuiet R
+  pub added : (run : Run) (p : PrimitiveTerm) → R run (record run { primitives = run.primitives ++ p ∷ [] })
 
 -- it holds of each
 abbrev pub Each : {A : Type 0} → (A → Type 0) → List A → Type 0
@@ -44,7 +48,7 @@ no_value code a h = subst clash (sym h) tt
 abbrev pub Comes : {A : Type 0} → Result (A × Run) Code → A × Run → Type 0
 Comes r p = r ≡ Ok p
 
-module _ (R : Run → Run → Type 0) (s : IsSteady R) where
+module _ (R : Run → Run → Type 0) (s : IsQuiet R) where
   ends : {A : Type 0} (run after : Run) (a : A) (p : A × Run) → R run after → Comes (Ok (a, after)) p → R run p.1
   ends run after a p r h = subst (R run) (ap (run_of run) h) r
 
@@ -90,13 +94,6 @@ module _ (R : Run → Run → Type 0) (s : IsSteady R) where
   pub turns_keep : (n : ℕ) → Keeps R (Unit {0}) (turns n)
   turns_keep n = record { kept = λ run p h. spent_if n run p (nat_le n run.turns) h }
 
-  added_if : (q : PrimitiveTerm) (run : Run) (p : Unit {0} × Run) (b : Bool) → (if b then Err PXQ0002 else Ok (tt, record run { primitives = run.primitives ++ q ∷ [] })) ≡ Ok p → R run p.1
-  added_if q run p true h = absurd (no_value PXQ0002 p h)
-  added_if q run p false h = ends run (record run { primitives = run.primitives ++ q ∷ [] }) tt p (s.added run q) h
-
-  pub adding_keeps : (q : PrimitiveTerm) → Keeps R (Unit {0}) (adding q)
-  adding_keeps q = record { kept = λ run p h. added_if q run p (nat_le most_primitives (length run.primitives)) h }
-
   numbered_if : (n : ℕ) (run : Run) (p : ℕ × Run) (b : Bool) → nat_le (run.shelf.own.next + n) (run.shelf.lent.next + most_nodes) ≡ b
       → (if b then Ok (run.shelf.own.next, record run { shelf = record run.shelf { own = record run.shelf.own { next = run.shelf.own.next + n } } }) else Err PXQ0003) ≡ Ok p → R run p.1
   numbered_if n run p true e h = ends run (record run { shelf = record run.shelf { own = record run.shelf.own { next = run.shelf.own.next + n } } }) run.shelf.own.next p (s.numbered run n e) h
@@ -110,3 +107,11 @@ module _ (R : Run → Run → Type 0) (s : IsSteady R) where
 
   pub joined_keeps : (given items : List Item) → Keeps R (List Item) (joined given items)
   joined_keeps given items = come_keeps (within (given ++ items))
+
+module _ (R : Run → Run → Type 0) (s : IsSteady R) where
+  added_if : (q : PrimitiveTerm) (run : Run) (p : Unit {0} × Run) (b : Bool) → (if b then Err PXQ0002 else Ok (tt, record run { primitives = run.primitives ++ q ∷ [] })) ≡ Ok p → R run p.1
+  added_if q run p true h = absurd (no_value PXQ0002 p h)
+  added_if q run p false h = ends R s.quiet run (record run { primitives = run.primitives ++ q ∷ [] }) tt p (s.added run q) h
+
+  pub adding_keeps : (q : PrimitiveTerm) → Keeps R (Unit {0}) (adding q)
+  adding_keeps q = record { kept = λ run p h. added_if q run p (nat_le most_primitives (length run.primitives)) h }

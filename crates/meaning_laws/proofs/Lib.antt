@@ -1,6 +1,8 @@
 pub mod Keeps
 pub mod Forms
+pub mod Updating
 pub mod Expressions
+pub mod Simple
 pub mod Steady
 pub mod Ordered
 pub mod Comma

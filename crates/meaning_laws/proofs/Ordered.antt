@@ -1,6 +1,5 @@
 -- What the last segment of a path gives, and what set operators give.
-use Rattle.std.proofs.Common.{◌≡◌, ◌⊎◌, inl, inr, ℕ, zero, suc, ◌+◌, Bool, if◌then◌else◌, List, [], ◌∷◌, map, filter, length, Result, Ok, Err, refl, ap, sym, subst, ◌∙◌}
-use Rattle.trees.specs.Trees.{Trees}
+use Rattle.std.proofs.Common.{◌≡◌, ◌⊎◌, inl, inr, ℕ, suc, ◌+◌, List, [], ◌∷◌, map, filter, length, Result, Ok, Err, refl, ap, sym, subst, ◌∙◌}
 use Rattle.trees.specs.Axes.{is_in}
 use Rattle.trees.specs.Order.{identities}
 use Rattle.values.specs.declared.code.Code.{Code}
@@ -8,7 +7,7 @@ use Rattle.values.specs.declared.code.Code.TheVariants as code
 use Rattle.values.specs.declared.atom.Atom.{Atom}
 use Rattle.values.specs.declared.atom.Item.{Item}
 use Rattle.values.specs.declared.atom.Item.TheVariants as item
-use Rattle.query_meaning.specs.Running.{Run, M, trees_of, pure, and_then, ◌>>=◌, come_to, seen, each, turn}
+use Rattle.query_meaning.specs.Running.{Run, M, trees_of, pure, and_then, ◌>>=◌, come_to, each, turn}
 use Rattle.query_meaning.specs.Environment.{Environment, with_focus}
 use Rattle.query_meaning.specs.Sequences.{Meaning}
 use Rattle.query_meaning.specs.Operators as operators

@@ -1,5 +1,5 @@
 -- A whole evaluation.
-use Rattle.std.proofs.Common.{◌≡◌, ◌≤◌, ◌+◌, ℕ, List, Result, Ok, Err, ap, subst, sym, ◌∙◌, refl, arith}
+use Rattle.std.proofs.Common.{◌≡◌, ◌≤◌, ◌+◌, ℕ, List, Result, Ok, Err, ap, subst, refl, arith}
 use Rattle.trees.specs.Forest.{ForestTerm}
 use Rattle.values.specs.declared.code.Code.{Code}
 use Rattle.values.specs.declared.atom.Item.{Item}

@@ -1,5 +1,5 @@
 -- What paths give, in the words of XQuery 1.0, section 3.2.
-use Rattle.std.specs.Prelude.{◌≡◌, ◌⊎◌, ℕ, List, map, filter}
+use Rattle.std.specs.Prelude.{◌≡◌, ℕ, List, map, filter}
 use Rattle.trees.specs.Trees.{Trees}
 use Rattle.trees.specs.Axes.{is_in}
 use Rattle.trees.specs.Order.{identities}

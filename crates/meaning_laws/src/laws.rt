@@ -1,11 +1,12 @@
 //! Laws of what expressions mean, each the contract of a function that does nothing.
 
-ghost use Rattle.std.specs.Prelude.{◌≡◌, ◌≤◌, ◌+◌, ◌++◌, ◌↔◌, ◌⊎◌, ℕ, List, [], ◌∷◌, Ok};
+ghost use Rattle.std.specs.Prelude.{◌≡◌, ◌≤◌, ◌+◌, ◌++◌, ◌↔◌, ◌⊎◌, ℕ, List, [], ◌∷◌, Ok, false};
 ghost use Rattle.trees.specs.Forest.{ForestTerm};
 ghost use Rattle.trees.specs.Trees.{Trees, append};
 ghost use Rattle.pending.specs.Primitives.{PrimitiveTerm};
 ghost use Rattle.values.specs.declared.atom.Item.{Item};
 ghost use Rattle.query_grammar.specs.declared.ast.Expr.{Expr};
+ghost use Rattle.static_checks.specs.Categories.{judged, may_not_stand};
 ghost use Rattle.query_meaning.specs.Environment.{Environment};
 ghost use Rattle.query_meaning.specs.Meaning.{mean, evaluated, Outcome};
 ghost use Rattle.query_meaning.specs.Paths.{path};
@@ -20,6 +21,13 @@ pub fn nothing_is_lost()
         → (more : Trees) × (after.shelf.own.trees ≡ append run.shelf.own.trees more) }
     ensures primitives { (x : Expr) (env : Environment) (run after : Run) (items : List Item) → mean x env run ≡ Ok (items, after)
         → (more : List PrimitiveTerm) × (after.primitives ≡ run.primitives ++ more) }
+{}
+
+/// A simple or vacuous expression, in which no updating one stands where it may not, gives no update primitives (XQuery Update Facility 1.0,
+/// section 2.1).
+pub fn only_updating_expressions_update()
+    ensures { (x : Expr) (env : Environment) (run after : Run) (items : List Item)
+        → may_not_stand (judged x) ≡ false → mean x env run ≡ Ok (items, after) → after.primitives ≡ run.primitives }
 {}
 
 /// New nodes take the identities from the next one on, and at most as many as there may be.
