@@ -34,6 +34,7 @@ use Rattle.query_grammar.specs.declared.ast.Quantifier.{Quantifier}
 use Rattle.query_grammar.specs.declared.ast.Sign.{Sign}
 use Rattle.query_grammar.specs.declared.ast.Sign.TheVariants.{Plus, Minus}
 use Rattle.query_grammar.specs.declared.ast.SortKey.{SortKey}
+use Rattle.static_checks.specs.Parts.{source_of}
 use Rattle.query_meaning.specs.Running.{Run, M, pure, ◌>>=◌, come_to, atoms, each, turn, joined, within}
 use Rattle.query_meaning.specs.Environment.{Environment, Focus, value_in, with_variable, with_focus}
 use Rattle.query_meaning.specs.Sequences as sequences
@@ -45,12 +46,6 @@ use Rattle.query_meaning.specs.Content as contents
 use Rattle.query_meaning.specs.Constructors as constructors
 use Rattle.query_meaning.specs.Strings.{limited, one_text, spaced, separated, text_in}
 use Rattle.meaning_laws.proofs.Keeps.{Keeps, Each, IsQuiet, pure_keeps, fault_keeps, come_keeps, seen_keeps, atoms_keep, bind, each_keeps, turn_keeps, turns_keep, new_nodes_keep, standing_keeps, joined_keeps}
-
--- what a clause binds to
-abbrev pub source_of : {A : Type 0} → Clause A → A
-source_of (clause.For b) = b.source
-source_of (clause.ForAt b at) = b.source
-source_of (clause.Let b) = b.source
 
 module _ (R : Run → Run → Type 0) (s : IsQuiet R) where
   abbrev K : {A : Type 0} → M A → Type 0

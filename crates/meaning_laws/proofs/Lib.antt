@@ -7,3 +7,8 @@ pub mod Steady
 pub mod Ordered
 pub mod Comma
 pub mod Whole
+pub mod Sound
+pub mod Nodes
+pub mod Fresh
+pub mod Giving
+pub mod Numbering

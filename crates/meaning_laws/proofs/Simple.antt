@@ -13,7 +13,7 @@ use Rattle.query_grammar.specs.declared.ast.Name.TheVariants.{Written, Computed}
 use Rattle.query_grammar.specs.declared.ast.Operation.{Operation}
 use Rattle.query_grammar.specs.declared.ast.SortKey.{SortKey}
 use Rattle.static_checks.specs.Categories.{Form, Judged, judged, judged_form, form_of, outside, may_not_stand, is_updating, categories, joined}
-use Rattle.static_checks.specs.Parts.{parts_alone, source_of as source, sources, operands, keys}
+use Rattle.static_checks.specs.Parts.{parts_alone, source_of, sources, operands, keys}
 use Rattle.static_checks.specs.declared.categories.Category.{Category}
 use Rattle.static_checks.specs.declared.categories.Category.TheVariants.{Updating}
 use Rattle.static_checks.proofs.Folds.{parts_under, parts_of_bindings}
@@ -22,7 +22,6 @@ use Rattle.query_meaning.specs.Running.{Run}
 use Rattle.query_meaning.specs.Sequences.{Meaning}
 use Rattle.query_meaning.specs.Meaning.{meaning_of, mean}
 use Rattle.meaning_laws.proofs.Keeps.{IsQuiet, Each, fault_keeps}
-use Rattle.meaning_laws.proofs.Forms.{source_of}
 use Rattle.meaning_laws.proofs.Forms as form
 
 neither : (a b : Bool) → a || b ≡ false → (a ≡ false) × (b ≡ false)
@@ -105,11 +104,11 @@ module _ (R : Run → Run → Type 0) (s : IsQuiet R) where
   rest_of (x ∷ xs) ys k = rest_of xs ys k.1
 
   abbrev IsClause : (Clause Expr → Clause Meaning) → (Clause Proved → Clause Expr) → Clause Proved → Type 0
-  IsClause f g c = source_of (f (g c)) ≡ mean (source c).0
+  IsClause f g c = source_of (f (g c)) ≡ mean (source_of c).0
 
   clauses : (f : Clause Expr → Clause Meaning) (g : Clause Proved → Clause Expr) → ((b : Binding Proved) → IsClause f g (clause.For b)) → ((b : Binding Proved) (at : List ℕ) → IsClause f g (clause.ForAt b at))
-      → ((b : Binding Proved) → IsClause f g (clause.Let b)) → (cs : List (Clause Proved)) → Each IsGood (map source cs) → Each (form.GoodClause R s) (map f (map g cs))
-  clauses f g for at let_ = each_part (form.GoodClause R s) f g source (λ c k. subst (form.Good R s) (sym (is c)) k)
+      → ((b : Binding Proved) → IsClause f g (clause.Let b)) → (cs : List (Clause Proved)) → Each IsGood (map source_of cs) → Each (form.GoodClause R s) (map f (map g cs))
+  clauses f g for at let_ = each_part (form.GoodClause R s) f g source_of (λ c k. subst (form.Good R s) (sym (is c)) k)
     where
       is : (c : Clause Proved) → IsClause f g c
       is (clause.For b) = for b
@@ -147,13 +146,13 @@ module _ (R : Run → Run → Type 0) (s : IsQuiet R) where
       let g = subst AreGood (parts_of_bindings [] bs (y ∷ [])) (good_parts (parts_alone (Expr-F.Quantified q bs y)) h) in
       form.quantified R s q _ _ (each_part (form.GoodBinding R s) _ _ (λ (b : Binding Proved). b.source) (λ b k. k) bs (first_of (sources bs) (y ∷ []) g)) (rest_of (sources bs) (y ∷ []) g).0
   layer (Expr-F.Flwor cs None ks y) h =
-      let g = good_results (map source cs ++ ([] ++ keys ks)) (y ∷ []) h in
-      form.flwor R s _ None _ _ (clauses _ _ (λ b. refl) (λ b at. refl) (λ b. refl) cs (first_of (map source cs) (keys ks) g.0)) tt
-      (each_part (form.GoodKey R s) _ _ (λ (k : SortKey Proved). k.key) (λ k x. x) ks (rest_of (map source cs) (keys ks) g.0)) g.1.0
+      let g = good_results (map source_of cs ++ ([] ++ keys ks)) (y ∷ []) h in
+      form.flwor R s _ None _ _ (clauses _ _ (λ b. refl) (λ b at. refl) (λ b. refl) cs (first_of (map source_of cs) (keys ks) g.0)) tt
+      (each_part (form.GoodKey R s) _ _ (λ (k : SortKey Proved). k.key) (λ k x. x) ks (rest_of (map source_of cs) (keys ks) g.0)) g.1.0
   layer (Expr-F.Flwor cs (Some t) ks y) h =
-      let g = good_results (map source cs ++ (t ∷ keys ks)) (y ∷ []) h in
-      let more = rest_of (map source cs) (t ∷ keys ks) g.0 in
-      form.flwor R s _ (Some (mean t.0)) _ _ (clauses _ _ (λ b. refl) (λ b at. refl) (λ b. refl) cs (first_of (map source cs) (t ∷ keys ks) g.0)) more.0
+      let g = good_results (map source_of cs ++ (t ∷ keys ks)) (y ∷ []) h in
+      let more = rest_of (map source_of cs) (t ∷ keys ks) g.0 in
+      form.flwor R s _ (Some (mean t.0)) _ _ (clauses _ _ (λ b. refl) (λ b at. refl) (λ b. refl) cs (first_of (map source_of cs) (t ∷ keys ks) g.0)) more.0
       (each_part (form.GoodKey R s) _ _ (λ (k : SortKey Proved). k.key) (λ k x. x) ks more.1) g.1.0
   layer (Expr-F.Insert source place target) h = absurd (let f : ⊥ = cc in f)
   layer (Expr-F.Delete target) h = absurd (let f : ⊥ = cc in f)

@@ -12,15 +12,19 @@ use Rattle.values.specs.declared.atom.Atom.{Atom}
 use Rattle.values.specs.declared.atom.Item.{Item}
 use Rattle.values.specs.declared.atom.Item.TheVariants as item
 use Rattle.values.specs.Atoms.{or_fault}
+use Rattle.query_grammar.specs.declared.ast.Expr.{Expr}
 use Rattle.query_grammar.specs.declared.ast.Place.{Place}
 use Rattle.query_grammar.specs.declared.ast.Place.TheVariants as place
 use Rattle.query_meaning.specs.Running.{Run, M, pure, ◌>>=◌, come_to, adding}
+use Rattle.query_meaning.specs.Meaning.{mean}
 use Rattle.query_meaning.specs.Sequences.{Meaning}
 use Rattle.query_meaning.specs.Operators as operators
 use Rattle.query_meaning.specs.Content as contents
 use Rattle.query_meaning.specs.Updates as updates
 use Rattle.query_meaning.specs.Strings.{spaced}
-use Rattle.meaning_laws.proofs.Keeps.{Keeps, IsSteady, pure_keeps, come_keeps, seen_keeps, atoms_keep, bind, each_keeps, adding_keeps}
+use Rattle.meaning_laws.proofs.Keeps.{Keeps, IsSteady, pure_keeps, fault_keeps, come_keeps, seen_keeps, atoms_keep, bind, each_keeps, adding_keeps}
+use Rattle.meaning_laws.proofs.Expressions.{Forms}
+use Rattle.meaning_laws.proofs.Expressions as expressions
 use Rattle.meaning_laws.proofs.Forms as form
 
 module _ (R : Run → Run → Type 0) (s : IsSteady R) where
@@ -118,3 +122,36 @@ module _ (R : Run → Run → Type 0) (s : IsSteady R) where
   rename target name gt gn env =
       step (gt env) (λ found. step (target_of updates.has_name code.XUTY0012 found) (λ (x : Standing).
       step (form.named R s.quiet x.content.kind name gn env) (λ given. step (adding_keeps R s (rename_to x.content.identity given)) (λ _. pure_ []))))
+
+  forms : Forms Good
+  forms = record {
+    number = form.number R s.quiet;
+    string = form.string R s.quiet;
+    variable = form.variable R s.quiet;
+    context_item = form.context_item R s.quiet;
+    sequence = form.sequence R s.quiet;
+    call = form.call R s.quiet;
+    document_node = form.document_node R s.quiet;
+    element = form.element R s.quiet;
+    attribute = form.attribute R s.quiet;
+    text = form.text R s.quiet;
+    comment = form.comment R s.quiet;
+    instruction = form.instruction R s.quiet;
+    axis_step = form.axis_step R s.quiet;
+    filter_of = form.filter_of R s.quiet;
+    path = form.path R s.quiet;
+    signed = form.signed R s.quiet;
+    chain = form.chain R s.quiet;
+    conditional = form.conditional R s.quiet;
+    quantified = form.quantified R s.quiet;
+    flwor = form.flwor R s.quiet;
+    insert = insert;
+    delete = delete;
+    replace_node = replace_node;
+    replace_value = replace_value;
+    rename = rename;
+    copy = λ env. fault_keeps R s.quiet code.XPST0003;
+  }
+
+  pub every : (x : Expr) → Good (mean x)
+  every = expressions.every Good forms

@@ -1,17 +1,21 @@
 //! Laws of what expressions mean, each the contract of a function that does nothing.
 
-ghost use Rattle.std.specs.Prelude.{◌≡◌, ◌≤◌, ◌+◌, ◌++◌, ◌↔◌, ◌⊎◌, ℕ, List, [], ◌∷◌, Ok, false};
-ghost use Rattle.trees.specs.Forest.{ForestTerm};
-ghost use Rattle.trees.specs.Trees.{Trees, append};
+ghost use Rattle.std.specs.Prelude.{◌≡◌, ◌≤◌, ◌+◌, ◌<◌, ◌++◌, ◌↔◌, ◌⊎◌, ℕ, List, [], ◌∷◌, Ok, false, length};
+ghost use Rattle.std.specs.List.{range_with_len};
+ghost use Rattle.trees.specs.Forest.{ForestTerm, IsForest};
+ghost use Rattle.trees.specs.Order.{identities};
+ghost use Rattle.trees.specs.Trees.{Trees, append, count, size};
 ghost use Rattle.pending.specs.Primitives.{PrimitiveTerm};
 ghost use Rattle.values.specs.declared.atom.Item.{Item};
 ghost use Rattle.query_grammar.specs.declared.ast.Expr.{Expr};
 ghost use Rattle.static_checks.specs.Categories.{judged, may_not_stand};
 ghost use Rattle.query_meaning.specs.Environment.{Environment};
 ghost use Rattle.query_meaning.specs.Meaning.{mean, evaluated, Outcome};
+ghost use Rattle.query_meaning.specs.Content.{content};
 ghost use Rattle.query_meaning.specs.Paths.{path};
-ghost use Rattle.query_meaning.specs.Running.{Run, trees_of, most_nodes};
+ghost use Rattle.query_meaning.specs.Running.{Run, trees_of, most_nodes, most_items};
 ghost use Rattle.query_meaning.specs.Sequences.{Meaning, sequence};
+ghost use Rattle.meaning_laws.specs.Given.{AllStand};
 ghost use Rattle.meaning_laws.specs.Order.{IsInOrder, IsAtomic};
 
 /// An expression leaves the forest that was lent, the trees that stood beside it, and the update primitives that there were: it only adds.
@@ -33,6 +37,24 @@ pub fn only_updating_expressions_update()
 /// New nodes take the identities from the next one on, and at most as many as there may be.
 pub fn identities_are_limited()
     ensures { (x : Expr) (lent : ForestTerm) (o : Outcome) → evaluated x lent ≡ Ok o → (lent.next ≤ o.next) × (o.next ≤ lent.next + most_nodes) }
+{}
+
+/// New nodes have identities of their own: from the lent forest's next one on, and below the one that is next after them.
+pub fn identities_are_new()
+    ensures { (x : Expr) (lent : ForestTerm) (o : Outcome) → IsForest lent → evaluated x lent ≡ Ok o
+        → (i : ℕ) → (count i (append lent.trees o.trees) ≤ 1) × (0 < count i o.trees → (lent.next ≤ i) × (i < o.next)) }
+{}
+
+/// Copied content takes the identities from the next one on, in document order and without a gap.
+pub fn copies_are_numbered()
+    ensures { (items : List Item) (run after : Run) (copies : Trees) → content items run ≡ Ok (copies, after)
+        → (identities copies ≡ range_with_len run.shelf.own.next (size copies)) × (after.shelf.own.next ≡ run.shelf.own.next + size copies) }
+{}
+
+/// What is given has at most 10,000 items, and each node among them stands in the lent forest or among the new trees.
+pub fn nodes_stand()
+    ensures few { (x : Expr) (lent : ForestTerm) (o : Outcome) → IsForest lent → evaluated x lent ≡ Ok o → length o.items ≤ most_items }
+    ensures stand { (x : Expr) (lent : ForestTerm) (o : Outcome) → IsForest lent → evaluated x lent ≡ Ok o → AllStand (append lent.trees o.trees) o.items }
 {}
 
 /// The comma is associative, and `()` is its unit: parts in parentheses come to just what they come to without them.

@@ -1,4 +1,4 @@
-use Rattle.meaning_laws.proofs.Expressions.{every}
+use Rattle.meaning_laws.proofs.Updating.{every}
 use Rattle.meaning_laws.proofs.Steady.{SameForest, same_forest, MoreTrees, more_trees, MorePrimitives, more_primitives}
 use Rattle.meaning_laws.proofs.laws.nothing_is_lost.Goals as goal
 

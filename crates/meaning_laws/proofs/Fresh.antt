@@ -1,0 +1,285 @@
+-- New nodes take the next identities, each its own: copied content, and what stands of it among the trees.
+use Rattle.std.proofs.Common.{◌≡◌, ℕ, zero, suc, ◌+◌, ◌<◌, ◌≤◌, eqb, cond, Bool, true, false, nat_le, if◌then◌else◌, List, [], ◌∷◌, Option, Some, None, Result, Ok, Err, refl, ap, subst, sym, ◌∙◌, arith}
+use Rattle.trees.specs.Changes.{renumbered}
+use Rattle.trees.specs.Trees.{Trees, no_trees, tree, leaf, Content, append, count, size, find}
+use Rattle.trees.proofs.Copies.{in-renumbered, renumbered-within}
+use Rattle.trees.proofs.Ups.{same-ids}
+use Rattle.trees.proofs.Weights.{weigh-append, append-append, eqb-same}
+use Rattle.pending.specs.Texts.{merged, without_empty_texts, texts_within}
+use Rattle.trees.specs.declared.node.Kind.{Kind}
+use Rattle.values.specs.declared.code.Code.{Code}
+use Rattle.values.specs.declared.code.Code.TheVariants.{PXQ0002, PXQ0003}
+use Rattle.values.specs.declared.atom.Item.{Item}
+use Rattle.values.specs.declared.atom.Item.TheVariants as item
+use Rattle.values.specs.Atoms.{most_bytes}
+use Rattle.query_meaning.specs.Running.{Run, M, trees_of, pure, and_then, ◌>>=◌, come_to, each, new_nodes, standing, most_nodes}
+use Rattle.query_meaning.specs.Strings.{spaced}
+use Rattle.query_meaning.specs.Content as contents
+use Rattle.query_meaning.specs.Constructors as constructors
+use Rattle.meaning_laws.proofs.Keeps.{no_value}
+use Rattle.meaning_laws.proofs.Nodes.{merged_few, without_empty_few, two_parts}
+use Rattle.meaning_laws.proofs.Sound.{IsSound, AreThere, Ends, Holds, Comes, Given, one_item, same_value}
+
+-- trees whose nodes have distinct identities, of those from n on up to m
+pub record AreNew (n m : ℕ) (us : Trees) : Type 0 where
+  pub once : (i : ℕ) → count i us ≤ 1
+  pub within : (i : ℕ) → 0 < count i us → (n ≤ i) × (i < m)
+
+none_new : (n m : ℕ) → AreNew n m no_trees
+none_new n m = record { once = λ i. omega arith; within = λ i h. absurd (omega (arith, h)) }
+
+-- those that come later are others
+both_new : (n m k : ℕ) (us vs : Trees) → n ≤ m → m ≤ k → AreNew n m us → AreNew m k vs → AreNew n k (append us vs)
+both_new n m k us vs h g a b = record { once = λ i. one i (count i us) (count i vs) (weigh-append (λ j. cond (eqb i j) 1 0) us vs) (a.once i) (b.once i) (a.within i) (b.within i); within = λ i there. in_one i there }
+  where
+    one : (i x y : ℕ) → count i (append us vs) ≡ x + y → x ≤ 1 → y ≤ 1 → (0 < x → (n ≤ i) × (i < m)) → (0 < y → (m ≤ i) × (i < k)) → count i (append us vs) ≤ 1
+    one i zero y e p q f l = omega (arith, e, q)
+    one i (suc x) zero e p q f l = omega (arith, e, p)
+    one i (suc x) (suc y) e p q f l = absurd (let u = (f (omega arith)).1 in let v = (l (omega arith)).0 in omega (arith, u, v))
+
+    of : (i x y : ℕ) → count i (append us vs) ≡ x + y → 0 < count i (append us vs) → (0 < x → (n ≤ i) × (i < m)) → (0 < y → (m ≤ i) × (i < k)) → (n ≤ i) × (i < k)
+    of i zero y e there f l = let v = l (omega (arith, e, there)) in (omega (arith, v.0, h), v.1)
+    of i (suc x) y e there f l = let u = f (omega arith) in (u.0, omega (arith, u.1, g))
+
+    in_one : (i : ℕ) → 0 < count i (append us vs) → (n ≤ i) × (i < k)
+    in_one i there = of i (count i us) (count i vs) (weigh-append (λ j. cond (eqb i j) 1 0) us vs) there (a.within i) (b.within i)
+
+copy_new : (n : ℕ) (us : Trees) → AreNew n (n + size us) (renumbered n us)
+copy_new n us = record { once = λ i. of i (count i (renumbered n us)) refl; within = λ i. renumbered-within n i us }
+  where
+    of : (i k : ℕ) → count i (renumbered n us) ≡ k → count i (renumbered n us) ≤ 1
+    of i zero e = omega (arith, e)
+    of i (suc k) e = let w = renumbered-within n i us (omega (arith, e)) in let one = in-renumbered n i us w.0 w.1 in omega (arith, one)
+
+leaf_new : (n : ℕ) (c : Content) → c.identity ≡ n → AreNew n (n + 1) (leaf c)
+leaf_new n c h = record { once = λ i. once i (eqb i c.identity); within = λ i. of i (eqb i c.identity) refl }
+  where
+    once : (i : ℕ) (b : Bool) → cond b 1 0 + 0 + 0 + 0 ≤ 1
+    once i true = omega arith
+    once i false = omega arith
+
+    of : (i : ℕ) (b : Bool) → eqb i c.identity ≡ b → 0 < cond b 1 0 + 0 + 0 + 0 → (n ≤ i) × (i < n + 1)
+    of i true e there = let s = same-ids i c.identity e in (omega (arith, s, h), omega (arith, s, h))
+    of i false e there = absurd (omega (arith, there))
+
+-- Steps that make trees and let none stand.
+
+-- a list of trees, made of new nodes; what stands is the same
+pub record Makes (run : Run) (p : Trees × Run) : Type 0 where
+  pub lent : p.1.shelf.lent ≡ run.shelf.lent
+  pub own : p.1.shelf.own.trees ≡ run.shelf.own.trees
+  pub next : run.shelf.own.next ≤ p.1.shelf.own.next
+  pub made : AreNew run.shelf.own.next p.1.shelf.own.next p.0
+
+abbrev pub MakesNew : M Trees → Type 0
+MakesNew m = (run : Run) (p : Trees × Run) → m run ≡ Ok p → Makes run p
+
+come_makes : {A : Type 0} (x : Result A Code) (f : A → M Trees) → ((a : A) → MakesNew (f a)) → MakesNew (come_to x >>= f)
+come_makes (Ok a) f h run p e = h a run p e
+come_makes (Err c) f h run p e = absurd (no_value c p e)
+
+numbered_if : (n : ℕ) (g : ℕ → Trees) (run : Run) (p : Trees × Run) (b : Bool) → AreNew run.shelf.own.next (run.shelf.own.next + n) (g run.shelf.own.next)
+    → and_then (if b then Ok (run.shelf.own.next, record run { shelf = record run.shelf { own = record run.shelf.own { next = run.shelf.own.next + n } } }) else Err PXQ0003) (λ i. pure (g i)) ≡ Ok p → Makes run p
+numbered_if n g run p true h e =
+    subst (Makes run) (same_value (g run.shelf.own.next, record run { shelf = record run.shelf { own = record run.shelf.own { next = run.shelf.own.next + n } } }) p e)
+    (record { lent = refl; own = refl; next = omega arith; made = h })
+numbered_if n g run p false h e = absurd (no_value PXQ0003 p e)
+
+numbered : (n : ℕ) (g : ℕ → Trees) → ((i : ℕ) → AreNew i (i + n) (g i)) → MakesNew (new_nodes n >>= (λ i. pure (g i)))
+numbered n g h run p e = numbered_if n g run p (nat_le (run.shelf.own.next + n) (run.shelf.lent.next + most_nodes)) (h run.shelf.own.next) e
+
+pub text_made : (text : List ℕ) → MakesNew (contents.new_text text)
+text_made text = numbered 1 (contents.text_node text) (λ i. leaf_new i _ refl)
+
+copied_made : (i : ℕ) → MakesNew (contents.copied i)
+copied_made i run p e = let us = contents.source_at i (trees_of run) (find i (trees_of run)) in numbered (size us) (λ n. renumbered n us) (λ n. copy_new n us) run p e
+
+part_made : (x : contents.Part) → MakesNew (contents.made x)
+part_made (contents.values more) = come_makes (spaced more) contents.new_text text_made
+part_made (contents.node i) = copied_made i
+
+-- after others
+record MakesMore (n : ℕ) (run : Run) (p : Trees × Run) : Type 0 where
+  pub lent : p.1.shelf.lent ≡ run.shelf.lent
+  pub own : p.1.shelf.own.trees ≡ run.shelf.own.trees
+  pub next : run.shelf.own.next ≤ p.1.shelf.own.next
+  pub made : AreNew n p.1.shelf.own.next p.0
+
+abbrev put : ℕ → Trees → contents.Part → M Trees
+put k given x = contents.made x >>= (λ us. pure (append given us))
+
+all_made : (n k : ℕ) (xs : List contents.Part) (given : Trees) (run : Run) (p : Trees × Run) → n ≤ run.shelf.own.next → AreNew n run.shelf.own.next given → each put k xs given run ≡ Ok p → MakesMore n run p
+all_made n k [] given run p h g e = subst (MakesMore n run) (same_value (given, run) p e) (record { lent = refl; own = refl; next = omega arith; made = g })
+all_made n k (x ∷ xs) given run p h g e = of (contents.made x run) (part_made x run) (λ us after. all_made n (suc k) xs (append given us) after p) e
+  where
+    of : (r : Result (Trees × Run) Code) → ((q : Trees × Run) → r ≡ Ok q → Makes run q)
+        → ((us : Trees) (after : Run) → n ≤ after.shelf.own.next → AreNew n after.shelf.own.next (append given us) → each put (suc k) xs (append given us) after ≡ Ok p → MakesMore n after p)
+        → and_then (and_then r (λ us. pure (append given us))) (each put (suc k) xs) ≡ Ok p → MakesMore n run p
+    of (Ok q) one rest e =
+        let a = one q refl in
+        let z = rest q.0 q.1 (omega (arith, h, a.next)) (both_new n run.shelf.own.next q.1.shelf.own.next given q.0 h a.next g a.made) e in
+        record { lent = z.lent ∙ a.lent; own = z.own ∙ a.own; next = omega (arith, z.next, a.next); made = z.made }
+    of (Err c) one rest e = absurd (no_value c p e)
+
+pub content_made : (items : List Item) → MakesNew (contents.content items)
+content_made items run p e =
+    let n = run.shelf.own.next in
+    let z = all_made n 0 (contents.parts_of items) no_trees run p (omega arith) (none_new n n) e in
+    record { lent = z.lent; own = z.own; next = z.next; made = z.made }
+
+-- What stands after it.
+
+-- the counts of what stands, once one tree more does
+more_counted : (run after : Run) (t : Trees) → after.shelf.lent ≡ run.shelf.lent → after.shelf.own.trees ≡ run.shelf.own.trees
+    → (i : ℕ) → count i (append after.shelf.lent.trees (append after.shelf.own.trees t)) ≡ count i (trees_of run) + count i t
+more_counted run after t lent own i =
+    ap (λ g. count i (append g.trees (append after.shelf.own.trees t))) lent ∙ ap (λ us. count i (append run.shelf.lent.trees (append us t))) own
+    ∙ ap (count i) (sym (append-append run.shelf.lent.trees run.shelf.own.trees t)) ∙ weigh-append (λ j. cond (eqb i j) 1 0) (trees_of run) t
+
+-- a step that makes trees, which then stand or are left
+pub made_sound : (run : Run) (p : Trees × Run) → IsSound run → Makes run p → Ends Trees (λ b t. Unit {0}) run p
+made_sound run p s h = record {
+  sound = record {
+    once = λ i. subst (λ n. n ≤ 1) (sym (same i)) (s.once i);
+    below = λ i there. (let k = s.below i (subst (λ n. 0 < n) (same i) there) in let n = h.next in omega (arith, k, n));
+    fresh = λ i there. subst (λ f. f.next ≤ i) (sym h.lent) (s.fresh i (subst (λ ts. 0 < count i ts) h.own there));
+    started = subst (λ f. f.next ≤ p.1.shelf.own.next) (sym h.lent) (let k = s.started in let n = h.next in omega (arith, k, n));
+    documents = subst (λ f. AreThere f.trees f.documents) (sym h.lent) s.documents;
+  };
+  above = record { stand = λ i there. subst (λ n. 0 < n) (sym (same i)) there };
+  value = tt;
+}
+  where
+    same : (i : ℕ) → count i (trees_of p.1) ≡ count i (trees_of run)
+    same i = ap (λ g. count i (append g.trees p.1.shelf.own.trees)) h.lent ∙ ap (λ us. count i (append run.shelf.lent.trees us)) h.own
+
+abbrev with_tree : Run → Trees → Run
+with_tree run t = record run { shelf = record run.shelf { own = record run.shelf.own { trees = append run.shelf.own.trees t } } }
+
+-- a tree of new nodes stands
+pub stands_sound : (run after : Run) (t : Trees) (i : ℕ) (p : List Item × Run) → IsSound run → after.shelf.lent ≡ run.shelf.lent → after.shelf.own.trees ≡ run.shelf.own.trees
+    → run.shelf.own.next ≤ after.shelf.own.next → AreNew run.shelf.own.next after.shelf.own.next t → 0 < count i t → Comes (Ok (item.Node i ∷ [], with_tree after t)) p → Ends (List Item) Given run p
+stands_sound run after t i p s lent own next new there e = subst (Ends (List Item) Given run) (same_value (item.Node i ∷ [], with_tree after t) p e) (record {
+  sound = record {
+    once = λ j. (let c = counted j in one j (count j (trees_of run)) (count j t) c (s.once j) (new.once j) (s.below j) (new.within j));
+    below = λ j h. below j (count j (trees_of run)) (count j t) (counted j) h (s.below j) (new.within j);
+    fresh = λ j h. fresh j (count j after.shelf.own.trees) (count j t) (weigh-append (λ k. cond (eqb j k) 1 0) after.shelf.own.trees t) h (λ g. s.fresh j (subst (λ us. 0 < count j us) own g)) (new.within j);
+    started = subst (λ f. f.next ≤ after.shelf.own.next) (sym lent) (let k = s.started in omega (arith, k, next));
+    documents = subst (λ f. AreThere f.trees f.documents) (sym lent) s.documents;
+  };
+  above = record { stand = λ j h. (let c = counted j in omega (arith, c, h)) };
+  value = one_item (item.Node i) (let c = counted i in omega (arith, c, there));
+})
+  where
+    counted : (j : ℕ) → count j (trees_of (with_tree after t)) ≡ count j (trees_of run) + count j t
+    counted = more_counted run after t lent own
+
+    one : (j x y : ℕ) → count j (trees_of (with_tree after t)) ≡ x + y → x ≤ 1 → y ≤ 1 → (0 < x → j < run.shelf.own.next) → (0 < y → (run.shelf.own.next ≤ j) × (j < after.shelf.own.next)) → count j (trees_of (with_tree after t)) ≤ 1
+    one j zero y c a b f l = omega (arith, c, b)
+    one j (suc x) zero c a b f l = omega (arith, c, a)
+    one j (suc x) (suc y) c a b f l = absurd (let u = f (omega arith) in let v = (l (omega arith)).0 in omega (arith, u, v))
+
+    below : (j x y : ℕ) → count j (trees_of (with_tree after t)) ≡ x + y → 0 < count j (trees_of (with_tree after t)) → (0 < x → j < run.shelf.own.next) → (0 < y → (run.shelf.own.next ≤ j) × (j < after.shelf.own.next)) → j < after.shelf.own.next
+    below j zero y c h f l = (l (omega (arith, c, h))).1
+    below j (suc x) y c h f l = let u = f (omega arith) in omega (arith, u, next)
+
+    fresh : (j x y : ℕ) → count j (append after.shelf.own.trees t) ≡ x + y → 0 < count j (append after.shelf.own.trees t) → (0 < x → run.shelf.lent.next ≤ j) → (0 < y → (run.shelf.own.next ≤ j) × (j < after.shelf.own.next)) → after.shelf.lent.next ≤ j
+    fresh j x y c h f l = subst (λ g. g.next ≤ j) (sym lent) (of x y c h f l)
+      where
+        of : (x y : ℕ) → count j (append after.shelf.own.trees t) ≡ x + y → 0 < count j (append after.shelf.own.trees t) → (0 < x → run.shelf.lent.next ≤ j) → (0 < y → (run.shelf.own.next ≤ j) × (j < after.shelf.own.next)) → run.shelf.lent.next ≤ j
+        of zero y c h f l = let v = (l (omega (arith, c, h))).0 in let k = s.started in omega (arith, v, k)
+        of (suc x) y c h f l = f (omega arith)
+
+-- a node with a text
+pub leaf_sound : {r : Run} (g : ℕ → Content) → ((i : ℕ) → (g i).identity ≡ i) → Holds r (List Item) Given (new_nodes 1 >>= (λ i. standing (leaf (g i)) >>= (λ _. pure (item.Node i ∷ []))))
+leaf_sound g same = record { holds = λ run s k p e. of run p (nat_le (run.shelf.own.next + 1) (run.shelf.lent.next + most_nodes)) s e }
+  where
+    of : (run : Run) (p : List Item × Run) (b : Bool) → IsSound run
+        → and_then (if b then Ok (run.shelf.own.next, record run { shelf = record run.shelf { own = record run.shelf.own { next = run.shelf.own.next + 1 } } }) else Err PXQ0003) (λ i. standing (leaf (g i)) >>= (λ _. pure (item.Node i ∷ []))) ≡ Ok p → Ends (List Item) Given run p
+    of run p true s e =
+        let n = run.shelf.own.next in
+        stands_sound run (record run { shelf = record run.shelf { own = record run.shelf.own { next = n + 1 } } }) (leaf (g n)) n p s refl refl (omega arith) (leaf_new n (g n) (same n))
+        (subst (λ b. 0 < cond b 1 0 + 0 + 0 + 0) (sym (subst (λ j. eqb n j ≡ true) (sym (same n)) (eqb-same n))) (omega arith)) e
+    of run p false s e = absurd (no_value PXQ0003 p e)
+
+-- A node of parts: itself, and then its copied content.
+
+parts_if : (us parts : Trees) (b : Bool) → (if b then Ok (without_empty_texts (merged us)) else Err PXQ0002) ≡ Ok parts → without_empty_texts (merged us) ≡ parts
+parts_if us parts true e = same_value (without_empty_texts (merged us)) parts e
+parts_if us parts false e = absurd (no_value PXQ0002 parts e)
+
+parts_few : (us parts : Trees) → contents.without_adjacent_texts us ≡ Ok parts → (j : ℕ) → count j parts ≤ count j us
+parts_few us parts e j =
+    let a = merged_few j us in let b = without_empty_few j (merged us) in
+    let same = ap (count j) (parts_if us parts (texts_within most_bytes (merged us)) e) in
+    omega (arith, a, b, same)
+
+faultless : {A : Type 0} (o : Option Code) (a b : A) → contents.unless_fault o a ≡ Ok b → a ≡ b
+faultless None a b e = same_value a b e
+faultless (Some c) a b e = absurd (no_value c b e)
+
+node_new : (n m : ℕ) (c : Content) (us parts : Trees) → c.identity ≡ n → n + 1 ≤ m → AreNew (n + 1) m us → ((j : ℕ) → count j parts ≤ count j us) → AreNew n m (tree c (contents.attributes parts) (contents.others parts) no_trees)
+node_new n m c us parts is h new few = record { once = λ j. once j (eqb j c.identity) refl; within = λ j there. within j (eqb j c.identity) refl there }
+  where
+    once : (j : ℕ) (b : Bool) → eqb j c.identity ≡ b → cond b 1 0 + count j (contents.attributes parts) + count j (contents.others parts) + 0 ≤ 1
+    once j true e =
+        let s = same-ids j c.identity e in let t = two_parts j contents.is_attribute parts in let f = few j in
+        absurd_if j (count j us) s refl (new.within j) (λ z. omega (arith, t, f, z))
+      where
+        absurd_if : (j x : ℕ) → j ≡ c.identity → count j us ≡ x → (0 < count j us → (n + 1 ≤ j) × (j < m)) → (count j us ≡ 0 → 1 + count j (contents.attributes parts) + count j (contents.others parts) + 0 ≤ 1) → 1 + count j (contents.attributes parts) + count j (contents.others parts) + 0 ≤ 1
+        absurd_if j zero s e w k = k e
+        absurd_if j (suc x) s e w k = absurd (let v = (w (omega (arith, e))).0 in omega (arith, v, s, is))
+    once j false e = let t = two_parts j contents.is_attribute parts in let f = few j in let o = new.once j in omega (arith, t, f, o)
+
+    within : (j : ℕ) (b : Bool) → eqb j c.identity ≡ b → 0 < cond b 1 0 + count j (contents.attributes parts) + count j (contents.others parts) + 0 → (n ≤ j) × (j < m)
+    within j true e there = let s = same-ids j c.identity e in (omega (arith, s, is), omega (arith, s, is, h))
+    within j false e there = let t = two_parts j contents.is_attribute parts in let f = few j in let v = new.within j (omega (arith, t, f, there)) in (omega (arith, v.0), v.1)
+
+node_there : (c : Content) (bs cs : Trees) → 0 < count c.identity (tree c bs cs no_trees)
+node_there c bs cs = subst (λ b. 0 < cond b 1 0 + count c.identity bs + count c.identity cs + 0) (sym (eqb-same c.identity)) (omega arith)
+
+module _ (kind : Kind) (name : List ℕ) (has_fault : Trees → Option Code) where
+  abbrev node : ℕ → Content
+  node i = record { identity = i; kind = kind; name = name; text = [] }
+
+  abbrev node_of : ℕ → Trees → Trees
+  node_of i parts = tree (node i) (contents.attributes parts) (contents.others parts) no_trees
+
+  abbrev closed : ℕ → Trees → M (List Item)
+  closed i us = come_to (contents.without_adjacent_texts us) >>= (λ parts. come_to (contents.unless_fault (has_fault parts) (node_of i parts)) >>= (λ t. constructors.rooted i t))
+
+  -- the run from before the node's identity is taken, and the one after its content
+  closed_sound : (run after : Run) (us : Trees) (p : List Item × Run) → IsSound run → after.shelf.lent ≡ run.shelf.lent → after.shelf.own.trees ≡ run.shelf.own.trees → run.shelf.own.next + 1 ≤ after.shelf.own.next
+      → AreNew (run.shelf.own.next + 1) after.shelf.own.next us → closed run.shelf.own.next us after ≡ Ok p → Ends (List Item) Given run p
+  closed_sound run after us p s lent own next new e = of_parts (contents.without_adjacent_texts us) refl e
+    where
+      of_tree : (parts : Trees) → ((j : ℕ) → count j parts ≤ count j us) → (x : Result Trees Code) → contents.unless_fault (has_fault parts) (node_of run.shelf.own.next parts) ≡ x
+          → and_then (come_to x after) (λ t. constructors.rooted run.shelf.own.next t) ≡ Ok p → Ends (List Item) Given run p
+      of_tree parts few (Ok t) is e =
+          let same = faultless (has_fault parts) (node_of run.shelf.own.next parts) t is in
+          stands_sound run after t run.shelf.own.next p s lent own (omega (arith, next)) (subst (AreNew run.shelf.own.next after.shelf.own.next) same (node_new run.shelf.own.next after.shelf.own.next (node run.shelf.own.next) us parts refl next new few))
+          (subst (λ u. 0 < count run.shelf.own.next u) same (node_there (node run.shelf.own.next) (contents.attributes parts) (contents.others parts))) e
+      of_tree parts few (Err c) is e = absurd (no_value c p e)
+
+      of_parts : (x : Result Trees Code) → contents.without_adjacent_texts us ≡ x
+          → and_then (come_to x after) (λ parts. come_to (contents.unless_fault (has_fault parts) (node_of run.shelf.own.next parts)) >>= (λ t. constructors.rooted run.shelf.own.next t)) ≡ Ok p → Ends (List Item) Given run p
+      of_parts (Ok parts) is e = of_tree parts (parts_few us parts is) (contents.unless_fault (has_fault parts) (node_of run.shelf.own.next parts)) refl e
+      of_parts (Err c) is e = absurd (no_value c p e)
+
+  pub assembled_sound : {r : Run} (items : List Item) → Holds r (List Item) Given (constructors.assembled kind name has_fault items)
+  assembled_sound items = record { holds = λ run s k p e. of run p s (nat_le (run.shelf.own.next + 1) (run.shelf.lent.next + most_nodes)) e }
+    where
+      of_content : (run first : Run) (p : List Item × Run) → IsSound run → first ≡ record run { shelf = record run.shelf { own = record run.shelf.own { next = run.shelf.own.next + 1 } } }
+          → (x : Result (Trees × Run) Code) → contents.content items first ≡ x → and_then x (closed run.shelf.own.next) ≡ Ok p → Ends (List Item) Given run p
+      of_content run first p s is (Ok q) made e =
+          let z = content_made items first q made in
+          let new = subst (λ (f : Run). AreNew f.shelf.own.next q.1.shelf.own.next q.0) is z.made in
+          closed_sound run q.1 q.0 p s (z.lent ∙ ap (λ (f : Run). f.shelf.lent) is) (z.own ∙ ap (λ (f : Run). f.shelf.own.trees) is) (subst (λ (f : Run). f.shelf.own.next ≤ q.1.shelf.own.next) is z.next) new e
+      of_content run first p s is (Err c) made e = absurd (no_value c p e)
+
+      of : (run : Run) (p : List Item × Run) → IsSound run → (b : Bool)
+          → and_then (if b then Ok (run.shelf.own.next, record run { shelf = record run.shelf { own = record run.shelf.own { next = run.shelf.own.next + 1 } } }) else Err PXQ0003) (λ i. contents.content items >>= closed i) ≡ Ok p → Ends (List Item) Given run p
+      of run p s true e =
+          let first = record run { shelf = record run.shelf { own = record run.shelf.own { next = run.shelf.own.next + 1 } } } in
+          of_content run first p s refl (contents.content items first) refl e
+      of run p s false e = absurd (no_value PXQ0003 p e)

@@ -1,0 +1,14 @@
+-- What is given, in the words of the Data Model (XQuery 1.0 and XPath 2.0 Data Model, sections 2.3 and 2.5): nodes have identities, and stand in trees.
+use Rattle.std.specs.Prelude.{◌<◌, List, [], ◌∷◌}
+use Rattle.trees.specs.Trees.{Trees, count}
+use Rattle.values.specs.declared.atom.Item.{Item}
+use Rattle.values.specs.declared.atom.Item.TheVariants as item
+
+-- a node stands in the trees; an atomic value stands nowhere
+abbrev pub Stands : Trees → Item → Type 0
+Stands ts (item.Node i) = 0 < count i ts
+Stands ts (item.Atomic a) = Unit {0}
+
+abbrev pub AllStand : Trees → List Item → Type 0
+AllStand ts [] = Unit {0}
+AllStand ts (x ∷ xs) = Stands ts x × AllStand ts xs
