@@ -13,10 +13,10 @@ use Rattle.query_meaning.specs.Meaning.{mean}
 use Rattle.query_meaning.specs.Running.{M, Run}
 use Rattle.query_meaning.specs.Sequences.{Meaning, satisfied, tuples, until_decided}
 use Rattle.query_meaning.specs.Operators.{chain}
-use Rattle.query_control.specs.Gives.{Any, Gives, GivesIn, Stand}
+use Rattle.evaluation.specs.Gives.{Any, Gives, GivesIn, Stand}
 use Rattle.query_control.specs.Operations.{operation_of, operated_in_turn}
 use Rattle.query_control.specs.Parts.{binding_of, clause_of, source_of, for_each_at, satisfied_by}
-use Rattle.query_control.proofs.Each.{then_gives}
+use Rattle.evaluation.proofs.Each.{then_gives}
 
 -- a `for` clause with a position
 pub tuples_for_at : (cs : List (Clause Expr)) (c : Clause Expr) (rest : List (Clause Expr)) (b : Binding Expr) (at : List ℕ) (source : Expr) (k : Environment → List Item → M (List Item)) (env : Environment)

@@ -7,8 +7,8 @@ use Rattle.values.specs.declared.atom.Item.{Item}
 use Rattle.query_grammar.specs.declared.ast.Quantifier.{Quantifier}
 use Rattle.query_meaning.specs.Running.{M, Run, and_then}
 use Rattle.query_meaning.specs.Sequences.{until_decided, decides, undecided, go_on}
-use Rattle.query_control.specs.Gives.{Any, Grows, GivesIn, Fails}
-use Rattle.query_control.proofs.Each.{drop_item, drop_all, grows_then, grows_refl}
+use Rattle.evaluation.specs.Gives.{Any, Grows, GivesIn, Fails}
+use Rattle.evaluation.proofs.Each.{drop_item, drop_all, grows_then, grows_refl}
 
 -- what is left of the items decides as all do
 pub record Seeks (q : Quantifier) (f : Item → M Bool) (xs : List Item) (start : Run) (k : ℕ) (now : Run) : Type 0 where

@@ -13,8 +13,8 @@ use Rattle.values.specs.declared.atom.Item.TheVariants as item
 use Rattle.values.specs.Arithmetic.{operands}
 use Rattle.query_meaning.specs.Operators.{integers_to, many_from, ranged}
 use Rattle.query_meaning.specs.Running.{Run, and_then, come_to, most_items}
-use Rattle.query_control.specs.Gives.{Gives, Says, Stand}
-use Rattle.query_control.proofs.Each.{grows_refl}
+use Rattle.evaluation.specs.Gives.{Gives, Says, Stand}
+use Rattle.evaluation.proofs.Each.{grows_refl}
 use Rattle.query_control.proofs.Values.{atomic_stand}
 
 -- so many from that number on

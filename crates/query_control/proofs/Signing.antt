@@ -14,8 +14,8 @@ use Rattle.query_grammar.specs.declared.ast.Sign.TheVariants.{Plus, Minus}
 use Rattle.query_meaning.specs.Operators.{with_sign, with_signs}
 use Rattle.query_meaning.specs.Running.{M, Run, and_then, ◌>>=◌, come_to, each, pure}
 use Rattle.query_meaning.specs.Sequences.{one}
-use Rattle.query_control.specs.Gives.{GivesIn, Stand}
-use Rattle.query_control.proofs.Each.{grows_refl}
+use Rattle.evaluation.specs.Gives.{GivesIn, Stand}
+use Rattle.evaluation.proofs.Each.{grows_refl}
 use Rattle.query_control.proofs.Values.{one_stands}
 
 -- no sign asks for its index

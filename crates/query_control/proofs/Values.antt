@@ -7,14 +7,14 @@ use Rattle.values.specs.declared.atom.Atom.{Atom}
 use Rattle.values.specs.declared.atom.Item.{Item}
 use Rattle.query_meaning.specs.Environment.{Bound, value_in}
 use Rattle.query_meaning.specs.Running.{Run, come_to, trees_of}
-use Rattle.query_control.specs.Gives.{Any, Stand, GivesIn, IsReady}
+use Rattle.evaluation.specs.Gives.{Any, Stand, GivesIn, IsReady}
 use Rattle.query_meaning.specs.Sequences.{tested, variable}
 use Rattle.query_meaning.specs.Meaning.{mean}
 use Rattle.query_grammar.specs.declared.ast.Expr.{Expr}
 use Rattle.query_grammar.specs.declared.ast.Expr.TheVariants as e
 use Rattle.query_control.proofs.Unfolded.{of_variable}
 use Rattle.query_meaning.specs.Environment.{Environment, with_variable}
-use Rattle.query_control.proofs.Each.{grows_refl}
+use Rattle.evaluation.proofs.Each.{grows_refl}
 use Rattle.values.specs.Atoms.{or_fault}
 use Rattle.values.specs.declared.code.Code.TheVariants.{XPST0008}
 use Rattle.std.proofs.lemmas.Option.{none-some, same_Some}

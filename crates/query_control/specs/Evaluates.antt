@@ -11,7 +11,7 @@ use Rattle.values.specs.declared.fault.ValueFault.{ValueFault}
 use Rattle.query_meaning.specs.Running.{Run}
 use Rattle.query_meaning.specs.Environment.{Environment}
 use Rattle.query_meaning.specs.Meaning.{mean}
-use Rattle.query_control.specs.Gives.{Gives, IsReady}
+use Rattle.evaluation.specs.Gives.{Gives, IsReady}
 use Rattle.query_control.specs.Parts.{source_of, bound_source}
 
 abbrev pub Pre : Type 1

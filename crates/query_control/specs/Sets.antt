@@ -4,7 +4,7 @@ use denote.Ref.{Bor, MutBor}
 use Rattle.values.specs.declared.atom.Item.{Item}
 use Rattle.values.specs.declared.fault.ValueFault.{ValueFault}
 use Rattle.query_meaning.specs.Running.{Run}
-use Rattle.query_control.specs.Gives.{Gives, Stand}
+use Rattle.evaluation.specs.Gives.{Gives, Stand}
 use Rattle.query_control.specs.Operations.{set_operated}
 use Rattle.query_control.specs.declared.chain.SetOperator.{SetOperator}
 

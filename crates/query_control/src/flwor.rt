@@ -9,13 +9,11 @@ ghost use Rattle.query_meaning.specs.Meaning.{mean};
 ghost use Rattle.query_meaning.specs.Running.{trees_of, most_items};
 ghost use Rattle.query_meaning.specs.Sequences as meaning;
 ghost use Rattle.query_control.specs.Evaluates.{Evaluates, EvaluatesFlwor};
-ghost use Rattle.query_control.specs.Gives.{Any, Gives, GivesIn, IsReady, Stand};
+ghost use Rattle.evaluation.specs.Gives.{Any, Gives, GivesIn, IsReady, Stand};
 ghost use Rattle.query_control.specs.Parts as part;
 
-use crate::environment::{Environment, Variables};
-use crate::evaluation::Evaluation;
 use crate::forms::Forms;
-use crate::sequence::Sequence;
+use evaluation::{Environment, Evaluation, Sequence, Variables};
 use query_grammar::{Clause, Expr};
 use sqlite_items::{Boxed, Items};
 use std::alloc::AllocError;

@@ -8,11 +8,9 @@ ghost use Rattle.query_meaning.specs.Running.{Run, come_to};
 ghost use Rattle.query_meaning.specs.Meaning.{mean};
 ghost use Rattle.query_meaning.specs.Sequences as meaning;
 ghost use Rattle.query_control.specs.Evaluates.{Evaluates};
-ghost use Rattle.query_control.specs.Gives.{Any, Gives, GivesIn, IsReady, Stand};
+ghost use Rattle.evaluation.specs.Gives.{Any, Gives, GivesIn, IsReady, Stand};
 
-use crate::environment::Environment;
-use crate::evaluation::Evaluation;
-use crate::sequence::Sequence;
+use evaluation::{Environment, Evaluation, Sequence};
 use query_grammar::Expr;
 use sqlite_items::{Boxed, Items};
 use values::{Atom, Code, Item, Text, ValueFault, truth};

@@ -3,11 +3,10 @@
 ghost use Rattle.std.specs.Prelude.{◌≡◌, Ok, option_map};
 ghost use Rattle.trees.specs.Order.{precedes};
 ghost use Rattle.query_meaning.specs.Operators as meaning;
-ghost use Rattle.query_control.specs.Gives.{Gives, Stand};
+ghost use Rattle.evaluation.specs.Gives.{Gives, Stand};
 
-use crate::evaluation::Evaluation;
 use crate::operators::boolean;
-use crate::sequence::Sequence;
+use evaluation::{Evaluation, Sequence};
 use trees::NodeId;
 use values::{Code, Item, ValueFault};
 

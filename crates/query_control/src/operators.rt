@@ -4,12 +4,10 @@ ghost use Rattle.std.specs.Prelude.{◌≡◌, ◌∷◌, [], IfOk, Some};
 ghost use Rattle.query_meaning.specs.Meaning.{mean};
 ghost use Rattle.query_meaning.specs.Operators as meaning;
 ghost use Rattle.query_control.specs.Evaluates.{Evaluates};
-ghost use Rattle.query_control.specs.Gives.{Gives, IsReady, Stand};
+ghost use Rattle.evaluation.specs.Gives.{Gives, IsReady, Stand};
 
-use crate::environment::Environment;
-use crate::evaluation::Evaluation;
 use crate::forms::Forms;
-use crate::sequence::Sequence;
+use evaluation::{Environment, Evaluation, Sequence};
 use query_grammar::Expr;
 use std::alloc::AllocError;
 use values::{Atom, Comparison, Item, Operator, ValueFault, arithmetic, compare_value, truth};

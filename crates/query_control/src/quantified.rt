@@ -7,14 +7,12 @@ ghost use Rattle.query_meaning.specs.Meaning.{mean};
 ghost use Rattle.query_meaning.specs.Running.{trees_of};
 ghost use Rattle.query_meaning.specs.Sequences as meaning;
 ghost use Rattle.query_control.specs.Evaluates.{EvaluatesQuantified};
-ghost use Rattle.query_control.specs.Gives.{Any, Gives, GivesIn, IsReady, Stand};
+ghost use Rattle.evaluation.specs.Gives.{Any, Gives, GivesIn, IsReady, Stand};
 ghost use Rattle.query_control.specs.Parts as part;
 
-use crate::environment::{Environment, Variables};
-use crate::evaluation::Evaluation;
 use crate::forms::Forms;
 use crate::operators::boolean;
-use crate::sequence::Sequence;
+use evaluation::{Environment, Evaluation, Sequence, Variables};
 use query_grammar::{Binding, Expr, Quantifier};
 use sqlite_items::{Boxed, Items};
 use values::{Item, Text, ValueFault};

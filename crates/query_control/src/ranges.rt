@@ -2,10 +2,9 @@
 
 ghost use Rattle.std.specs.Prelude.{◌≡◌, Some, pos, ◌-ℤ◌};
 ghost use Rattle.query_meaning.specs.Operators as meaning;
-ghost use Rattle.query_control.specs.Gives.{Gives, Says, Stand};
+ghost use Rattle.evaluation.specs.Gives.{Gives, Says, Stand};
 
-use crate::evaluation::Evaluation;
-use crate::sequence::{MOST_ITEMS, Sequence};
+use evaluation::{Evaluation, MOST_ITEMS, Sequence};
 use std::alloc::Global;
 use values::{Atom, Code, ValueFault, integer_operands};
 

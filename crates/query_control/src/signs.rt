@@ -5,12 +5,10 @@ ghost use Rattle.query_meaning.specs.Meaning.{mean};
 ghost use Rattle.query_meaning.specs.Operators as meaning;
 ghost use Rattle.query_meaning.specs.Running.{Run, come_to, each};
 ghost use Rattle.query_control.specs.Evaluates.{Evaluates};
-ghost use Rattle.query_control.specs.Gives.{Gives, IsReady};
+ghost use Rattle.evaluation.specs.Gives.{Gives, IsReady};
 
-use crate::environment::Environment;
-use crate::evaluation::Evaluation;
 use crate::forms::Forms;
-use crate::sequence::Sequence;
+use evaluation::{Environment, Evaluation, Sequence};
 use query_grammar::{Expr, Sign};
 use sqlite_items::{Boxed, Items};
 use values::{Atom, Code, Item, ValueFault, integer_operands};

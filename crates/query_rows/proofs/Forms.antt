@@ -17,7 +17,7 @@ use Rattle.query_meaning.specs.Environment.{Environment}
 use Rattle.query_meaning.specs.Meaning.{mean}
 use Rattle.query_meaning.specs.Operators.{chain, signed}
 use Rattle.query_meaning.specs.Sequences.{Meaning, number, string, context_item, sequence, conditional, quantified, flwor}
-use Rattle.query_control.specs.Gives.{Gives}
+use Rattle.evaluation.specs.Gives.{Gives}
 use Rattle.query_control.specs.Operations.{operation_of}
 use Rattle.query_control.specs.Parts.{binding_of, clause_of}
 use Rattle.query_control.proofs.Unfolded.{by_form}

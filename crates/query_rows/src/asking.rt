@@ -1,11 +1,11 @@
 //! Expressions, asked over a forest of one node at most.
 
 ghost use Rattle.std.specs.Prelude.{◌∷◌, []};
-ghost use Rattle.query_control.specs.Gives.{IsReady, Stand};
+ghost use Rattle.evaluation.specs.Gives.{IsReady, Stand};
 
 use super::evaluator::value_of;
+use evaluation::{Environment, Evaluation, Sequence, Variables};
 use parser::{Expr, ParseFault, parse};
-use query_control::{Environment, Evaluation, Sequence, Variables};
 use rows::{RowFault, Words};
 use std::alloc::{AllocError, Global};
 use trees::{Forest, Kind, MakeFault, NodeId};

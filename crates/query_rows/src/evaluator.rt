@@ -1,13 +1,12 @@
 //! An evaluator of the forms that `query_control` has.
 
 ghost use Rattle.query_meaning.specs.Meaning.{mean};
-ghost use Rattle.query_control.specs.Gives.{Gives, IsReady, Stand};
+ghost use Rattle.evaluation.specs.Gives.{Gives, IsReady, Stand};
 ghost use Rattle.query_control.specs.Operations.{set_operated};
 
+use evaluation::{Environment, Evaluation, Sequence};
 use parser::Expr;
-use query_control::{
-    Environment, Evaluation, Forms, Sequence, SetOperator, context_item, number, string, variable,
-};
+use query_control::{Forms, SetOperator, context_item, number, string, variable};
 use values::ValueFault;
 
 /// The value of an expression. A form that is not there yet is answered as want of memory is, of which the contract says nothing.

@@ -1,9 +1,9 @@
 use Rattle.std.proofs.Common.{◌≡◌, ◌+◌, ◌*◌, length, map, option_map}
 use Rattle.query_meaning.specs.Meaning.{mean}
 use Rattle.query_meaning.specs.Sequences.{returned}
-use Rattle.query_control.specs.Gives.{Stand}
+use Rattle.evaluation.specs.Gives.{Stand}
 use Rattle.query_control.specs.Parts.{clause_of, for_one, for_one_at}
-use Rattle.query_control.proofs.Each.{Goes}
+use Rattle.evaluation.proofs.Each.{Goes}
 use Rattle.query_control.proofs.forms.Forms.+tuples.Given as goal
 
 abbrev pub decreases-tuples : goal.decreases-tuples

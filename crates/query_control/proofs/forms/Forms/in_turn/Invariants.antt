@@ -1,8 +1,8 @@
 use Rattle.std.proofs.Common.{[]}
 use Rattle.query_meaning.specs.Sequences.{and_items}
-use Rattle.query_control.specs.Gives.{Stand}
+use Rattle.evaluation.specs.Gives.{Stand}
 use Rattle.query_meaning.specs.Meaning.{mean}
-use Rattle.query_control.proofs.Each.{Goes}
+use Rattle.evaluation.proofs.Each.{Goes}
 use Rattle.query_control.proofs.forms.Forms.in_turn.Given as goal
 
 abbrev pub invariant-loop-part : goal.invariant-loop-part

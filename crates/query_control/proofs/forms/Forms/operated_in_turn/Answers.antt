@@ -1,8 +1,8 @@
 use Rattle.std.proofs.lemmas.Result.{err_from_is_err_and}
 use Rattle.query_meaning.specs.Meaning.{mean}
-use Rattle.query_control.specs.Gives.{Stand}
+use Rattle.evaluation.specs.Gives.{Stand}
 use Rattle.query_control.specs.Operations.{operation_of, and_operation}
-use Rattle.query_control.proofs.Each.{goes_on, stops_mapped, ends_mapped}
+use Rattle.evaluation.proofs.Each.{goes_on, stops_mapped, ends_mapped}
 use Rattle.query_control.proofs.forms.Forms.operated_in_turn.Goals as goal
 
 pub loop-operation-preserved : goal.loop-operation-preserved

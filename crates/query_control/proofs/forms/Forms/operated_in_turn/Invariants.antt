@@ -1,7 +1,7 @@
 use Rattle.query_meaning.specs.Meaning.{mean}
-use Rattle.query_control.specs.Gives.{Stand}
+use Rattle.evaluation.specs.Gives.{Stand}
 use Rattle.query_control.specs.Operations.{operation_of, and_operation}
-use Rattle.query_control.proofs.Each.{Goes}
+use Rattle.evaluation.proofs.Each.{Goes}
 use Rattle.query_control.proofs.forms.Forms.operated_in_turn.Given as goal
 
 abbrev pub invariant-loop-operation : goal.invariant-loop-operation

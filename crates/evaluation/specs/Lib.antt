@@ -1,0 +1,4 @@
+pub mod Around
+pub mod Gives
+pub mod Linked
+pub mod Within

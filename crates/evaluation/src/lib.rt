@@ -1,0 +1,12 @@
+//! What an evaluation has come to, the environment that an expression is evaluated in, and sequences of items.
+//!
+//! Contracts see them as the run, the environment and the items of the definition of what expressions mean.
+#![tactic(auto)]
+
+mod environment;
+mod run;
+mod sequence;
+
+pub use environment::{Environment, Variables};
+pub use run::Evaluation;
+pub use sequence::{MOST_ITEMS, Sequence};
