@@ -6,4 +6,4 @@ use Rattle.evaluation.specs.declared.environment.Link.TheVariants.{End, More}
 
 abbrev pub variables_of : Link → List Bound
 variables_of End = []
-variables_of (More name items others) = record { variable = name.now; items = items.now } ∷ others.now
+variables_of (More b) = record { variable = b.value.name; items = b.value.items } ∷ b.value.others

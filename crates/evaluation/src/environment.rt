@@ -1,29 +1,40 @@
 //! The context of an expression (XQuery 1.0, section 2.1.2).
 
-ghost use Rattle.std.specs.Prelude.{◌≡◌, [], ◌∷◌, None, option_map};
+ghost use Rattle.std.specs.Prelude.{◌≡◌, [], ◌∷◌, None, option_map, IfOk};
 ghost use Rattle.std.specs.Option.{option_copied};
 ghost use Rattle.query_meaning.specs.Environment.{value_in, with_focus};
 ghost use Rattle.evaluation.specs.Around.{item_in};
 
 use crate::sequence::Sequence;
+use std::alloc::{AllocError, Global};
 use std::marker::Model;
-use values::Item;
+use std::rc::Rc;
+use values::{Item, Text};
 
-/// Variables and their values, the one that was bound last first. To bind one more takes no memory.
+/// Variables and their values, the one that was bound last first. A clone shares them.
 #[cycle(variables)]
 #[derive(Drop)]
-pub struct Variables<'e> {
-    last: Link<'e>,
+pub struct Variables {
+    last: Link,
 }
 
 #[cycle(variables)]
 #[derive(Drop)]
-enum Link<'e> {
+enum Link {
     End,
-    More(&'e str, &'e Sequence, &'e Variables<'e>),
+    More(Rc<Binding>),
 }
 
-impl<'e> Model for Variables<'e> {
+/// A variable with its items, and those that were bound before it.
+#[cycle(variables)]
+#[derive(Drop)]
+struct Binding {
+    name: Text,
+    items: Sequence,
+    others: Variables,
+}
+
+impl Model for Variables {
     ghost use Rattle.std.specs.Prelude.{List, length};
     ghost use Rattle.std.specs.Coded.{coded_list};
     ghost use Rattle.query_meaning.specs.Environment.{Bound, bound_code};
@@ -43,21 +54,31 @@ impl<'e> Model for Variables<'e> {
     ghost size_decreases = { λ a h. Prim.grind (arith, length-append) };
 }
 
-impl<'e> Variables<'e> {
+impl Variables {
     /// No variables.
-    pub fn new() -> Variables<'e>
+    pub fn new() -> Variables
         ensures { result ≡ [] }
     {
         Variables { last: Link::End }
     }
 
-    /// A variable of that name with those items, bound after the others.
-    pub fn and(name: &'e str, items: &'e Sequence, others: &'e Variables<'e>) -> Variables<'e>
-        ensures { result ≡ record { variable = name.now; items = items.now } ∷ others.now }
+    /// A variable of that name with those items, bound after the others. It fails where memory is refused.
+    pub fn and(
+        alloc: Global,
+        name: &Text,
+        items: Sequence,
+        others: &Variables,
+    ) -> Result<Variables, AllocError>
+        ensures { IfOk result (λ v. v ≡ record { variable = name.now; items = items } ∷ others.now) }
     {
-        Variables {
-            last: Link::More(name, items, others),
-        }
+        let binding = Binding {
+            name: name.clone()?,
+            items,
+            others: others.clone()?,
+        };
+        Ok(Variables {
+            last: Link::More(Rc::new(alloc, binding)?),
+        })
     }
 
     /// The value of a variable: the one that was bound last counts. `None` where no variable has that name.
@@ -66,14 +87,27 @@ impl<'e> Variables<'e> {
     {
         match &self.last {
             Link::End => None,
-            Link::More(found, items, others) => {
-                if name == *found {
-                    Some(items)
+            Link::More(binding) => {
+                if name == binding.name.as_str() {
+                    Some(&binding.items)
                 } else {
-                    others.get(name)
+                    binding.others.get(name)
                 }
             }
         }
+    }
+}
+
+impl Clone for Variables {
+    ghost is_clone = { λ a b. b ≡ a };
+
+    fn clone(&self) -> Result<Variables, AllocError> {
+        Ok(Variables {
+            last: match &self.last {
+                Link::End => Link::End,
+                Link::More(binding) => Link::More(binding.clone()?),
+            },
+        })
     }
 }
 
@@ -87,12 +121,12 @@ struct Focus<'e> {
 
 /// What an expression is evaluated in: the focus, where there is one, and the variables.
 #[derive(Drop)]
-pub struct Environment<'e> {
-    focus: Option<Focus<'e>>,
-    variables: &'e Variables<'e>,
+pub struct Environment<'f, 'v> {
+    focus: Option<Focus<'f>>,
+    variables: &'v Variables,
 }
 
-impl<'e> Model for Environment<'e> {
+impl<'f, 'v> Model for Environment<'f, 'v> {
     ghost use Rattle.query_meaning.specs.Environment.{Environment as Term, environment_code};
 
     ghost Value = { Term };
@@ -104,9 +138,9 @@ impl<'e> Model for Environment<'e> {
     ghost view = { environment_of };
 }
 
-impl<'e> Environment<'e> {
+impl<'f, 'v> Environment<'f, 'v> {
     /// These variables without a focus.
-    pub fn new(variables: &'e Variables<'e>) -> Environment<'e>
+    pub fn new(variables: &'v Variables) -> Environment<'f, 'v>
         ensures { result ≡ record { focus = None; variables = variables.now } }
     {
         Environment {
@@ -116,7 +150,7 @@ impl<'e> Environment<'e> {
     }
 
     /// The variables.
-    pub fn variables(&self) -> &Variables<'e>
+    pub fn variables(&self) -> &'v Variables
         ensures { result.now ≡ self.now.variables }
     {
         self.variables
@@ -133,9 +167,7 @@ impl<'e> Environment<'e> {
     }
 
     /// The same focus with these variables.
-    pub fn with<'f>(&self, variables: &'f Variables<'f>) -> Environment<'f>
-    where
-        'e: 'f,
+    pub fn with<'w>(&self, variables: &'w Variables) -> Environment<'f, 'w>
         ensures { result ≡ record self.now { variables = variables.now } }
     {
         Environment {
@@ -145,9 +177,12 @@ impl<'e> Environment<'e> {
     }
 
     /// The same variables with that focus: a context item, its position and the context size.
-    pub fn with_focus<'f>(&self, item: &'f Item, position: usize, size: usize) -> Environment<'f>
-    where
-        'e: 'f,
+    pub fn with_focus<'g>(
+        &self,
+        item: &'g Item,
+        position: usize,
+        size: usize,
+    ) -> Environment<'g, 'v>
         ensures { result ≡ with_focus item.now position size self.now }
     {
         let focus = Focus {
@@ -158,6 +193,47 @@ impl<'e> Environment<'e> {
         Environment {
             focus: Some(focus),
             variables: self.variables,
+        }
+    }
+
+    /// The same, to be kept. It fails where memory is refused.
+    pub fn keep(&self) -> Result<KeptEnvironment<'f>, AllocError>
+        ensures { IfOk result (λ kept. kept ≡ self.now) }
+    {
+        Ok(KeptEnvironment {
+            focus: self.focus,
+            variables: self.variables.clone()?,
+        })
+    }
+}
+
+/// An environment that shares its variables with others. To keep one copies no item.
+#[derive(Drop)]
+pub struct KeptEnvironment<'f> {
+    focus: Option<Focus<'f>>,
+    variables: Variables,
+}
+
+impl<'f> Model for KeptEnvironment<'f> {
+    ghost use Rattle.query_meaning.specs.Environment.{Environment as Term, environment_code};
+
+    ghost Value = { Term };
+
+    ghost coded = { environment_code };
+
+    ghost use Rattle.evaluation.specs.Around.{kept_environment_of};
+
+    ghost view = { kept_environment_of };
+}
+
+impl<'f> KeptEnvironment<'f> {
+    /// The environment.
+    pub fn get<'v>(&'v self) -> Environment<'f, 'v>
+        ensures { result ≡ self.now }
+    {
+        Environment {
+            focus: self.focus,
+            variables: &self.variables,
         }
     }
 }

@@ -7,6 +7,6 @@ mod environment;
 mod run;
 mod sequence;
 
-pub use environment::{Environment, Variables};
+pub use environment::{Environment, KeptEnvironment, Variables};
 pub use run::Evaluation;
 pub use sequence::{MOST_ITEMS, Sequence};

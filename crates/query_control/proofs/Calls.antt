@@ -3,7 +3,8 @@ use Rattle.std.proofs.Common.{◌≡◌, ℕ, zero, suc, ◌<◌, List, [], ◌�
 use Rattle.query_grammar.specs.declared.ast.Binding.{Binding}
 use Rattle.query_grammar.specs.declared.ast.Clause.{Clause}
 use Rattle.query_grammar.specs.declared.ast.Expr.{Expr}
-use Rattle.query_control.specs.Evaluates.{Pre, Post, IsCallable, Evaluates, EvaluatesEach, EvaluatesFlwor, EvaluatesQuantified}
+use Rattle.query_grammar.specs.declared.ast.SortKey.{SortKey}
+use Rattle.query_control.specs.Evaluates.{Pre, Post, IsCallable, Evaluates, EvaluatesEach, EvaluatesFlwor, EvaluatesKept, EvaluatesQuantified}
 use Rattle.query_control.specs.Parts.{source_of, bound_source}
 
 -- the expression of one part
@@ -32,6 +33,14 @@ flwor_rest pre post cs c rest o x is all =
     let P : List (Clause Expr) → Type 0 = λ cs. EvaluatesFlwor pre post cs o x in
     let both : EvaluatesFlwor pre post (c ∷ rest) o x = subst P is all in
     record { clauses = evaluates_rest pre post source_of c rest both.clauses; condition = both.condition; body = both.body }
+
+-- what comes before `return` without its first clause
+pub kept_rest : (pre : Pre) (post : Post) (cs : List (Clause Expr)) (c : Clause Expr) (rest : List (Clause Expr)) (o : Option Expr) (ks : List (SortKey Expr)) → cs ≡ c ∷ rest
+    → EvaluatesKept pre post cs o ks → EvaluatesKept pre post rest o ks
+kept_rest pre post cs c rest o ks is all =
+    let P : List (Clause Expr) → Type 0 = λ cs. EvaluatesKept pre post cs o ks in
+    let both : EvaluatesKept pre post (c ∷ rest) o ks = subst P is all in
+    record { clauses = evaluates_rest pre post source_of c rest both.clauses; condition = both.condition; keys = both.keys }
 
 -- a quantified expression without its first binding
 pub quantified_rest : (pre : Pre) (post : Post) (bs : List (Binding Expr)) (b : Binding Expr) (rest : List (Binding Expr)) (x : Expr) → bs ≡ b ∷ rest

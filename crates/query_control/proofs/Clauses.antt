@@ -19,15 +19,15 @@ use Rattle.query_control.specs.Parts.{binding_of, clause_of, source_of, for_each
 use Rattle.evaluation.proofs.Each.{then_gives}
 
 -- a `for` clause with a position
-pub tuples_for_at : (cs : List (Clause Expr)) (c : Clause Expr) (rest : List (Clause Expr)) (b : Binding Expr) (at : List ℕ) (source : Expr) (k : Environment → List Item → M (List Item)) (env : Environment)
-    (items seen given : List Item) (old mid new : Run) (r : Result (List Item) ValueFault)
+pub tuples_for_at : {S : Type 0} (R : S → Run → Type 0) (cs : List (Clause Expr)) (c : Clause Expr) (rest : List (Clause Expr)) (b : Binding Expr) (at : List ℕ) (source : Expr) (k : Environment → S → M S) (env : Environment)
+    (items seen : List Item) (given : S) (old mid new : Run) (r : Result S ValueFault)
     → cs ≡ c ∷ rest → c ≡ clause.ForAt b at → source ≡ source_of c → GivesIn Stand (mean source env) old (Ok items) mid → seen ≡ items
-    → Gives (for_each_at b.variable at (map (clause_of mean) rest) k env seen given) mid r new → Gives (tuples (map (clause_of mean) cs) k env given) old r new
-tuples_for_at cs c rest b at source k env items seen given old mid new r is form of g same h =
-    let P : List (Clause Expr) → Type 0 = λ cs. Gives (tuples (map (clause_of mean) cs) k env given) old r new in
+    → GivesIn R (for_each_at b.variable at (map (clause_of mean) rest) k env seen given) mid r new → GivesIn R (tuples (map (clause_of mean) cs) k env given) old r new
+tuples_for_at R cs c rest b at source k env items seen given old mid new r is form of g same h =
+    let P : List (Clause Expr) → Type 0 = λ cs. GivesIn R (tuples (map (clause_of mean) cs) k env given) old r new in
     let Q : Expr → Type 0 = λ x. GivesIn Stand (mean x env) old (Ok items) mid in
-    let R : List Item → Type 0 = λ xs. Gives (for_each_at b.variable at (map (clause_of mean) rest) k env xs given) mid r new in
-    subst P (sym (is ∙ ap (λ c. c ∷ rest) form)) (then_gives Stand Stand (mean b.source env) (λ items. for_each_at b.variable at (map (clause_of mean) rest) k env items given) old mid new items r (subst Q (of ∙ ap source_of form) g) (subst R same h))
+    let T : List Item → Type 0 = λ xs. GivesIn R (for_each_at b.variable at (map (clause_of mean) rest) k env xs given) mid r new in
+    subst P (sym (is ∙ ap (λ c. c ∷ rest) form)) (then_gives Stand R (mean b.source env) (λ items. for_each_at b.variable at (map (clause_of mean) rest) k env items given) old mid new items r (subst Q (of ∙ ap source_of form) g) (subst T same h))
 
 -- the first of several bindings
 pub satisfied_first : (q : Quantifier) (bs : List (Binding Expr)) (b : Binding Expr) (rest : List (Binding Expr)) (m : Meaning) (env : Environment)

@@ -1,21 +1,17 @@
 -- A stable sort gives what insertion gives, one element after the other.
 use Rattle.std.proofs.Common.{◌≡◌, ℕ, suc, ◌<◌, ◌≤◌, Bool, true, false, cond, List, [], ◌∷◌, length, get_or, refl, sym, ap, ap₂, ◌∙◌, arith}
-use Rattle.std.specs.Prelude.{not, ◌&&◌, filter}
+use Rattle.std.specs.Prelude.{not, ◌&&◌, filter, Result, Ok, Err, OnOk}
 use Rattle.std.specs.Cmp.{IsStrictWeakOrder}
-use Rattle.std.specs.List.Sorted.{IsSortedBy, IsStableBy, ties}
+use Rattle.std.specs.List.Sorted.{IsSortedBy, IsStableBy, IsSortedByClosure, IsStableByClosure, ties}
+use Rattle.std.specs.Fn.{Mut, Called}
+use denote.Ref.{Bor}
+use Rattle.std.specs.declared.cmp.Ordering.{Ordering}
+use Rattle.std.proofs.lemmas.Fn.{always_returns_same}
 use Rattle.std.specs.Ordering.{is_lt}
 use Rattle.std.proofs.lemmas.List.Sorted.{sorted_far}
 use Rattle.query_grammar.specs.declared.ast.SortKey.{SortKey}
+use Rattle.query_control.specs.Keys.{Each, inserted, inserted_each}
 use Rattle.query_meaning.specs.Sequences.{Meaning, Tuple, keys_cmp, sorted, sorted_in}
-
--- an element among sorted ones, before those that it is not greater than
-abbrev pub inserted : {X : Type 0} → (X → X → Bool) → X → List X → List X
-inserted lt x [] = x ∷ []
-inserted lt x (y ∷ ys) = cond (lt y x) (y ∷ inserted lt x ys) (x ∷ y ∷ ys)
-
-abbrev pub inserted_each : {X : Type 0} → (X → X → Bool) → List X → List X
-inserted_each lt [] = []
-inserted_each lt (x ∷ xs) = inserted lt x (inserted_each lt xs)
 
 -- no element is less than x, and none than one before it
 abbrev Above : {X : Type 0} → (X → X → Bool) → X → List X → Type 0
@@ -146,31 +142,31 @@ module _ {X : Type 0} (lt : X → X → Bool) (o : IsStrictWeakOrder lt) where
   pub stable_is_inserted : (xs ys : List X) → IsSortedBy lt ys → IsStableBy lt xs ys → ys ≡ inserted_each lt xs
   stable_is_inserted xs ys up stable = alike ys (inserted_each lt xs) (rises_from ys (sorted_far lt o ys up)) (each_rises xs) (λ x. stable x ∙ sym (each_stable x xs))
 
--- tests that answer alike where P holds of both elements
-module _ {X : Type 0} (f g : X → X → Bool) (P : X → Type 0) (answers : (x y : X) → P x → P y → f x y ≡ g x y) where
-  abbrev pub Each : List X → Type 0
-  Each [] = Unit {0}
-  Each (x ∷ xs) = P x × Each xs
+-- what holds of each element holds of each that is inserted
+each_inserted : {X : Type 0} (f : X → X → Bool) (P : X → Type 0) (x : X) (ys : List X) → P x → Each P ys → Each P (inserted f x ys)
+each_inserted f P x [] p h = (p, tt)
+each_inserted f P x (y ∷ ys) p h = by (f y x) (each_inserted f P x ys p h.1)
+  where
+    by : (b : Bool) → Each P (inserted f x ys) → Each P (cond b (y ∷ inserted f x ys) (x ∷ y ∷ ys))
+    by true rest = (h.0, rest)
+    by false rest = (p, h)
 
-  each_inserted : (x : X) (ys : List X) → P x → Each ys → Each (inserted f x ys)
-  each_inserted x [] p h = (p, tt)
-  each_inserted x (y ∷ ys) p h = by (f y x) (each_inserted x ys p h.1)
-    where
-      by : (b : Bool) → Each (inserted f x ys) → Each (cond b (y ∷ inserted f x ys) (x ∷ y ∷ ys))
-      by true rest = (h.0, rest)
-      by false rest = (p, h)
+pub each_of_all : {X : Type 0} (f : X → X → Bool) (P : X → Type 0) (xs : List X) → Each P xs → Each P (inserted_each f xs)
+each_of_all f P [] h = tt
+each_of_all f P (x ∷ xs) h = each_inserted f P x (inserted_each f xs) h.0 (each_of_all f P xs h.1)
 
-  each_of_all : (xs : List X) → Each xs → Each (inserted_each f xs)
-  each_of_all [] h = tt
-  each_of_all (x ∷ xs) h = each_inserted x (inserted_each f xs) h.0 (each_of_all xs h.1)
+-- tests that answer alike of each element and one before it
+abbrev pub AnswerAlike : {X : Type 0} → (f g : X → X → Bool) → List X → Type 0
+AnswerAlike f g [] = Unit {0}
+AnswerAlike f g (x ∷ xs) = Each (λ y. f y x ≡ g y x) xs × AnswerAlike f g xs
 
-  inserted_alike : (x : X) (ys : List X) → P x → Each ys → inserted f x ys ≡ inserted g x ys
-  inserted_alike x [] p h = refl
-  inserted_alike x (y ∷ ys) p h = ap₂ (λ b zs. cond b (y ∷ zs) (x ∷ y ∷ ys)) (answers y x h.0 p) (inserted_alike x ys p h.1)
+inserted_alike : {X : Type 0} (f g : X → X → Bool) (x : X) (ys : List X) → Each (λ y. f y x ≡ g y x) ys → inserted f x ys ≡ inserted g x ys
+inserted_alike f g x [] h = refl
+inserted_alike f g x (y ∷ ys) h = ap₂ (λ b zs. cond b (y ∷ zs) (x ∷ y ∷ ys)) h.0 (inserted_alike f g x ys h.1)
 
-  pub each_alike : (xs : List X) → Each xs → inserted_each f xs ≡ inserted_each g xs
-  each_alike [] h = refl
-  each_alike (x ∷ xs) h = inserted_alike x (inserted_each f xs) h.0 (each_of_all xs h.1) ∙ ap (inserted g x) (each_alike xs h.1)
+pub each_alike : {X : Type 0} (f g : X → X → Bool) (xs : List X) → AnswerAlike f g xs → inserted_each f xs ≡ inserted_each g xs
+each_alike f g [] h = refl
+each_alike f g (x ∷ xs) h = inserted_alike f g x (inserted_each f xs) (each_of_all f (λ y. f y x ≡ g y x) xs h.0) ∙ ap (inserted g x) (each_alike f g xs h.1)
 
 -- the order of tuples in the definition is insertion
 pub tuples_inserted : (keys : List (SortKey Meaning)) (ts : List Tuple) → sorted keys ts ≡ inserted_each (λ u t. is_lt (keys_cmp keys u.keys t.keys)) ts
@@ -180,3 +176,12 @@ tuples_inserted keys (t ∷ ts) = ap (sorted_in keys t) (tuples_inserted keys ts
     among : (us : List Tuple) → sorted_in keys t us ≡ inserted (λ u t. is_lt (keys_cmp keys u.keys t.keys)) t us
     among [] = refl
     among (u ∷ us) = ap (λ ws. cond (is_lt (keys_cmp keys u.keys t.keys)) (u ∷ ws) (t ∷ u ∷ us)) (among us)
+
+-- what a stable sort ensures whose comparison answers a function's value
+pub sort_inserts : {F X A E : Type 0} {g : Mut F (Bor X × (Bor X × Unit {0})) Ordering} {f : F} (cmp : X → X → Ordering) → IsStrictWeakOrder (λ x y. is_lt (cmp x y)) → (r : Result A E) (xs ys : List X)
+    → OnOk r (IsSortedByClosure g f ys) → IsStableByClosure g f xs ys
+    → ((a : Bor X × (Bor X × Unit {0})) (o : Ordering) (f' : F) → Called g f a o f' → (o ≡ cmp a.0.now a.1.0.now) × (f' ≡ f)) → OnOk r (ys ≡ inserted_each (λ x y. is_lt (cmp x y)) xs)
+sort_inserts {g = g} {f = f} cmp weak (Ok a) xs ys up stable h =
+    let answers = always_returns_same g (λ a o. is_lt o ≡ is_lt (cmp a.0.now a.1.0.now)) f (λ a o f' k. (ap is_lt (h a o f' k).0, (h a o f' k).1)) in
+    stable_is_inserted (λ x y. is_lt (cmp x y)) weak xs ys (up (λ x y. is_lt (cmp x y)) weak answers) (stable (λ x y. is_lt (cmp x y)) weak answers)
+sort_inserts cmp weak (Err e) xs ys up stable h = tt

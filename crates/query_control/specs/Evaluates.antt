@@ -6,13 +6,14 @@ use denote.Ref.{Bor, MutBor}
 use Rattle.query_grammar.specs.declared.ast.Binding.{Binding}
 use Rattle.query_grammar.specs.declared.ast.Clause.{Clause}
 use Rattle.query_grammar.specs.declared.ast.Expr.{Expr}
+use Rattle.query_grammar.specs.declared.ast.SortKey.{SortKey}
 use Rattle.values.specs.declared.atom.Item.{Item}
 use Rattle.values.specs.declared.fault.ValueFault.{ValueFault}
 use Rattle.query_meaning.specs.Running.{Run}
 use Rattle.query_meaning.specs.Environment.{Environment}
 use Rattle.query_meaning.specs.Meaning.{mean}
 use Rattle.evaluation.specs.Gives.{Gives, IsReady}
-use Rattle.query_control.specs.Parts.{source_of, bound_source}
+use Rattle.query_control.specs.Parts.{source_of, bound_source, key_in}
 
 abbrev pub Pre : Type 1
 Pre = MutBor Run → Bor Expr → Bor Environment → Type 0
@@ -44,6 +45,12 @@ pub record EvaluatesFlwor (pre : Pre) (post : Post) (cs : List (Clause Expr)) (o
   pub clauses : EvaluatesEach pre post source_of cs
   pub condition : ForSome o (λ y. Evaluates pre post (y ∷ []))
   pub body : Evaluates pre post (x ∷ [])
+
+-- the same of those that come before `return` where there is `order by`
+pub record EvaluatesKept (pre : Pre) (post : Post) (cs : List (Clause Expr)) (o : Option Expr) (ks : List (SortKey Expr)) : Type 0 where
+  pub clauses : EvaluatesEach pre post source_of cs
+  pub condition : ForSome o (λ y. Evaluates pre post (y ∷ []))
+  pub keys : EvaluatesEach pre post key_in ks
 
 -- the same of those in a quantified expression
 pub record EvaluatesQuantified (pre : Pre) (post : Post) (bs : List (Binding Expr)) (x : Expr) : Type 0 where

@@ -1,14 +1,16 @@
 -- Parts of expressions, by what they mean or with the expressions in them.
-use Rattle.std.specs.Prelude.{Bool, ℕ, ◌+◌, List, ◌∷◌, [], pos}
+use Rattle.std.specs.Prelude.{Bool, false, ℕ, ◌+◌, List, ◌∷◌, [], pos, Option}
+use Rattle.values.specs.declared.atom.Atom.{Atom}
 use Rattle.values.specs.declared.atom.Atom.TheVariants as atom
 use Rattle.values.specs.declared.atom.Item.{Item}
 use Rattle.query_grammar.specs.declared.ast.Binding.{Binding}
 use Rattle.query_grammar.specs.declared.ast.Clause.{Clause}
 use Rattle.query_grammar.specs.declared.ast.Clause.TheVariants as clause
 use Rattle.query_grammar.specs.declared.ast.Quantifier.{Quantifier}
-use Rattle.query_meaning.specs.Running.{M, turn, each}
+use Rattle.query_grammar.specs.declared.ast.SortKey.{SortKey}
+use Rattle.query_meaning.specs.Running.{M, ◌>>=◌, come_to, joined, turn, each}
 use Rattle.query_meaning.specs.Environment.{Environment, with_variable}
-use Rattle.query_meaning.specs.Sequences.{Meaning, one, satisfied, tuples}
+use Rattle.query_meaning.specs.Sequences.{Meaning, Tuple, one, satisfied, tuples, keys_in, key_in as key_in_order, and_tuple, kept_tuple, in_sorted_order}
 
 -- what the parts of a part mean
 abbrev pub binding_of : {A : Type 0} → (A → Meaning) → Binding A → Binding Meaning
@@ -19,11 +21,17 @@ clause_of f (clause.For b) = clause.For (binding_of f b)
 clause_of f (clause.ForAt b at) = clause.ForAt (binding_of f b) at
 clause_of f (clause.Let b) = clause.Let (binding_of f b)
 
+abbrev pub sort_key_of : {A B : Type 0} → (A → B) → SortKey A → SortKey B
+sort_key_of f k = record { key = f k.key; is_descending = k.is_descending }
+
 -- the expression in it
 abbrev pub source_of : {A : Type 0} → Clause A → A
 source_of (clause.For b) = b.source
 source_of (clause.ForAt b at) = b.source
 source_of (clause.Let b) = b.source
+
+abbrev pub key_in : {A : Type 0} → SortKey A → A
+key_in k = k.key
 
 abbrev pub bound_source : {A : Type 0} → Binding A → A
 bound_source b = b.source
@@ -46,3 +54,22 @@ for_each_at x at cs k env items s = each (λ i s item. for_one_at x at cs k env 
 -- one item of a binding of a quantified expression, before the other bindings
 abbrev pub satisfied_by : Quantifier → (variable : List ℕ) → List (Binding Meaning) → Meaning → Environment → Item → M Bool
 satisfied_by q x bs m env item = turn (satisfied q bs m (with_variable x (item ∷ []) env))
+
+-- one key more
+abbrev pub and_key : Environment → List (Option Atom) → Meaning → M (List (Option Atom))
+and_key env given m = key_in_order env given (record { key = m; is_descending = false })
+
+-- one tuple more, with its keys
+abbrev pub and_tuple_of : List (SortKey Meaning) → Environment → List Tuple → M (List Tuple)
+and_tuple_of keys env given = keys_in keys env >>= (λ ks. come_to (and_tuple env given ks))
+
+-- the tuples of a FLWOR expression in their order
+abbrev pub in_order : List (Clause Meaning) → Option Meaning → List (SortKey Meaning) → Environment → M (List Tuple)
+in_order cs test keys env = tuples cs (kept_tuple test keys) env [] >>= (λ found. come_to (in_sorted_order keys found))
+
+-- `return` at them
+abbrev pub returned_at : Meaning → List Item → Tuple → M (List Item)
+returned_at m given t = m t.environment >>= joined given
+
+abbrev pub returned_in_order : Meaning → List Tuple → M (List Item)
+returned_in_order m ts = each (λ _. returned_at m) 0 ts []

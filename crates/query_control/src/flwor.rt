@@ -1,4 +1,4 @@
-//! FLWOR expressions without `order by`, over a function that evaluates their parts (XQuery 1.0, section 3.8).
+//! FLWOR expressions, over a function that evaluates their parts (XQuery 1.0, section 3.8).
 
 ghost use Rattle.std.specs.Prelude.{◌≡◌, ◌<◌, ◌≤◌, ◌+◌, ◌∷◌, [], length, map, option_map, pos, IfOk};
 ghost use Rattle.std.specs.Option.{ForSome};
@@ -8,34 +8,48 @@ ghost use Rattle.query_meaning.specs.Environment.{with_variable};
 ghost use Rattle.query_meaning.specs.Meaning.{mean};
 ghost use Rattle.query_meaning.specs.Running.{trees_of, most_items};
 ghost use Rattle.query_meaning.specs.Sequences as meaning;
-ghost use Rattle.query_control.specs.Evaluates.{Evaluates, EvaluatesFlwor};
+ghost use Rattle.query_control.specs.Evaluates.{Evaluates, EvaluatesEach, EvaluatesFlwor};
 ghost use Rattle.evaluation.specs.Gives.{Any, Gives, GivesIn, IsReady, Stand};
 ghost use Rattle.query_control.specs.Parts as part;
 
 use crate::forms::Forms;
 use evaluation::{Environment, Evaluation, Sequence, Variables};
-use query_grammar::{Clause, Expr};
+use query_grammar::{Clause, Expr, SortKey};
 use sqlite_items::{Boxed, Items};
 use std::alloc::AllocError;
 use values::{Atom, Item, Text, ValueFault};
 
 impl<F: Fn(&mut Evaluation, &Expr, &Environment) -> Result<Sequence, ValueFault>> Forms<F> {
-    /// Clauses, `where` and `return`, where there is no `order by` (XQuery 1.0, section 3.8). Each item of a `for` clause takes a turn.
-    /// Codes: that of the first part that has one; PXQ0002 where no turn is left, or at the tuple that brings the 10,001st item.
+    /// Clauses, `where`, `order by` and `return` (XQuery 1.0, section 3.8). Each item of a `for` clause takes a turn. Codes: that of the
+    /// first part that has one; PXQ0002 where no turn is left, at the tuple that brings the 10,001st item, or with `order by` at the
+    /// 10,001st tuple; XPTY0004 where a key is more than one value, or, before `return`, where two keys at one position are of
+    /// different types.
     pub fn flwor(
         &self,
         run: &mut Evaluation,
         clauses: &Items<Clause<Expr>>,
         condition: &Option<Boxed<Expr>>,
+        keys: &Items<SortKey<Expr>>,
         body: &Boxed<Expr>,
         env: &Environment,
     ) -> Result<Sequence, ValueFault>
         requires flwor { EvaluatesFlwor (F.pre self.now.value_of) (F.post self.now.value_of) clauses.now condition.now body.now }
+        requires keys { EvaluatesEach (F.pre self.now.value_of) (F.post self.now.value_of) part.key_in keys.now }
         requires ready { IsReady env.now run.old }
-        ensures { Gives (meaning.flwor (map (part.clause_of mean) clauses.now) (option_map mean condition.now) [] (mean body.now) env.now) run.old result run.new }
+        ensures { Gives (meaning.flwor (map (part.clause_of mean) clauses.now) (option_map mean condition.now) (map (part.sort_key_of mean) keys.now) (mean body.now) env.now) run.old result run.new }
     {
-        let given = Sequence::new(run.alloc());
-        self.tuples(run, clauses.as_slice(), condition, body, env, given)
+        if keys.is_empty() {
+            let given = Sequence::new(run.alloc());
+            return self.tuples(run, clauses.as_slice(), condition, body, env, given);
+        }
+        self.ordered(
+            run,
+            clauses.as_slice(),
+            condition,
+            keys.as_slice(),
+            body,
+            env,
+        )
     }
 
     #[cycle(tuples)]
@@ -62,7 +76,7 @@ impl<F: Fn(&mut Evaluation, &Expr, &Environment) -> Result<Sequence, ValueFault>
             Clause::Let(binding) => self.let_all(
                 run,
                 &binding.variable,
-                &items,
+                items,
                 rest,
                 condition,
                 body,
@@ -99,7 +113,7 @@ impl<F: Fn(&mut Evaluation, &Expr, &Environment) -> Result<Sequence, ValueFault>
         &self,
         run: &mut Evaluation,
         variable: &Text,
-        items: &Sequence,
+        items: Sequence,
         clauses: &[Clause<Expr>],
         condition: &Option<Boxed<Expr>>,
         body: &Boxed<Expr>,
@@ -108,11 +122,11 @@ impl<F: Fn(&mut Evaluation, &Expr, &Environment) -> Result<Sequence, ValueFault>
     ) -> Result<Sequence, ValueFault>
         requires flwor { EvaluatesFlwor (F.pre self.now.value_of) (F.post self.now.value_of) clauses.now condition.now body.now }
         requires ready { IsReady env.now run.old }
-        requires items { Stand items.now run.old }
+        requires items { Stand items run.old }
         requires stand { Stand given run.old }
-        ensures { Gives (meaning.tuples (map (part.clause_of mean) clauses.now) (meaning.returned (option_map mean condition.now) (mean body.now)) (with_variable variable.now items.now env.now) given) run.old result run.new }
+        ensures { Gives (meaning.tuples (map (part.clause_of mean) clauses.now) (meaning.returned (option_map mean condition.now) (mean body.now)) (with_variable variable.now items env.now) given) run.old result run.new }
     {
-        let variables = Variables::and(variable.as_str(), items, env.variables());
+        let variables = Variables::and(run.alloc(), variable, items, env.variables())?;
         self.tuples(run, clauses, condition, body, &env.with(&variables), given)
     }
 
@@ -162,8 +176,7 @@ impl<F: Fn(&mut Evaluation, &Expr, &Environment) -> Result<Sequence, ValueFault>
         ensures { Gives (part.for_one variable.now (map (part.clause_of mean) clauses.now) (meaning.returned (option_map mean condition.now) (mean body.now)) env.now given item.now) run.old result run.new }
     {
         run.turn()?;
-        let items = Sequence::one(run.alloc(), item.clone()?)?;
-        let variables = Variables::and(variable.as_str(), &items, env.variables());
+        let variables = and_item(run, variable, item, env.variables())?;
         self.tuples(run, clauses, condition, body, &env.with(&variables), given)
     }
 
@@ -222,14 +235,11 @@ impl<F: Fn(&mut Evaluation, &Expr, &Environment) -> Result<Sequence, ValueFault>
         ensures { Gives (part.for_one_at variable.now at.now (map (part.clause_of mean) clauses.now) (meaning.returned (option_map mean condition.now) (mean body.now)) env.now index given item.now) run.old result run.new }
     {
         run.turn()?;
-        let items = Sequence::one(run.alloc(), item.clone()?)?;
-        let position = position(run, index)?;
-        let variables = Variables::and(variable.as_str(), &items, env.variables());
-        let variables = Variables::and(at.as_str(), &position, &variables);
+        let variables = and_item_at(run, variable, at, index, item, env.variables())?;
         self.tuples(run, clauses, condition, body, &env.with(&variables), given)
     }
 
-    fn tested(
+    pub(crate) fn tested(
         &self,
         run: &mut Evaluation,
         condition: &Option<Boxed<Expr>>,
@@ -269,7 +279,7 @@ impl<F: Fn(&mut Evaluation, &Expr, &Environment) -> Result<Sequence, ValueFault>
 }
 
 /// What the variables of a clause are bound to.
-fn source_of(clause: &Clause<Expr>) -> &Expr
+pub(crate) fn source_of(clause: &Clause<Expr>) -> &Expr
     ensures { result.now ≡ part.source_of clause.now }
 {
     match clause {
@@ -287,4 +297,33 @@ fn position(run: &Evaluation, index: usize) -> Result<Sequence, AllocError>
 {
     let position = index as i64 + 1;
     Sequence::one(run.alloc(), Item::Atomic(Atom::Integer(position)))
+}
+
+/// A variable more, with one item. It fails where memory is refused.
+pub(crate) fn and_item(
+    run: &Evaluation,
+    variable: &Text,
+    item: &Item,
+    others: &Variables,
+) -> Result<Variables, AllocError>
+    ensures { IfOk result (λ v. v ≡ record { variable = variable.now; items = item.now ∷ [] } ∷ others.now) }
+{
+    let items = Sequence::one(run.alloc(), item.clone()?)?;
+    Variables::and(run.alloc(), variable, items, others)
+}
+
+/// The same, and one more with the position that follows an index.
+pub(crate) fn and_item_at(
+    run: &Evaluation,
+    variable: &Text,
+    at: &Text,
+    index: usize,
+    item: &Item,
+    others: &Variables,
+) -> Result<Variables, AllocError>
+    requires { index < most_items }
+    ensures { IfOk result (λ v. v ≡ record { variable = at.now; items = meaning.one (atom.Integer (pos (index + 1))) } ∷ record { variable = variable.now; items = item.now ∷ [] } ∷ others.now) }
+{
+    let variables = and_item(run, variable, item, others)?;
+    Variables::and(run.alloc(), at, position(run, index)?, &variables)
 }

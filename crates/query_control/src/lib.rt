@@ -8,9 +8,11 @@ mod flwor;
 mod forms;
 mod nodes;
 mod operators;
+mod order;
 mod quantified;
 mod ranges;
 mod signs;
+mod tuples;
 
 pub use chain::SetOperator;
 pub use forms::{Forms, context_item, lent, number, string, variable};

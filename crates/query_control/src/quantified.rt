@@ -10,9 +10,10 @@ ghost use Rattle.query_control.specs.Evaluates.{EvaluatesQuantified};
 ghost use Rattle.evaluation.specs.Gives.{Any, Gives, GivesIn, IsReady, Stand};
 ghost use Rattle.query_control.specs.Parts as part;
 
+use crate::flwor::and_item;
 use crate::forms::Forms;
 use crate::operators::boolean;
-use evaluation::{Environment, Evaluation, Sequence, Variables};
+use evaluation::{Environment, Evaluation, Sequence};
 use query_grammar::{Binding, Expr, Quantifier};
 use sqlite_items::{Boxed, Items};
 use values::{Item, Text, ValueFault};
@@ -109,8 +110,7 @@ impl<F: Fn(&mut Evaluation, &Expr, &Environment) -> Result<Sequence, ValueFault>
         ensures { GivesIn Any (part.satisfied_by quantifier variable.now (map (part.binding_of mean) bindings.now) (mean test.now) env.now item.now) run.old result run.new }
     {
         run.turn()?;
-        let items = Sequence::one(run.alloc(), item.clone()?)?;
-        let variables = Variables::and(variable.as_str(), &items, env.variables());
+        let variables = and_item(run, variable, item, env.variables())?;
         self.satisfied(run, quantifier, bindings, test, &env.with(&variables))
     }
 }

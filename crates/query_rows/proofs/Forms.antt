@@ -10,6 +10,7 @@ use Rattle.query_grammar.specs.declared.ast.Expr.TheViews.{the_lemmas}
 use Rattle.query_grammar.specs.declared.ast.Operation.{Operation}
 use Rattle.query_grammar.specs.declared.ast.Quantifier.{Quantifier}
 use Rattle.query_grammar.specs.declared.ast.Sign.{Sign}
+use Rattle.query_grammar.specs.declared.ast.SortKey.{SortKey}
 use Rattle.values.specs.declared.atom.Item.{Item}
 use Rattle.values.specs.declared.fault.ValueFault.{ValueFault}
 use Rattle.query_meaning.specs.Running.{Run}
@@ -19,7 +20,7 @@ use Rattle.query_meaning.specs.Operators.{chain, signed}
 use Rattle.query_meaning.specs.Sequences.{Meaning, number, string, context_item, sequence, conditional, quantified, flwor}
 use Rattle.evaluation.specs.Gives.{Gives}
 use Rattle.query_control.specs.Operations.{operation_of}
-use Rattle.query_control.specs.Parts.{binding_of, clause_of}
+use Rattle.query_control.specs.Parts.{binding_of, clause_of, sort_key_of}
 use Rattle.query_control.proofs.Unfolded.{by_form}
 
 -- what is come to by the form is what the expression comes to
@@ -61,6 +62,11 @@ clauses_alike h for at binds (clause.For b ∷ cs) = ap₂ (λ x xs. x ∷ xs) (
 clauses_alike h for at binds (clause.ForAt b x ∷ cs) = ap₂ (λ y ys. y ∷ ys) (at b x) (clauses_alike h for at binds cs)
 clauses_alike h for at binds (clause.Let b ∷ cs) = ap₂ (λ x xs. x ∷ xs) (binds b) (clauses_alike h for at binds cs)
 
-pub of_flwor : (cs : List (Clause Expr)) (test : Option Expr) (x : Expr) → mean (e.Flwor cs test [] x) ≡ flwor (map (clause_of mean) cs) (option_map mean test) [] (mean x)
-of_flwor cs None x = by_form (e.Flwor cs None [] x) (Expr-F.Flwor cs None [] x) (search (rules, the_lemmas)) ∙ ap (λ ds. flwor ds None [] (mean x)) (clauses_alike _ (λ b. refl) (λ b at. refl) (λ b. refl) cs)
-of_flwor cs (Some y) x = by_form (e.Flwor cs (Some y) [] x) (Expr-F.Flwor cs (Some y) [] x) (search (rules, the_lemmas)) ∙ ap (λ ds. flwor ds (Some (mean y)) [] (mean x)) (clauses_alike _ (λ b. refl) (λ b at. refl) (λ b. refl) cs)
+pub of_flwor : (cs : List (Clause Expr)) (test : Option Expr) (keys : List (SortKey Expr)) (x : Expr)
+    → mean (e.Flwor cs test keys x) ≡ flwor (map (clause_of mean) cs) (option_map mean test) (map (sort_key_of mean) keys) (mean x)
+of_flwor cs None keys x =
+    by_form (e.Flwor cs None keys x) (Expr-F.Flwor cs None keys x) (search (rules, the_lemmas))
+    ∙ ap (λ ds. flwor ds None (map (sort_key_of mean) keys) (mean x)) (clauses_alike _ (λ b. refl) (λ b at. refl) (λ b. refl) cs)
+of_flwor cs (Some y) keys x =
+    by_form (e.Flwor cs (Some y) keys x) (Expr-F.Flwor cs (Some y) keys x) (search (rules, the_lemmas))
+    ∙ ap (λ ds. flwor ds (Some (mean y)) (map (sort_key_of mean) keys) (mean x)) (clauses_alike _ (λ b. refl) (λ b at. refl) (λ b. refl) cs)

@@ -28,10 +28,7 @@ pub fn value_of(run: &mut Evaluation, x: &Expr, env: &Environment) -> Result<Seq
             forms.quantified(run, *quantifier, bindings, test, env)
         }
         Expr::Flwor(clauses, condition, keys, body) => {
-            if keys.is_empty() {
-                return forms.flwor(run, clauses, condition, body, env);
-            }
-            Err(ValueFault::Memory)
+            forms.flwor(run, clauses, condition, keys, body, env)
         }
         _ => Err(ValueFault::Memory),
     }

@@ -1,5 +1,3 @@
-use Rattle.std.proofs.Common.{◌∙◌, ap}
-use Rattle.query_grammar.specs.declared.ast.Expr.TheVariants as e
 use Rattle.query_control.proofs.Unfolded.{of_variable}
 use Rattle.query_rows.proofs.Forms.{as_meant, of_number, of_string, of_context, of_sequence, of_signed, of_chain, of_if, of_quantified, of_flwor}
 use Rattle.query_rows.proofs.evaluator.+value_of.Goals as goal
@@ -31,6 +29,5 @@ returns-in-If t c = as_meant _ _ _ _ _ _ _ c.in-If.is (of_if _ _ _) c.conditiona
 pub returns-in-Quantified : goal.returns-in-Quantified
 returns-in-Quantified t c = as_meant _ _ _ _ _ _ _ c.in-Quantified.is (of_quantified _ _ _) c.quantified.ensures
 
-pub returns-then-is_empty : goal.returns-then-is_empty
-returns-then-is_empty t c =
-    as_meant _ _ _ _ _ _ _ (c.in-Flwor.is ∙ ap (λ k. e.Flwor c.in-Flwor.clauses c.in-Flwor.condition k c.in-Flwor.body) (c.is_empty.ensures.0 c.if-is_empty.true)) (of_flwor _ _ _) c.flwor.ensures
+pub returns-in-Flwor : goal.returns-in-Flwor
+returns-in-Flwor t c = as_meant _ _ _ _ _ _ _ c.in-Flwor.is (of_flwor _ _ _ _) c.flwor.ensures

@@ -1,0 +1,146 @@
+-- Tuples that are kept, over what an evaluation does.
+use Rattle.std.proofs.Common.{◌≡◌, ℕ, zero, suc, ◌<◌, List, [], ◌∷◌, ◌++◌, length, map, slice_index_or, Option, Bool, true, false, cond, refl, sym, ap, ◌∙◌, subst, arith, Result, Ok, Err}
+use Rattle.std.specs.Option.{ForSome}
+use Rattle.std.specs.Prelude.{nat_le}
+use Rattle.values.specs.Items.{IsThere}
+use Rattle.values.specs.declared.atom.Atom.{Atom}
+use Rattle.values.specs.declared.atom.Item.{Item}
+use Rattle.values.specs.declared.atom.Item.TheVariants as item
+use Rattle.values.specs.declared.code.Code.{Code}
+use Rattle.values.specs.declared.code.Code.TheVariants.{PXQ0002, XPTY0004}
+use Rattle.values.specs.declared.fault.ValueFault.{ValueFault}
+use Rattle.values.specs.declared.fault.ValueFault.TheVariants as fault
+use Rattle.query_grammar.specs.declared.ast.Clause.{Clause}
+use Rattle.query_grammar.specs.declared.ast.SortKey.{SortKey}
+use Rattle.query_meaning.specs.Environment.{Environment, Focus}
+use Rattle.query_meaning.specs.Running.{M, Run, and_then, come_to, ◌>>=◌, trees_of, most_items}
+use Rattle.query_meaning.specs.Sequences.{Meaning, Tuple, tuples, kept_tuple, keys_in, and_tuple, all_comparable, sorted, in_sorted_order, ordered, flwor, returned}
+use Rattle.evaluation.specs.Gives.{Any, Grows, GivesIn, Gives, Says, IsReady, Stand}
+use Rattle.query_control.specs.Keys.{Each, IsWide, AreKept, AreReady}
+use Rattle.query_control.specs.Parts.{sort_key_of, and_tuple_of, in_order, returned_in_order}
+use Rattle.evaluation.proofs.Each.{then_gives}
+use Rattle.query_control.proofs.Sorting.{each_of_all, tuples_inserted}
+
+-- nodes stand on
+there_on : (x : Item) (old new : Run) → Grows old new → IsThere (trees_of old) x → IsThere (trees_of new) x
+there_on (item.Atomic a) old new g h = tt
+there_on (item.Node i) old new g h = g.kept i h
+
+focus_on : (o : Option Focus) (old new : Run) → Grows old new → ForSome o (λ f. IsThere (trees_of old) f.item) → ForSome o (λ f. IsThere (trees_of new) f.item)
+focus_on o old new g h = λ f is. there_on f.item old new g (h f is)
+
+pub ready_on : (env : Environment) (old new : Run) → Grows old new → IsReady env old → IsReady env new
+ready_on env old new g h = record { focus = focus_on env.focus old new g h.focus; variables = λ k d below. λ j e under. there_on _ old new g (h.variables k d below j e under) }
+
+pub all_ready_on : (ts : List Tuple) (old new : Run) → Grows old new → AreReady ts old → AreReady ts new
+all_ready_on [] old new g h = tt
+all_ready_on (t ∷ ts) old new g h = (ready_on t.environment old new g h.0, all_ready_on ts old new g h.1)
+
+pub kept_grows : (n : ℕ) (ts : List Tuple) (old new : Run) → Grows old new → AreKept n ts old → AreKept n ts new
+kept_grows n ts old new g h = record { widths = h.widths; ready = all_ready_on ts old new g h.ready }
+
+pub kept_none : (n : ℕ) (run : Run) → AreKept n [] run
+kept_none n run = record { widths = tt; ready = tt }
+
+each_more : {X : Type 0} (P : X → Type 0) (xs : List X) (x : X) → Each P xs → P x → Each P (xs ++ x ∷ [])
+each_more P [] x h p = (p, tt)
+each_more P (y ∷ ys) x h p = (h.0, each_more P ys x h.1 p)
+
+-- the environment of a tuple
+pub ready_at : (ts : List Tuple) (k : ℕ) (t : Tuple) (run : Run) → AreReady ts run → k < length ts → t ≡ slice_index_or ts k t → IsReady t.environment run
+ready_at [] k t run h below is = absurd (omega (arith, below))
+ready_at (u ∷ us) zero t run h below is = let P : Tuple → Type 0 = λ v. IsReady v.environment run in subst P (sym is) h.0
+ready_at (u ∷ us) (suc k) t run h below is = ready_at us k t run h.1 (omega (arith, below)) is
+
+-- one tuple more
+more_kept : (n : ℕ) (env : Environment) (given ts : List Tuple) (ks : List (Option Atom)) (run : Run) → IsReady env run → AreKept n given run → length ks ≡ n → and_tuple env given ks ≡ Ok ts → AreKept n ts run
+more_kept n env given ts ks run ready kept wide e = by (nat_le most_items (length given)) e
+  where
+    more : given ++ record { environment = env; keys = ks } ∷ [] ≡ ts → AreKept n ts run
+    more is =
+        let P : List Tuple → Type 0 = λ us. AreKept n us run in
+        subst P is (record { widths = each_more (IsWide n) given _ kept.widths wide; ready = each_more (λ (t : Tuple). IsReady t.environment run) given _ kept.ready ready })
+
+    by : (b : Bool) → cond b (Err PXQ0002) (Ok (given ++ record { environment = env; keys = ks } ∷ [])) ≡ Ok ts → AreKept n ts run
+    by true e = cc
+    by false e = more cc
+
+pub tuple_kept : {A : Type 0} (f : A → Meaning) (keys : List (SortKey A)) (env kept : Environment) (given : List Tuple) (ks : List (Option Atom)) (old new : Run) (r : Result (List Tuple) ValueFault)
+    → IsReady env old → AreKept (length keys) given old → GivesIn Any (keys_in (map (sort_key_of f) keys) env) old (Ok ks) new → length ks ≡ length keys → kept ≡ env → Says (and_tuple kept given ks) r
+    → GivesIn (AreKept (length keys)) (and_tuple_of (map (sort_key_of f) keys) env given) old r new
+tuple_kept f keys env kept given ks old new r ready all g wide same says = by r (subst P same says)
+  where
+    P : Environment → Type 0
+    P = λ e. Says (and_tuple e given ks) r
+
+    by : (r : Result (List Tuple) ValueFault) → Says (and_tuple env given ks) r → GivesIn (AreKept (length keys)) (and_tuple_of (map (sort_key_of f) keys) env given) old r new
+    by (Ok ts) e = (
+      ap (λ o. and_then o (λ ks. come_to (and_tuple env given ks))) g.0 ∙ ap (λ o. come_to o new) e,
+      (g.1.0, more_kept (length keys) env given ts ks new (ready_on env old new g.1.0 ready) (kept_grows (length keys) given old new g.1.0 all) wide e),
+    )
+    by (Err fault.Memory) e = tt
+    by (Err (fault.Code code)) e = ap (λ o. and_then o (λ ks. come_to (and_tuple env given ks))) g.0 ∙ ap (λ o. come_to o new) e
+
+-- the tuples in their order
+sorted_ready : (keys : List (SortKey Meaning)) (ts us : List Tuple) (run : Run) → AreReady ts run → in_sorted_order keys ts ≡ Ok us → AreReady us run
+sorted_ready keys ts us run h e = by (all_comparable ts) e
+  where
+    in_order_ready : AreReady (sorted keys ts) run
+    in_order_ready = let P : List Tuple → Type 0 = λ vs. AreReady vs run in subst P (sym (tuples_inserted keys ts)) (each_of_all _ (λ (t : Tuple). IsReady t.environment run) ts h)
+
+    same : sorted keys ts ≡ us → AreReady us run
+    same is = let P : List Tuple → Type 0 = λ vs. AreReady vs run in subst P is in_order_ready
+
+    by : (b : Bool) → cond b (Ok (sorted keys ts)) (Err XPTY0004) ≡ Ok us → AreReady us run
+    by true e = same cc
+    by false e = cc
+
+pub order_gives : (cs : List (Clause Meaning)) (test : Option Meaning) (keys : List (SortKey Meaning)) (env : Environment) (n : ℕ) (none found : List Tuple) (old new : Run) (r : Result (List Tuple) ValueFault)
+    → none ≡ [] → GivesIn (AreKept n) (tuples cs (kept_tuple test keys) env none) old (Ok found) new → Says (in_sorted_order keys found) r → GivesIn AreReady (in_order cs test keys env) old r new
+order_gives cs test keys env n none found old new r empty g e = by r e
+  where
+    come_to_these : tuples cs (kept_tuple test keys) env [] old ≡ Ok (found, new)
+    come_to_these = ap (λ us. tuples cs (kept_tuple test keys) env us old) (sym empty) ∙ g.0
+
+    by : (r : Result (List Tuple) ValueFault) → Says (in_sorted_order keys found) r → GivesIn AreReady (in_order cs test keys env) old r new
+    by (Ok ts) e =
+        (ap (λ o. and_then o (λ found. come_to (in_sorted_order keys found))) come_to_these ∙ ap (λ o. come_to o new) e, (g.1.0, sorted_ready keys found ts new g.1.1.ready e))
+    by (Err fault.Memory) e = tt
+    by (Err (fault.Code code)) e = ap (λ o. and_then o (λ found. come_to (in_sorted_order keys found))) come_to_these ∙ ap (λ o. come_to o new) e
+
+-- and `return` at them
+gives_same : {A : Type 0} (P : A → Run → Type 0) (m q : M A) (old new : Run) (r : Result A ValueFault) → m old ≡ q old → GivesIn P q old r new → GivesIn P m old r new
+gives_same P m q old new (Ok a) e g = (e ∙ g.0, g.1)
+gives_same P m q old new (Err fault.Memory) e g = tt
+gives_same P m q old new (Err (fault.Code code)) e g = e ∙ g
+
+ordered_is : (cs : List (Clause Meaning)) (test : Option Meaning) (keys : List (SortKey Meaning)) (m : Meaning) (env : Environment) (run : Run)
+    → ordered cs test keys m env run ≡ (in_order cs test keys env >>= returned_in_order m) run
+ordered_is cs test keys m env run = by (tuples cs (kept_tuple test keys) env [] run)
+  where
+    by : (r : Result (List Tuple × Run) Code)
+        → and_then r (λ found. come_to (in_sorted_order keys found) >>= returned_in_order m) ≡ and_then (and_then r (λ found. come_to (in_sorted_order keys found))) (returned_in_order m)
+    by (Ok p) = refl
+    by (Err code) = refl
+
+pub ordered_gives : (cs : List (Clause Meaning)) (test : Option Meaning) (keys : List (SortKey Meaning)) (m : Meaning) (env : Environment) (ts seen : List Tuple) (old mid new : Run) (r : Result (List Item) ValueFault)
+    → GivesIn AreReady (in_order cs test keys env) old (Ok ts) mid → seen ≡ ts → Gives (returned_in_order m seen) mid r new → Gives (ordered cs test keys m env) old r new
+ordered_gives cs test keys m env ts seen old mid new r g same h =
+    let P : List Tuple → Type 0 = λ us. Gives (returned_in_order m us) mid r new in
+    gives_same Stand (ordered cs test keys m env) (in_order cs test keys env >>= returned_in_order m) old new r (ordered_is cs test keys m env old)
+    (then_gives AreReady Stand (in_order cs test keys env) (returned_in_order m) old mid new ts r g (subst P same h))
+
+-- a FLWOR expression, with keys and without
+pub with_keys : {A : Type 0} (f : A → Meaning) (cs : List (Clause Meaning)) (test : Option Meaning) (keys seen : List (SortKey A)) (m : Meaning) (env : Environment) (old new : Run) (r : Result (List Item) ValueFault)
+    → (keys ≡ [] → ⊥) → seen ≡ keys → Gives (ordered cs test (map (sort_key_of f) seen) m env) old r new → Gives (flwor cs test (map (sort_key_of f) keys) m env) old r new
+with_keys f cs test [] seen m env old new r some same g = absurd (some refl)
+with_keys f cs test (key ∷ keys) seen m env old new r some same g =
+    let P : List (SortKey _) → Type 0 = λ ks. Gives (ordered cs test (map (sort_key_of f) ks) m env) old r new in subst P same g
+
+pub without_keys : {A : Type 0} (f : A → Meaning) (cs : List (Clause Meaning)) (test : Option Meaning) (keys : List (SortKey A)) (m : Meaning) (env : Environment) (old new : Run) (r : Result (List Item) ValueFault)
+    → keys ≡ [] → Gives (tuples cs (returned test m) env []) old r new → Gives (flwor cs test (map (sort_key_of f) keys) m env) old r new
+without_keys f cs test [] m env old new r none g = g
+without_keys f cs test (key ∷ keys) m env old new r none g = cc
+
+pub not_both : (b : Bool) → b ≡ true → b ≡ false → ⊥
+not_both b e f = cc (e, f)
