@@ -1,6 +1,7 @@
 //! An acceptor's record in a SQLite database.
 #![tactic(auto)]
 
+mod creation;
 mod docs;
 mod layout;
 mod load;

@@ -1,0 +1,7 @@
+use Rattle.sqlite.specs.Held.{state}
+use Rattle.sql_records.proofs.Creating.{meta_made}
+use Rattle.sql_records.proofs.creation.make_meta.Goals as goal
+
+pub returns-clause-made : goal.returns-clause-made
+returns-clause-made g c clean m =
+    meta_made (state g.S.Store c.args.tx.now.conn.now) (state g.S.Store c.execute.new.self.conn.now) c.execute.result m (c.execute.ensures.runs clean m.mode)

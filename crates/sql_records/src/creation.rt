@@ -1,0 +1,101 @@
+//! Making the tables of a new member.
+
+ghost use Rattle.std.specs.Prelude.{◌≡◌, ◌⊎◌, ◌≤◌, true, false, IfOk, OnOk};
+ghost use Rattle.sqlite.specs.State.{HasCleanDisk, Survives};
+ghost use Rattle.sqlite.specs.Held.{state};
+ghost use Rattle.sqlite.specs.Tree.{Trees};
+ghost use Rattle.sqlite_trees.specs.View.{doubt};
+ghost use Rattle.sql_records.specs.Created.{AreEmpty, FirstIsEmpty, Makes, MakesOnly, half_schema, new_record};
+ghost use Rattle.sql_records.specs.Holds.{Holds};
+ghost use Rattle.sql_records.specs.Stored.{IsStored, joined};
+ghost use Rattle.sql_records.specs.Texts.{no_schema, schema};
+
+use super::docs;
+use super::load::fault_of;
+use super::reading::OpenFault;
+use ballots::Setup;
+use sqlite::{Alter, Connection, Error, Transaction, params};
+use std::alloc::Global;
+
+/// Makes the table of the member.
+fn make_meta<S: Alter>(tx: &mut Transaction<'_, S>) -> Result<usize, Error>
+    ensures same_reference { tx.new.conn.ghost_name ≡ tx.old.conn.ghost_name }
+    ensures made { HasCleanDisk (state S.Store tx.new.conn.now) → Makes (state S.Store tx.old.conn.now) no_schema (λ _. Unit {0}) → OnOk result (Makes (state S.Store tx.new.conn.now) half_schema FirstIsEmpty) }
+    ensures survives { Survives (state S.Store tx.old.conn.now) (state S.Store tx.new.conn.now) (λ _. ⊥) }
+{
+    tx.execute(
+        "CREATE TABLE meta (id INTEGER PRIMARY KEY CHECK (id = 1), version INTEGER NOT NULL, grp INTEGER NOT NULL, member INTEGER NOT NULL, members INTEGER NOT NULL, docs TEXT NOT NULL, round INTEGER NOT NULL, leader INTEGER NOT NULL) STRICT",
+        &[],
+    )
+}
+
+/// Makes the table of the votes.
+fn make_votes<S: Alter>(tx: &mut Transaction<'_, S>) -> Result<usize, Error>
+    ensures same_reference { tx.new.conn.ghost_name ≡ tx.old.conn.ghost_name }
+    ensures made { HasCleanDisk (state S.Store tx.new.conn.now) → Makes (state S.Store tx.old.conn.now) half_schema FirstIsEmpty → OnOk result (Makes (state S.Store tx.new.conn.now) schema AreEmpty) }
+    ensures survives { Survives (state S.Store tx.old.conn.now) (state S.Store tx.new.conn.now) (λ _. ⊥) }
+{
+    tx.execute(
+        "CREATE TABLE votes (position INTEGER PRIMARY KEY, round INTEGER NOT NULL, leader INTEGER NOT NULL, value BLOB NOT NULL) STRICT",
+        &[],
+    )
+}
+
+/// Puts in the row of the member, with no promise.
+fn put_member<S: Alter>(
+    tx: &mut Transaction<'_, S>,
+    setup: &Setup,
+    docs: &str,
+) -> Result<usize, Error>
+    requires { docs.now ≡ joined setup.now.names }
+    ensures same_reference { tx.new.conn.ghost_name ≡ tx.old.conn.ghost_name }
+    ensures made { HasCleanDisk (state S.Store tx.new.conn.now) → Makes (state S.Store tx.old.conn.now) schema AreEmpty → OnOk result (Makes (state S.Store tx.new.conn.now) schema (λ db. IsStored setup.now db new_record)) }
+    ensures survives { Survives (state S.Store tx.old.conn.now) (state S.Store tx.new.conn.now) (λ _. ⊥) }
+{
+    let group = setup.group();
+    let member = u32::from(setup.member());
+    let members = u32::from(setup.members().count());
+    tx.execute(
+        "INSERT INTO meta (id, version, grp, member, members, docs, round, leader) VALUES (1, 1, ?1, ?2, ?3, ?4, 0, 0)",
+        params![group, member, members, docs],
+    )
+}
+
+/// Makes both tables, and puts in the row of the member.
+fn fill<S: Alter>(tx: &mut Transaction<'_, S>, setup: &Setup, docs: &str) -> Result<(), Error>
+    requires { docs.now ≡ joined setup.now.names }
+    ensures same_reference { tx.new.conn.ghost_name ≡ tx.old.conn.ghost_name }
+    ensures made { HasCleanDisk (state S.Store tx.new.conn.now) → Makes (state S.Store tx.old.conn.now) no_schema (λ _. Unit {0}) → OnOk result (Makes (state S.Store tx.new.conn.now) schema (λ db. IsStored setup.now db new_record)) }
+    ensures survives { Survives (state S.Store tx.old.conn.now) (state S.Store tx.new.conn.now) (λ _. ⊥) }
+{
+    make_meta(tx)?;
+    make_votes(tx)?;
+    put_member(tx, setup, docs)?;
+    Ok(())
+}
+
+/// Makes the tables of a member with no promise, in one transaction.
+pub(super) fn create<S: Alter>(
+    alloc: Global,
+    connection: &mut Connection<S>,
+    setup: &Setup,
+) -> Result<(), OpenFault>
+    requires mode { connection.old.in_transaction ≡ false }
+    requires empty { (state S.Store connection.old).now.schema ≡ no_schema }
+    ensures made { HasCleanDisk (state S.Store connection.new) → OnOk result (Holds (state S.Store connection.new) setup.now new_record new_record) }
+    ensures makes { MakesOnly setup.now (state S.Store connection.old) (state S.Store connection.new) }
+    ensures clean { doubt (state S.Store connection.old).is_clean ≤ doubt (state S.Store connection.new).is_clean }
+{
+    let Ok(docs) = docs::joined(alloc, setup.names()) else {
+        return Err(OpenFault::Memory);
+    };
+    let mut tx = connection.transaction();
+    if let Err(error) = fill(&mut tx, setup, docs.as_str()) {
+        tx.rollback();
+        return Err(fault_of(&error));
+    }
+    match tx.commit() {
+        Ok(()) => Ok(()),
+        Err(error) => Err(fault_of(&error)),
+    }
+}
