@@ -1,5 +1,5 @@
 -- What is known of a connection whose tables were read.
-use Rattle.std.proofs.Common.{◌≡◌, ◌⊎◌, inl, inr, List, [], ◌∷◌, map, IsTrue, false, sym, ap, subst, ◌∙◌, ⊎_elim, Result, Ok, Err, IfOk}
+use Rattle.std.proofs.Common.{◌≡◌, ◌⊎◌, inl, inr, List, [], ◌∷◌, map, IsTrue, false, sym, ap, subst, ◌∙◌, ⊎_elim, Result, Ok, Err, IfOk, OnOk}
 use Rattle.std.specs.List.Sorted.{IsPermutation}
 use Rattle.sqlite.specs.Order.{Row}
 use Rattle.sqlite.specs.Tree.{Trees}
@@ -57,10 +57,12 @@ module _ (old mid new : State) (o : Setup) (has : old.now.schema ≡ schema) (mo
       let here : IsStored o old.committed.trees r = subst (λ (d : Database). IsStored o d.trees r) (settled up) stored in
       ⊎_elim (λ is. inl (one_record apart o old.committed.trees r a here is)) (λ is. inr (one_record apart o old.committed.trees r b here is)) (h.crash old.committed.trees (stays up))
 
-  pub found : {E : Type 0} (apart : SpeltApart) → StaysAt old → SettledAt new → (row : Row) (b : Ballot) (rows : List Row) (result : Result Record E) → IsPermutation (map meta_shown (old.now.trees 0)) (row ∷ [])
-      → ShowsMember o b row → IsPermutation (map vote_shown (mid.now.trees 1)) rows → IfOk result (λ x. AreShown b rows x.votes) → IfOk result (λ x. x.promise ≡ b) → IfOk result IsRising
+module _ (old mid new : State) (o : Setup) (has : old.now.schema ≡ schema) (mode : old.in_transaction ≡ false) (settled : IsTrue old.is_open → old.now ≡ old.committed) (live : IsLive old)
+    (first : IsUnchanged old mid) where
+  pub found : {E : Type 0} (apart : SpeltApart) → StaysAt old → SettledAt new → (row : Row) (b : Ballot) (result : Result Record E) → OnOk result (IsUnchanged mid new) → IsPermutation (map meta_shown (old.now.trees 0)) (row ∷ [])
+      → ShowsMember o b row → IfOk result (λ x. (rows : List Row) × IsPermutation (map vote_shown (mid.now.trees 1)) rows × AreShown b rows x.votes) → IfOk result (λ x. x.promise ≡ b) → IfOk result IsRising
       → IfOk result (λ x. Holds new o x x × ((p q : Record) → Holds old o p q → (x ≡ p) ⊎ (x ≡ q)))
-  found apart stays at_rest row b rows (Ok x) metas m votes shown promise rising =
-      let stored = read row b rows x metas m votes shown promise rising in
-      (holds x stored at_rest, only apart x stored stays)
-  found apart stays at_rest row b rows (Err e) metas m votes shown promise rising = tt
+  found apart stays at_rest row b (Ok x) second metas m votes promise rising =
+      let stored = read old mid new o has mode settled live first second row b votes.0 x metas m votes.1 votes.2 promise rising in
+      (holds old mid new o has mode settled live first second x stored at_rest, only old mid new o has mode settled live first second apart x stored stays)
+  found apart stays at_rest row b (Err e) second metas m votes promise rising = tt

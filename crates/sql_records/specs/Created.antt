@@ -1,5 +1,5 @@
 -- What a database without tables is given.
-use Rattle.std.specs.Prelude.{◌≡◌, ◌⊎◌, true, [], ◌∷◌, List, IsTrue}
+use Rattle.std.specs.Prelude.{◌≡◌, ◌⊎◌, true, [], ◌∷◌}
 use Rattle.sqlite.specs.State.{State, HasCleanDisk}
 use Rattle.sqlite.specs.Schema.{Schema}
 use Rattle.sqlite.specs.Tree.{Trees}

@@ -11,6 +11,7 @@ mod reading;
 mod rows;
 mod store;
 mod vote;
+mod votes;
 
 pub use reading::OpenFault;
 pub use store::SqlRecords;

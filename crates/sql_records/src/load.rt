@@ -12,8 +12,9 @@ ghost use Rattle.sql_records.specs.Texts.{schema as our_schema};
 
 use super::layout::is_ours;
 use super::promise::is_memory;
-use super::reading::{OpenFault, read_member, read_votes};
-use super::rows::{meta_rows, vote_rows};
+use super::reading::{OpenFault, read_member};
+use super::rows::meta_rows;
+use super::votes::load_votes;
 use ballots::Setup;
 use ballots::laws::spellings;
 use records::Record;
@@ -60,10 +61,6 @@ pub(super) fn load<S: Alter>(
         Ok(rows) => rows,
         Err(error) => return Err(fault_of(&error)),
     };
-    let votes = match vote_rows(connection) {
-        Ok(rows) => rows,
-        Err(error) => return Err(fault_of(&error)),
-    };
     let promise = read_member(alloc, member.as_slice(), setup)?;
-    read_votes(alloc, votes.as_slice(), promise)
+    load_votes(alloc, connection, promise)
 }

@@ -1,14 +1,15 @@
 //! From rows to a record.
 
-ghost use Rattle.std.specs.Prelude.{◌≡◌, ◌≤◌, ◌<◌, ◌+◌, ◌^◌, [], ◌∷◌, ◌↔◌, pos, IfOk, IsTrue};
+ghost use Rattle.std.specs.Prelude.{◌≡◌, ◌≤◌, ◌<◌, ◌+◌, ◌^◌, [], ◌∷◌, ◌↔◌, pos, IfOk, IsTrue, OnOk};
 ghost use Rattle.ballots.specs.Ballot.{IsBallot};
 ghost use Rattle.ballots.specs.Values.{positions};
 ghost use Rattle.sqlite_value.specs.Order.{column};
 ghost use Rattle.sqlite.specs.declared.types.Value.TheVariants.{Int, Text};
 ghost use Rattle.ballots.specs.Spelling.{AreBytes, IsValue, value_spelling};
-ghost use Rattle.records.specs.Kept.{IsRising};
+ghost use Rattle.ballots.specs.declared.value.Entry.{Entry as EntryTerm};
+ghost use Rattle.paxos.specs.Records.{with_vote};
 ghost use Rattle.sql_records.specs.Stored.{IsPromise, joined};
-ghost use Rattle.sql_records.specs.Reading.{AreShown, Shows, ShowsMember};
+ghost use Rattle.sql_records.specs.Reading.{Shows, ShowsMember};
 
 use super::docs;
 use ballots::laws::spellings;
@@ -129,27 +130,25 @@ fn read_vote(alloc: Global, row: &Row, promise: Ballot) -> Result<Entry, OpenFau
     })
 }
 
-/// The record of these votes, whose positions rise, and that promise.
-pub(super) fn read_votes(alloc: Global, rows: &[Row], promise: Ballot) -> Result<Record, OpenFault>
-    ensures votes { IfOk result (λ r. AreShown promise rows.now r.votes) }
-    ensures promise { IfOk result (λ r. r.promise ≡ promise) }
-    ensures rising { IfOk result IsRising }
+/// Puts the vote that a row shows into a record. Its position has to be above the last one, and becomes the last.
+pub(super) fn add_vote(
+    alloc: Global,
+    row: &Row,
+    promise: Ballot,
+    found: &mut Record,
+    last: &mut u32,
+) -> Result<(), OpenFault>
+    ensures added { OnOk result ((e : EntryTerm) × Shows promise row.now e × (last.old < e.position) × (last.new ≡ e.position) × (found.new.votes ≡ with_vote e.position e.vote found.old.votes)) }
 {
-    let mut record = Record::new(alloc);
-    let mut last = 0;
-    for row in rows {
-        let entry = read_vote(alloc, row, promise)?;
-        if entry.position <= last {
-            return Err(OpenFault::Damaged);
-        }
-        last = entry.position;
-        if record.set_vote(entry.position, entry.vote).is_err() {
-            return Err(OpenFault::Memory);
-        }
+    let entry = read_vote(alloc, row, promise)?;
+    if entry.position <= *last {
+        return Err(OpenFault::Damaged);
     }
-    record.set_promise(promise);
-    let _promise = record.promise();
-    Ok(record)
+    *last = entry.position;
+    match found.set_vote(entry.position, entry.vote) {
+        Ok(()) => Ok(()),
+        Err(_) => Err(OpenFault::Memory),
+    }
 }
 
 /// The promise in the row of this member.
