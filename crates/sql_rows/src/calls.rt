@@ -11,7 +11,7 @@ use super::opening::{first_setup, opened, shown};
 use acceptor::Acceptor;
 use ballots::limits::{LAST_ROUND, MOST_MEMBERS, POSITIONS};
 use ballots::{Ballot, Entry, Value, Vote, Window};
-use records::RecordsFault;
+use records::{Records, RecordsFault};
 use rows::{RowFault, Words};
 use sql_records::SqlRecords;
 use sqlite::MemStore;
@@ -74,9 +74,9 @@ pub(super) fn plays(alloc: Global, mut words: Words) -> Result<String, RowFault>
 }
 
 /// Makes one call, and appends the answer. Faults: `NotARow`, and `Memory`.
-pub(super) fn play(
+pub(super) fn play<R: Records + Drop>(
     alloc: Global,
-    acceptor: &mut Kept,
+    acceptor: &mut Acceptor<R>,
     call: &str,
     answers: &mut String,
 ) -> Result<(), RowFault> {
@@ -101,7 +101,11 @@ fn failed(alloc: Global, fault: RecordsFault) -> Result<String, RowFault> {
 }
 
 /// Promises a ballot of its own.
-fn begin(alloc: Global, acceptor: &mut Kept, words: &mut Words) -> Result<String, RowFault> {
+fn begin<R: Records + Drop>(
+    alloc: Global,
+    acceptor: &mut Acceptor<R>,
+    words: &mut Words,
+) -> Result<String, RowFault> {
     let ballot = ballot(words)?;
     let promised = acceptor.promised();
     if !is_ballot(ballot) || !promised.is_below(ballot) {
@@ -114,7 +118,11 @@ fn begin(alloc: Global, acceptor: &mut Kept, words: &mut Words) -> Result<String
 }
 
 /// Answers a Prepare.
-fn prepare(alloc: Global, acceptor: &mut Kept, words: &mut Words) -> Result<String, RowFault> {
+fn prepare<R: Records + Drop>(
+    alloc: Global,
+    acceptor: &mut Acceptor<R>,
+    words: &mut Words,
+) -> Result<String, RowFault> {
     let ballot = ballot(words)?;
     let from = position(words)?;
     if !is_ballot(ballot) {
@@ -149,7 +157,11 @@ fn push_vote(alloc: Global, text: &mut String, entry: &Entry) -> Result<(), RowF
 }
 
 /// Answers an Accept.
-fn accept(alloc: Global, acceptor: &mut Kept, words: &mut Words) -> Result<String, RowFault> {
+fn accept<R: Records + Drop>(
+    alloc: Global,
+    acceptor: &mut Acceptor<R>,
+    words: &mut Words,
+) -> Result<String, RowFault> {
     let position = position(words)?;
     let ballot = ballot(words)?;
     if !is_ballot(ballot) || !is_position(position) {

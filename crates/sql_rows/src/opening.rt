@@ -7,7 +7,7 @@ use document_names::{Names, NamesFault};
 use records::{Records, RecordsFault};
 use rows::{RowFault, Words};
 use sql_records::{OpenFault, SqlRecords};
-use sqlite::{Connection, MemStore};
+use sqlite::{Alter, Connection, MemStore};
 use std::alloc::Global;
 
 /// The setup of a member whose one document is `db`.
@@ -62,9 +62,9 @@ fn accepting(alloc: Global, records: SqlRecords<MemStore>) -> Result<Kept, RowFa
 }
 
 /// What stands in a database, or why it is not opened as this member's.
-pub(super) fn shown(
+pub(super) fn shown<S: Alter + Drop>(
     alloc: Global,
-    connection: Connection<MemStore>,
+    connection: Connection<S>,
     setup: &Setup,
 ) -> Result<String, RowFault> {
     match SqlRecords::open(alloc, connection, setup) {
@@ -74,7 +74,7 @@ pub(super) fn shown(
 }
 
 /// The promise of records, and how many failures there were.
-fn standing(alloc: Global, records: &mut SqlRecords<MemStore>) -> Result<String, RowFault> {
+fn standing<S: Alter>(alloc: Global, records: &mut SqlRecords<S>) -> Result<String, RowFault> {
     match records.load(alloc) {
         Ok(record) => {
             let promise = record.promise();
@@ -90,7 +90,7 @@ fn standing(alloc: Global, records: &mut SqlRecords<MemStore>) -> Result<String,
 }
 
 /// The number of the fault.
-fn refused(alloc: Global, fault: OpenFault) -> Result<String, RowFault> {
+pub(super) fn refused(alloc: Global, fault: OpenFault) -> Result<String, RowFault> {
     let number = match fault {
         OpenFault::Memory => return Err(RowFault::Memory),
         OpenFault::Store => 2u8,
