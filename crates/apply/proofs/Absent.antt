@@ -1,10 +1,10 @@
 -- A primitive whose target stands nowhere changes nothing.
 use Rattle.std.proofs.Common.{◌≡◌, ℕ, Bool, true, false, cond, ◌==◌, List, [], ◌∷◌, refl, arith, ⊎_elim}
 use Rattle.std.proofs.lemmas.Bool.Decides.{eqb_tells}
-use Rattle.trees.specs.Trees.{Trees, no_trees, tree, Content, append, count}
-use Rattle.trees.specs.Changes.{with_part, with_content}
-use Rattle.trees.specs.declared.node.Part.TheVariants.{Attributes, Children}
-use Rattle.trees.specs.declared.node.Part.{Part}
+use Rattle.data_model.specs.Trees.{Trees, no_trees, tree, Content, append, count}
+use Rattle.data_model.specs.Changes.{with_part, with_content}
+use Rattle.data_model.specs.declared.node.Part.TheVariants.{Attributes, Children}
+use Rattle.data_model.specs.declared.node.Part.{Part}
 use Rattle.pending.specs.Primitives.{PrimitiveTerm, insert_before, insert_after, insert_into, insert_into_as_first, insert_into_as_last, insert_attributes, delete, replace_node, replace_value, replace_element_content, rename}
 use Rattle.apply.specs.Effects.{with_tree, with_tree_below, effect, effects, stage_of, of_stage, staged, target_of, StandNowhere}
 

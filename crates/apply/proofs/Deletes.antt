@@ -1,7 +1,7 @@
 -- Deletes commute, and several of one node are one.
 use Rattle.std.proofs.Common.{◌≡◌, ℕ, Bool, true, false, cond, ◌==◌, List, [], ◌∷◌, ◌++◌, refl, ap, sym, ◌∙◌, ⊎_elim}
 use Rattle.std.proofs.lemmas.Bool.Decides.{eqb_tells}
-use Rattle.trees.specs.Trees.{Trees, no_trees, tree}
+use Rattle.data_model.specs.Trees.{Trees, no_trees, tree}
 use Rattle.pending.specs.Primitives.{PrimitiveTerm, delete}
 use Rattle.apply.specs.Effects.{with_tree, effect, effects, stage_of, of_stage, staged}
 

@@ -1,7 +1,7 @@
 -- The empty list changes nothing.
 use Rattle.std.proofs.Common.{◌≡◌, true, [], Ok, refl}
-use Rattle.trees.specs.Trees.{Trees}
-use Rattle.trees.specs.Tidy.{IsTidy, is_document}
+use Rattle.data_model.specs.Trees.{Trees}
+use Rattle.data_model.specs.Tidy.{IsTidy, is_document}
 use Rattle.apply.specs.Results.{updated, is_within_limits}
 use Rattle.apply.proofs.Tidying.{tidied-same, tidy-apart, tidy-filled, tidy-names, tidy-documents}
 

@@ -1,10 +1,10 @@
 -- What tidying leaves, and that it leaves that alone.
 use Rattle.std.proofs.Common.{◌≡◌, ℕ, Bool, true, false, not, ◌&&◌, List, [], refl}
 use Rattle.std.specs.Str.{bytes_eq}
-use Rattle.trees.specs.Trees.{Trees, no_trees, tree, Content, is_text}
-use Rattle.trees.specs.Tidy.{is_document, begins_with_text, has_distinct_names, is_tidy_content, is_xml_text, are_tidy, may_be_attribute, may_be_child}
-use Rattle.trees.specs.declared.node.Kind.{Kind}
-use Rattle.trees.specs.declared.node.Kind.TheVariants.{Document, Element, Attribute, Text, Comment, Instruction}
+use Rattle.data_model.specs.Trees.{Trees, no_trees, tree, Content, is_text}
+use Rattle.data_model.specs.Tidy.{is_document, begins_with_text, has_distinct_names, is_tidy_content, is_xml_text, are_tidy, may_be_attribute, may_be_child}
+use Rattle.data_model.specs.declared.node.Kind.{Kind}
+use Rattle.data_model.specs.declared.node.Kind.TheVariants.{Document, Element, Attribute, Text, Comment, Instruction}
 use Rattle.pending.specs.Texts.{before_merged, is_empty_text}
 use Rattle.apply.specs.Results.{all_merged, all_filled, stored, tidied, are_apart, are_filled, are_documents, has_distinct_attributes}
 use Rattle.apply.proofs.Booleans.{and-left, and-right, and-both, not-true, excluded, never, all-four, Four, four}

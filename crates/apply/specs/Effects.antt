@@ -1,7 +1,7 @@
 -- What update primitives do to trees (XQuery Update Facility 1.0, sections 3.1.1 and 3.2.2).
 use Rattle.std.specs.Prelude.{◌≡◌, ℕ, cond, eqb, ◌==◌, List, [], ◌∷◌, filter}
-use Rattle.trees.specs.Trees.{Trees, no_trees, tree, append, count}
-use Rattle.trees.specs.Changes.{with_children, with_attributes, with_content}
+use Rattle.data_model.specs.Trees.{Trees, no_trees, tree, append, count}
+use Rattle.data_model.specs.Changes.{with_children, with_attributes, with_content}
 use Rattle.pending.specs.Primitives.{PrimitiveTerm, insert_before, insert_after, insert_into, insert_into_as_first, insert_into_as_last, insert_attributes, delete, replace_node, replace_value, replace_element_content, rename}
 
 -- the trees in which the tree of the node i is replaced by what g makes of it, in the list in which it stands

@@ -1,7 +1,7 @@
 -- The data of the worked examples.
 use Rattle.std.specs.Prelude.{ℕ, List, [], codes}
-use Rattle.trees.specs.Trees.{Trees, no_trees, tree, leaf, Content, append}
-use Rattle.trees.specs.declared.node.Kind.TheVariants as kind
+use Rattle.data_model.specs.Trees.{Trees, no_trees, tree, leaf, Content, append}
+use Rattle.data_model.specs.declared.node.Kind.TheVariants as kind
 
 abbrev pub element : ℕ → (name : List ℕ) → Content
 element i name = record { identity = i; kind = kind.Element; name = name; text = [] }

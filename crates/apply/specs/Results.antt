@@ -1,7 +1,7 @@
 -- What an update leaves (XQuery Update Facility 1.0, section 3.2.2), and which results are refused.
 use Rattle.std.specs.Prelude.{ℕ, ◌+◌, Bool, true, not, ◌&&◌, if◌then◌else◌, nat_le, List, length, Result, Ok, Err}
-use Rattle.trees.specs.Trees.{Trees, no_trees, tree, Content, roots, size, height, is_text}
-use Rattle.trees.specs.Tidy.{is_document, begins_with_text, has_distinct_names}
+use Rattle.data_model.specs.Trees.{Trees, no_trees, tree, Content, roots, size, height, is_text}
+use Rattle.data_model.specs.Tidy.{is_document, begins_with_text, has_distinct_names}
 use Rattle.trees.specs.Forest.{ForestTerm}
 use Rattle.pending.specs.Primitives.{PrimitiveTerm}
 use Rattle.pending.specs.Texts.{before_merged, is_empty_text}

@@ -1,8 +1,8 @@
 //! Laws of the definition, each the contract of a function that does nothing.
 
 ghost use Rattle.std.specs.Prelude.{◌≡◌, ◌++◌, ◌∷◌, ℕ, List, [], codes, Ok, Err, true};
-ghost use Rattle.trees.specs.Trees.{Trees, no_trees};
-ghost use Rattle.trees.specs.Tidy.{IsTidy};
+ghost use Rattle.data_model.specs.Trees.{Trees, no_trees};
+ghost use Rattle.data_model.specs.Tidy.{IsTidy};
 ghost use Rattle.pending.specs.Primitives.{PrimitiveTerm, insert_before, insert_after, insert_into, insert_into_as_first, insert_attributes, delete, replace_node, replace_element_content, rename};
 ghost use Rattle.values.specs.declared.code.Code.TheVariants.{XUDY0021};
 ghost use Rattle.apply.specs.Effects.{staged, StandNowhere};

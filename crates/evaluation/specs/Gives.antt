@@ -2,7 +2,7 @@
 use Rattle.std.specs.Prelude.{◌≡◌, ◌==◌, ◌-◌, true, false, ℕ, List, Result, Ok, Err, IsSome}
 use Rattle.std.specs.Option.{ForSome}
 use Rattle.std.specs.List.{All}
-use Rattle.trees.specs.Trees.{find}
+use Rattle.data_model.specs.Trees.{find}
 use Rattle.values.specs.declared.code.Code.{Code}
 use Rattle.values.specs.declared.code.Code.TheVariants.{PXQ0002}
 use Rattle.values.specs.declared.fault.ValueFault.{ValueFault}

@@ -11,7 +11,7 @@ use Rattle.query_grammar.specs.declared.ast.Expr.TheViews.{roll-Expr}
 use Rattle.query_grammar.specs.declared.ast.Name.TheVariants.{Written, Computed}
 use Rattle.query_grammar.specs.declared.ast.Operation.{Operation}
 use Rattle.query_grammar.specs.declared.ast.SortKey.{SortKey}
-use Rattle.trees.specs.declared.axis.Axis.{Axis}
+use Rattle.data_model.specs.declared.axis.Axis.{Axis}
 use Rattle.query_grammar.specs.declared.ast.NodeTest.{NodeTest}
 use Rattle.query_grammar.specs.declared.ast.Place.{Place}
 use Rattle.query_grammar.specs.declared.ast.Quantifier.{Quantifier}

@@ -2,14 +2,14 @@
 use Rattle.std.proofs.Common.{ℕ, suc, ◌+◌, ℤ, pos, neg_ℤ, ◌+ℤ◌, Bool, true, false, not, ◌&&◌, ◌||◌, if◌then◌else◌, List, [], ◌∷◌, ◌++◌, length, map, reverse, filter, Option, Some, None, Result, Err}
 use Rattle.std.specs.List.{starts_with, ends_with, concat}
 use Rattle.std.specs.Prelude.{◌==◌, chars}
-use Rattle.trees.specs.Order.{identities, precedes}
-use Rattle.trees.specs.Axes.{is_in}
-use Rattle.trees.specs.Changes.{renumbered}
-use Rattle.trees.specs.Trees.{Trees, no_trees, tree, leaf, append, find, size}
-use Rattle.trees.specs.Walks.{root_of}
-use Rattle.trees.specs.declared.axis.Axis.{Axis}
-use Rattle.trees.specs.declared.node.Kind.{Kind}
-use Rattle.trees.specs.declared.node.Kind.TheVariants as kind
+use Rattle.data_model.specs.Order.{identities, precedes}
+use Rattle.data_model.specs.Axes.{is_in}
+use Rattle.data_model.specs.Changes.{renumbered}
+use Rattle.data_model.specs.Trees.{Trees, no_trees, tree, leaf, append, find, size}
+use Rattle.data_model.specs.Walks.{root_of}
+use Rattle.data_model.specs.declared.axis.Axis.{Axis}
+use Rattle.data_model.specs.declared.node.Kind.{Kind}
+use Rattle.data_model.specs.declared.node.Kind.TheVariants as kind
 use Rattle.values.specs.declared.code.Code.{Code}
 use Rattle.values.specs.declared.code.Code.TheVariants as code
 use Rattle.values.specs.declared.compare.Comparison.{Comparison}

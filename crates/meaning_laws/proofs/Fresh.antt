@@ -1,12 +1,12 @@
 -- New nodes take the next identities, each its own: copied content, and what stands of it among the trees.
 use Rattle.std.proofs.Common.{◌≡◌, ℕ, zero, suc, ◌+◌, ◌<◌, ◌≤◌, eqb, cond, Bool, true, false, nat_le, if◌then◌else◌, List, [], ◌∷◌, Option, Some, None, Result, Ok, Err, refl, ap, subst, sym, ◌∙◌, arith}
-use Rattle.trees.specs.Changes.{renumbered}
-use Rattle.trees.specs.Trees.{Trees, no_trees, tree, leaf, Content, append, count, size, find}
+use Rattle.data_model.specs.Changes.{renumbered}
+use Rattle.data_model.specs.Trees.{Trees, no_trees, tree, leaf, Content, append, count, size, find}
 use Rattle.trees.proofs.Copies.{in-renumbered, renumbered-within}
 use Rattle.trees.proofs.Ups.{same-ids}
-use Rattle.trees.proofs.Weights.{weigh-append, append-append, eqb-same}
+use Rattle.data_model.proofs.Weights.{weigh-append, append-append, eqb-same}
 use Rattle.pending.specs.Texts.{merged, without_empty_texts, texts_within}
-use Rattle.trees.specs.declared.node.Kind.{Kind}
+use Rattle.data_model.specs.declared.node.Kind.{Kind}
 use Rattle.values.specs.declared.code.Code.{Code}
 use Rattle.values.specs.declared.code.Code.TheVariants.{PXQ0002, PXQ0003}
 use Rattle.values.specs.declared.atom.Item.{Item}

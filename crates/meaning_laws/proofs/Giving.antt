@@ -4,14 +4,14 @@ use Rattle.std.proofs.lemmas.Bool.{ltb-false, leb-true}
 use Rattle.std.proofs.lemmas.Grind.{reverse_onto}
 use Rattle.std.proofs.lemmas.List.{length-append, length-map, length-reverse}
 use Rattle.std.specs.List.{list_any}
-use Rattle.trees.proofs.Weights.{weigh-append}
+use Rattle.data_model.proofs.Weights.{weigh-append}
 use Rattle.values.specs.Comparisons.{as_string, same_type_cmp}
 use Rattle.pending.specs.Primitives.{PrimitiveTerm, insert_before, insert_after, insert_into, insert_into_as_first, insert_into_as_last, insert_attributes}
 use Rattle.pending.specs.Primitives.{delete as delete_node, replace_node as replace_by, replace_value as replace_text, replace_element_content, rename as rename_to}
 use Rattle.query_grammar.specs.declared.ast.Place.{Place}
 use Rattle.query_grammar.specs.declared.ast.Place.TheVariants as place
 use Rattle.query_meaning.specs.Updates as updates
-use Rattle.trees.proofs.Firsts.{held-identities}
+use Rattle.data_model.proofs.Firsts.{held-identities}
 use Rattle.std.proofs.lemmas.List.FromFn.{length-map-range_with_len}
 use Rattle.std.specs.Ordering.{is_lt}
 use Rattle.std.specs.List.{range_with_len}
@@ -20,14 +20,14 @@ use Rattle.std.proofs.lemmas.Option.{none-some, same_Some}
 use Rattle.std.specs.Str.{bytes_eq}
 use Rattle.std.specs.List.{starts_with, ends_with, concat}
 use Rattle.std.specs.Prelude.{◌==◌, chars}
-use Rattle.trees.specs.Order.{identities, precedes}
-use Rattle.trees.specs.Axes.{is_in, is_on, on_axis}
-use Rattle.trees.specs.Tidy.{is_document}
-use Rattle.trees.specs.Trees.{Trees, no_trees, tree, Place as Standing, Content, find, size, count as count_of}
-use Rattle.trees.specs.Walks.{root_of}
-use Rattle.trees.specs.declared.axis.Axis.{Axis}
-use Rattle.trees.specs.declared.node.Kind.{Kind}
-use Rattle.trees.specs.declared.node.Kind.TheVariants as kind
+use Rattle.data_model.specs.Order.{identities, precedes}
+use Rattle.data_model.specs.Axes.{is_in, is_on, on_axis}
+use Rattle.data_model.specs.Tidy.{is_document}
+use Rattle.data_model.specs.Trees.{Trees, no_trees, tree, Place as Standing, Content, find, size, count as count_of}
+use Rattle.data_model.specs.Walks.{root_of}
+use Rattle.data_model.specs.declared.axis.Axis.{Axis}
+use Rattle.data_model.specs.declared.node.Kind.{Kind}
+use Rattle.data_model.specs.declared.node.Kind.TheVariants as kind
 use Rattle.values.specs.declared.code.Code.{Code}
 use Rattle.values.specs.declared.code.Code.TheVariants as code
 use Rattle.values.specs.declared.compare.Comparison.{Comparison}

@@ -1,6 +1,6 @@
 -- What every step of an evaluation leaves of a run.
 use Rattle.std.proofs.Common.{◌≡◌, ℕ, suc, ◌+◌, Bool, true, false, nat_le, if◌then◌else◌, ◌==◌, ◌-◌, List, [], ◌∷◌, ◌++◌, length, Result, Ok, Err, refl, ap, subst, sym}
-use Rattle.trees.specs.Trees.{Trees, append}
+use Rattle.data_model.specs.Trees.{Trees, append}
 use Rattle.pending.specs.Compatible.{most_primitives}
 use Rattle.pending.specs.Primitives.{PrimitiveTerm}
 use Rattle.values.specs.declared.code.Code.{Code}

@@ -1,13 +1,13 @@
 -- Counts of nodes in listings, lists of texts and copies.
 use Rattle.std.proofs.Common.{◌≡◌, ◌⊎◌, inl, inr, ℕ, ◌+◌, ◌<◌, ◌≤◌, eqb, ltb, cond, Bool, true, false, not, ◌||◌, ◌&&◌, if◌then◌else◌, List, [], ◌∷◌, ◌++◌, length, filter, refl, subst, sym, arith}
-use Rattle.trees.specs.Axes.{is_in}
-use Rattle.trees.specs.Order.{identities}
-use Rattle.trees.specs.Trees.{Trees, no_trees, tree, Content, count, is_text}
-use Rattle.trees.specs.Walks.{held, root_of}
-use Rattle.trees.specs.declared.node.Kind.{Kind}
-use Rattle.trees.proofs.Firsts.{held-identities, eqb-swap}
-use Rattle.trees.proofs.Climbs.{any-tells, root-front, root-back}
-use Rattle.trees.proofs.Weights.{eqb-same}
+use Rattle.data_model.specs.Axes.{is_in}
+use Rattle.data_model.specs.Order.{identities}
+use Rattle.data_model.specs.Trees.{Trees, no_trees, tree, Content, count, is_text}
+use Rattle.data_model.specs.Walks.{held, root_of}
+use Rattle.data_model.specs.declared.node.Kind.{Kind}
+use Rattle.data_model.proofs.Firsts.{held-identities, eqb-swap}
+use Rattle.data_model.proofs.Climbs.{any-tells, root-front, root-back}
+use Rattle.data_model.proofs.Weights.{eqb-same}
 use Rattle.pending.specs.Texts.{before_merged, merged, without_empty_texts, is_empty_text}
 use Rattle.query_meaning.specs.Content.{those}
 use Rattle.query_meaning.specs.Operators.{nodes}

@@ -2,12 +2,12 @@
 use Rattle.std.proofs.Common.{◌≡◌, ℕ, zero, suc, ◌+◌, Bool, true, false, nat_le, if◌then◌else◌, List, [], ◌∷◌, ◌++◌, Result, Ok, Err, refl, ap, ap₂, subst, sym, ◌∙◌, arith}
 use Rattle.std.proofs.lemmas.List.{append_assoc}
 use Rattle.std.specs.List.{range_with_len}
-use Rattle.trees.specs.Changes.{renumbered}
-use Rattle.trees.specs.Order.{identities}
-use Rattle.trees.specs.Trees.{Trees, no_trees, tree, append, size, find}
+use Rattle.data_model.specs.Changes.{renumbered}
+use Rattle.data_model.specs.Order.{identities}
+use Rattle.data_model.specs.Trees.{Trees, no_trees, tree, append, size, find}
 use Rattle.trees.proofs.Copies.{size-renumbered}
-use Rattle.trees.proofs.Firsts.{identities-tree}
-use Rattle.trees.proofs.Weights.{weigh-append}
+use Rattle.data_model.proofs.Firsts.{identities-tree}
+use Rattle.data_model.proofs.Weights.{weigh-append}
 use Rattle.values.specs.declared.code.Code.{Code}
 use Rattle.values.specs.declared.code.Code.TheVariants.{PXQ0003}
 use Rattle.values.specs.declared.atom.Item.{Item}

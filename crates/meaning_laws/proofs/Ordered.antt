@@ -1,7 +1,7 @@
 -- What the last segment of a path gives, and what set operators give.
 use Rattle.std.proofs.Common.{◌≡◌, ◌⊎◌, inl, inr, ℕ, suc, ◌+◌, List, [], ◌∷◌, map, filter, length, Result, Ok, Err, refl, ap, sym, subst, ◌∙◌}
-use Rattle.trees.specs.Axes.{is_in}
-use Rattle.trees.specs.Order.{identities}
+use Rattle.data_model.specs.Axes.{is_in}
+use Rattle.data_model.specs.Order.{identities}
 use Rattle.values.specs.declared.code.Code.{Code}
 use Rattle.values.specs.declared.code.Code.TheVariants as code
 use Rattle.values.specs.declared.atom.Atom.{Atom}

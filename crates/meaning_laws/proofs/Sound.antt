@@ -1,7 +1,7 @@
 -- What an evaluation gives over trees of distinct nodes, and that it leaves such trees.
 use Rattle.std.proofs.Common.{◌≡◌, ℕ, suc, ◌-◌, ◌<◌, ◌≤◌, ◌==◌, Bool, true, false, nat_le, if◌then◌else◌, List, [], ◌∷◌, ◌++◌, length, Result, Ok, Err, refl, ap, subst, arith}
 use Rattle.std.proofs.lemmas.Bool.{leb-true}
-use Rattle.trees.specs.Trees.{Trees, count}
+use Rattle.data_model.specs.Trees.{Trees, count}
 use Rattle.pending.specs.Compatible.{most_primitives}
 use Rattle.pending.specs.Primitives.{PrimitiveTerm}
 use Rattle.values.specs.declared.code.Code.{Code}

@@ -2,8 +2,8 @@
 use Rattle.std.proofs.Common.{◌≡◌, ◌≤◌, ◌+◌, List, [], ◌∷◌, ◌++◌, refl, ap, sym, ◌∙◌, arith}
 use Rattle.std.proofs.lemmas.Bool.{leb-true}
 use Rattle.std.proofs.lemmas.List.{append-nil, append_assoc}
-use Rattle.trees.proofs.Weights.{append-none, append-append}
-use Rattle.trees.specs.Trees.{Trees, no_trees, append}
+use Rattle.data_model.proofs.Weights.{append-none, append-append}
+use Rattle.data_model.specs.Trees.{Trees, no_trees, append}
 use Rattle.pending.specs.Primitives.{PrimitiveTerm}
 use Rattle.query_meaning.specs.Running.{Run, most_nodes}
 use Rattle.meaning_laws.proofs.Keeps.{IsSteady, IsQuiet}

@@ -1,9 +1,9 @@
 -- Each updating expression keeps what its parts keep and what an update primitive more does.
 use Rattle.std.proofs.Common.{ℕ, Bool, true, false, not, ◌||◌, if◌then◌else◌, List, [], ◌∷◌, is_some, Result, Err}
-use Rattle.trees.specs.Tidy.{is_document}
-use Rattle.trees.specs.Trees.{Trees, no_trees, tree, Place as Standing, Content, find}
-use Rattle.trees.specs.declared.node.Kind.{Kind}
-use Rattle.trees.specs.declared.node.Kind.TheVariants as kind
+use Rattle.data_model.specs.Tidy.{is_document}
+use Rattle.data_model.specs.Trees.{Trees, no_trees, tree, Place as Standing, Content, find}
+use Rattle.data_model.specs.declared.node.Kind.{Kind}
+use Rattle.data_model.specs.declared.node.Kind.TheVariants as kind
 use Rattle.pending.specs.Primitives.{PrimitiveTerm, insert_before, insert_after, insert_into, insert_into_as_first, insert_into_as_last, insert_attributes}
 use Rattle.pending.specs.Primitives.{delete as delete_node, replace_node as replace_by, replace_value as replace_text, replace_element_content, rename as rename_to}
 use Rattle.values.specs.declared.code.Code.{Code}

@@ -1,10 +1,10 @@
 -- A whole evaluation.
 use Rattle.std.proofs.Common.{◌≡◌, ◌≤◌, ◌<◌, ◌+◌, ℕ, eqb, cond, List, [], ◌∷◌, length, Option, Some, None, IsSome, Result, Ok, Err, ap, subst, sym, refl, arith}
 use Rattle.trees.specs.Forest.{ForestTerm, IsForest, AreDocuments}
-use Rattle.trees.specs.Trees.{Trees, Place, append, count, find, IsAt}
-use Rattle.trees.specs.declared.node.Kind.TheVariants.{Document}
-use Rattle.trees.proofs.Climbs.{there-counts}
-use Rattle.trees.proofs.Weights.{append-none, weigh-append}
+use Rattle.data_model.specs.Trees.{Trees, Place, append, count, find, IsAt}
+use Rattle.data_model.specs.declared.node.Kind.TheVariants.{Document}
+use Rattle.data_model.proofs.Climbs.{there-counts}
+use Rattle.data_model.proofs.Weights.{append-none, weigh-append}
 use Rattle.values.specs.declared.code.Code.{Code}
 use Rattle.values.specs.declared.atom.Item.{Item}
 use Rattle.query_grammar.specs.declared.ast.Expr.{Expr}

@@ -1,6 +1,6 @@
 -- What is given, in the words of the Data Model (XQuery 1.0 and XPath 2.0 Data Model, sections 2.3 and 2.5): nodes have identities, and stand in trees.
 use Rattle.std.specs.Prelude.{◌<◌, List, [], ◌∷◌}
-use Rattle.trees.specs.Trees.{Trees, count}
+use Rattle.data_model.specs.Trees.{Trees, count}
 use Rattle.values.specs.declared.atom.Item.{Item}
 use Rattle.values.specs.declared.atom.Item.TheVariants as item
 

@@ -1,8 +1,8 @@
 -- What paths give, in the words of XQuery 1.0, section 3.2.
 use Rattle.std.specs.Prelude.{◌≡◌, ℕ, List, map, filter}
-use Rattle.trees.specs.Trees.{Trees}
-use Rattle.trees.specs.Axes.{is_in}
-use Rattle.trees.specs.Order.{identities}
+use Rattle.data_model.specs.Trees.{Trees}
+use Rattle.data_model.specs.Axes.{is_in}
+use Rattle.data_model.specs.Order.{identities}
 use Rattle.values.specs.declared.atom.Atom.{Atom}
 use Rattle.values.specs.declared.atom.Item.{Item}
 use Rattle.values.specs.declared.atom.Item.TheVariants as item

@@ -3,8 +3,8 @@
 ghost use Rattle.std.specs.Prelude.{◌≡◌, ◌≤◌, ◌+◌, ◌<◌, ◌++◌, ◌↔◌, ◌⊎◌, ℕ, List, [], ◌∷◌, Ok, false, length};
 ghost use Rattle.std.specs.List.{range_with_len};
 ghost use Rattle.trees.specs.Forest.{ForestTerm, IsForest};
-ghost use Rattle.trees.specs.Order.{identities};
-ghost use Rattle.trees.specs.Trees.{Trees, append, count, size};
+ghost use Rattle.data_model.specs.Order.{identities};
+ghost use Rattle.data_model.specs.Trees.{Trees, append, count, size};
 ghost use Rattle.pending.specs.Primitives.{PrimitiveTerm};
 ghost use Rattle.values.specs.declared.atom.Item.{Item};
 ghost use Rattle.query_grammar.specs.declared.ast.Expr.{Expr};

@@ -1,7 +1,7 @@
 //! Trees that are printed and compared.
 
 ghost use Rattle.std.specs.Prelude.{IsSome};
-ghost use Rattle.trees.specs.Trees.{find};
+ghost use Rattle.data_model.specs.Trees.{find};
 ghost use Rattle.shelves.specs.Shelf.{shelf_trees};
 
 use document_names::Names;

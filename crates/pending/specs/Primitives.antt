@@ -1,8 +1,8 @@
 -- Update primitives (XQuery Update Facility 1.0, section 3.1.1).
 use Rattle.std.specs.Prelude.{◌≡◌, ℕ, ◌==◌, if◌then◌else◌, List, [], string_bytes, refl}
 use Rattle.std.specs.Coded.{Coded, code_by, coded×, coded_ℕ, coded_list}
-use Rattle.trees.specs.Trees.{Trees, no_trees, coded_trees}
-use Rattle.trees.specs.Tree.{all_of}
+use Rattle.data_model.specs.Trees.{Trees, no_trees, coded_trees}
+use Rattle.data_model.specs.Tree.{all_of}
 use Rattle.pending.specs.declared.primitive.Primitive.{Primitive}
 use Rattle.pending.specs.declared.primitive.Primitive.TheVariants.{InsertBefore, InsertAfter, InsertInto, InsertIntoAsFirst, InsertIntoAsLast, InsertAttributes, Delete, ReplaceNode, ReplaceValue, ReplaceElementContent, Rename}
 

@@ -1,7 +1,7 @@
 -- Adjacent texts become one, and empty ones go (XQuery 1.0, section 3.7.1.3; XQuery Update Facility 1.0, section 3.2.2).
 use Rattle.std.specs.Prelude.{ℕ, Bool, true, ◌&&◌, ◌++◌, if◌then◌else◌, nat_le, length, []}
 use Rattle.std.specs.Str.{bytes_eq}
-use Rattle.trees.specs.Trees.{Trees, no_trees, tree, Content, is_text}
+use Rattle.data_model.specs.Trees.{Trees, no_trees, tree, Content, is_text}
 
 -- a tree before others: a text takes in the text after it, and keeps its own identity
 abbrev pub before_merged : Content → Trees → Trees → Trees → Trees

@@ -23,7 +23,7 @@ pub struct PendingList {
 impl Model for PendingList {
     ghost use Rattle.std.specs.Prelude.{List, ◌≤◌, length};
     ghost use Rattle.std.specs.Coded.{codes};
-    ghost use Rattle.trees.specs.Tree.{tree_code};
+    ghost use Rattle.data_model.specs.Tree.{tree_code};
     ghost use Rattle.pending.specs.contracts.primitive.Primitive as e;
     ghost use Rattle.pending.specs.Compatible.{most_primitives};
     ghost use Rattle.pending.specs.declared.primitive.Primitive.{Primitive as PrimitiveTerm};

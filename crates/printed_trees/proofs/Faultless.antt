@@ -1,9 +1,9 @@
 -- The passes over the expression of an item find no fault.
 use Rattle.std.proofs.Common.{not, cond, ◌&&◌, ◌≡◌, ℕ, ℤ, pos, negsuc, suc, Bool, true, false, ◌||◌, List, [], ◌∷◌, ◌++◌, map, refl, ap, ap₂, ◌∙◌, rules, codes, if◌then◌else◌}
 use Rattle.std.specs.List.{list_any}
-use Rattle.trees.specs.Trees.{Trees, no_trees, tree}
-use Rattle.trees.specs.declared.node.Kind.{Kind as NodeKind}
-use Rattle.trees.specs.declared.node.Kind.TheVariants as node
+use Rattle.data_model.specs.Trees.{Trees, no_trees, tree}
+use Rattle.data_model.specs.declared.node.Kind.{Kind as NodeKind}
+use Rattle.data_model.specs.declared.node.Kind.TheVariants as node
 use Rattle.query_grammar.specs.Grammar.{of_list}
 use Rattle.query_grammar.specs.declared.ast.Expr.{Expr, map-Expr, fold-Expr, out-Expr}
 use Rattle.query_grammar.specs.declared.ast.Expr.TheFolds.{fold_out-Expr}

@@ -7,10 +7,10 @@ use Rattle.std.specs.Fmt.{signed_decimal}
 use Rattle.std.specs.List.{AllZip, list_all}
 use Rattle.std.specs.Str.{bytes_eq, str_to_ascii_lowercase}
 use Rattle.document_names.specs.Characters.{is_name, is_xml_character}
-use Rattle.trees.specs.Tidy.{is_xml_text, holds_text}
-use Rattle.trees.specs.Trees.{Trees, no_trees, tree}
-use Rattle.trees.specs.declared.node.Kind.{Kind as NodeKind}
-use Rattle.trees.specs.declared.node.Kind.TheVariants as node
+use Rattle.data_model.specs.Tidy.{is_xml_text, holds_text}
+use Rattle.data_model.specs.Trees.{Trees, no_trees, tree}
+use Rattle.data_model.specs.declared.node.Kind.{Kind as NodeKind}
+use Rattle.data_model.specs.declared.node.Kind.TheVariants as node
 use Rattle.values.specs.Printing.{escaped, literal, listed, document_content, constructor}
 use Rattle.query_tokens.specs.Reading.{Gives}
 use Rattle.query_tokens.specs.Lexing.{is_separated, mark_token, max_integer, most_bytes}

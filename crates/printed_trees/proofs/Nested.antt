@@ -1,8 +1,8 @@
 -- How many brackets the tokens of an item open at once.
 use Rattle.std.proofs.Common.{if◌then◌else◌, ◌≡◌, ℕ, ℤ, pos, negsuc, suc, ◌≤◌, ◌+◌, ◌-◌, Bool, true, false, not, cond, ◌&&◌, ◌||◌, nat_le, List, [], ◌∷◌, ◌++◌, refl, ap, sym, ◌∙◌, arith, append_assoc, append-nil, codes}
 use Rattle.std.proofs.lemmas.Bool.{and_parts, not-true, lt-leb}
-use Rattle.trees.specs.declared.node.Kind.{Kind as NodeKind}
-use Rattle.trees.specs.declared.node.Kind.TheVariants as node
+use Rattle.data_model.specs.declared.node.Kind.{Kind as NodeKind}
+use Rattle.data_model.specs.declared.node.Kind.TheVariants as node
 use Rattle.query_tokens.specs.declared.kind.Kind.{Kind}
 use Rattle.query_tokens.specs.declared.kind.Kind.TheVariants as k
 use Rattle.query_tokens.specs.declared.token.Token.{Token}

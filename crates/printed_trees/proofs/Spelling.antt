@@ -3,9 +3,9 @@ use Rattle.std.proofs.Common.{◌≡◌, ℕ, ℤ, pos, negsuc, suc, Bool, true,
 use Rattle.std.specs.List.{list_all}
 use Rattle.std.specs.Str.{bytes_eq}
 use Rattle.std.proofs.lemmas.Bool.{and_parts}
-use Rattle.trees.specs.Trees.{Trees, no_trees, tree, Content}
-use Rattle.trees.specs.declared.node.Kind.{Kind as NodeKind}
-use Rattle.trees.specs.declared.node.Kind.TheVariants.{Document, Element, Attribute, Text, Comment, Instruction}
+use Rattle.data_model.specs.Trees.{Trees, no_trees, tree, Content}
+use Rattle.data_model.specs.declared.node.Kind.{Kind as NodeKind}
+use Rattle.data_model.specs.declared.node.Kind.TheVariants.{Document, Element, Attribute, Text, Comment, Instruction}
 use Rattle.values.specs.declared.atom.Atom.{Atom}
 use Rattle.values.specs.declared.atom.Atom.TheVariants as a
 use Rattle.query_tokens.specs.Lexing.{mark_token}

@@ -1,9 +1,9 @@
 -- Tokens that are spelt as an expression that no comma parts, whatever comes after them.
 use Rattle.std.proofs.Common.{Bool, true, false, if◌then◌else◌, ◌≡◌, ℕ, ℤ, pos, negsuc, zero, suc, ◌≤◌, List, [], ◌∷◌, ◌++◌, refl, ap, sym, subst, inl, inr, arith, append_assoc, append-nil, Option, codes}
 use Rattle.std.specs.List.{AllZip}
-use Rattle.trees.specs.Trees.{Trees, no_trees, tree, height}
-use Rattle.trees.specs.declared.node.Kind.{Kind as NodeKind}
-use Rattle.trees.specs.declared.node.Kind.TheVariants as node
+use Rattle.data_model.specs.Trees.{Trees, no_trees, tree, height}
+use Rattle.data_model.specs.declared.node.Kind.{Kind as NodeKind}
+use Rattle.data_model.specs.declared.node.Kind.TheVariants as node
 use Rattle.query_tokens.specs.declared.kind.Kind.{Kind}
 use Rattle.query_tokens.specs.declared.kind.Kind.TheVariants as k
 use Rattle.query_tokens.specs.declared.token.Token.{Token}

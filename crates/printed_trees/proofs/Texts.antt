@@ -10,9 +10,9 @@ use Rattle.std.specs.Fmt.{signed_decimal}
 use Rattle.std.specs.List.{AllZip, list_all}
 use Rattle.document_names.specs.Characters.{is_digit, is_name, is_name_character}
 use Rattle.std.specs.Str.{bytes_eq, str_to_ascii_lowercase}
-use Rattle.trees.specs.Tidy.{is_xml_text, holds_text}
-use Rattle.trees.specs.declared.node.Kind.{Kind as NodeKind}
-use Rattle.trees.specs.declared.node.Kind.TheVariants as node
+use Rattle.data_model.specs.Tidy.{is_xml_text, holds_text}
+use Rattle.data_model.specs.declared.node.Kind.{Kind as NodeKind}
+use Rattle.data_model.specs.declared.node.Kind.TheVariants as node
 use Rattle.values.specs.Printing.{escaped, literal, listed, document_content, constructor}
 use Rattle.values.proofs.Escapes.{plain}
 use Rattle.query_tokens.specs.Lexing.{max_integer}

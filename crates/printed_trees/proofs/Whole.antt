@@ -5,10 +5,10 @@ use Rattle.std.proofs.lemmas.List.Elements.{All-nil, All-cons, All-head, All-tai
 use Rattle.std.specs.Fmt.{signed_decimal}
 use Rattle.std.specs.List.{AllZip}
 use Rattle.std.specs.Str.{bytes_eq}
-use Rattle.trees.specs.Tidy.{is_tidy_content, is_xml_text, are_tidy, may_be_attribute, may_be_child, has_distinct_names, begins_with_text}
-use Rattle.trees.specs.Trees.{Trees, no_trees, tree, Content, Place, is_text, first, find_below, find, height, listing}
-use Rattle.trees.specs.declared.node.Kind.{Kind as NodeKind}
-use Rattle.trees.specs.declared.node.Kind.TheVariants as node
+use Rattle.data_model.specs.Tidy.{is_tidy_content, is_xml_text, are_tidy, may_be_attribute, may_be_child, has_distinct_names, begins_with_text}
+use Rattle.data_model.specs.Trees.{Trees, no_trees, tree, Content, Place, is_text, first, find_below, find, height, listing}
+use Rattle.data_model.specs.declared.node.Kind.{Kind as NodeKind}
+use Rattle.data_model.specs.declared.node.Kind.TheVariants as node
 use Rattle.values.specs.Printing.{literal, constructor, tree_texts, place_text, atom_text, item_text}
 use Rattle.values.specs.Items.{IsThere}
 use Rattle.values.specs.declared.atom.Atom.{Atom}

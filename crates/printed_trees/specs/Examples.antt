@@ -1,7 +1,7 @@
 -- The data of the worked examples.
 use Rattle.std.specs.Prelude.{[], codes}
-use Rattle.trees.specs.Trees.{Trees, no_trees, tree, leaf}
-use Rattle.trees.specs.declared.node.Kind.TheVariants.{Text}
+use Rattle.data_model.specs.Trees.{Trees, no_trees, tree, leaf}
+use Rattle.data_model.specs.declared.node.Kind.TheVariants.{Text}
 
 -- two texts that have no parent: 1 is empty, and 2 stands next to it
 abbrev pub lone_texts : Trees

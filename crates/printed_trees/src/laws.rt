@@ -2,7 +2,7 @@
 
 ghost use Rattle.std.specs.Prelude.{◌≡◌, ℕ, [], ◌∷◌, Ok, Err, neg_ℤ, pos, codes};
 ghost use Rattle.std.specs.Str.{chars};
-ghost use Rattle.trees.specs.Trees.{Trees};
+ghost use Rattle.data_model.specs.Trees.{Trees};
 ghost use Rattle.values.specs.Examples.{minimum, trees};
 ghost use Rattle.values.specs.Items.{IsThere};
 ghost use Rattle.values.specs.Printing.{item_text};

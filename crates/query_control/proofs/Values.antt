@@ -18,7 +18,7 @@ use Rattle.evaluation.proofs.Each.{grows_refl}
 use Rattle.values.specs.Atoms.{or_fault}
 use Rattle.values.specs.declared.code.Code.TheVariants.{XPST0008}
 use Rattle.std.proofs.lemmas.Option.{none-some, same_Some}
-use Rattle.trees.specs.Trees.{find}
+use Rattle.data_model.specs.Trees.{find}
 use Rattle.shelves.specs.Shelf.{ShelfTerm, shelf_trees}
 use Rattle.values.specs.declared.atom.Item.TheVariants as item
 use Rattle.query_meaning.specs.Operators.{one_node}

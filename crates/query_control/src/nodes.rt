@@ -1,7 +1,7 @@
 //! Comparisons of nodes (XQuery 1.0, section 3.5.3).
 
 ghost use Rattle.std.specs.Prelude.{◌≡◌, Ok, option_map};
-ghost use Rattle.trees.specs.Order.{precedes};
+ghost use Rattle.data_model.specs.Order.{precedes};
 ghost use Rattle.query_meaning.specs.Operators as meaning;
 ghost use Rattle.evaluation.specs.Gives.{Gives, Stand};
 

@@ -7,7 +7,7 @@ use Rattle.query_tokens.specs.declared.kind.Kind.TheVariants as k
 use Rattle.query_tokens.specs.declared.token.Token.{Token}
 use Rattle.query_tokens.specs.Cursor.{kind_at}
 use Rattle.query_tokens.specs.Words.{is_name_kind}
-use Rattle.trees.specs.declared.axis.Axis.{Axis}
+use Rattle.data_model.specs.declared.axis.Axis.{Axis}
 use Rattle.query_grammar.specs.declared.ast.Expr.{Expr}
 use Rattle.query_grammar.specs.declared.ast.Binary.{Binary}
 use Rattle.query_grammar.specs.declared.ast.KindTest.{KindTest}

@@ -14,7 +14,7 @@ use Rattle.query_grammar.specs.declared.ast.Binary.{Binary}
 use Rattle.query_grammar.specs.declared.ast.Name.{Name as NameOf}
 use Rattle.query_grammar.specs.declared.ast.Name.TheVariants.{Written, Computed}
 use Rattle.query_grammar.specs.declared.ast.NodeTest.TheVariants as test
-use Rattle.trees.specs.declared.axis.Axis.{Axis}
+use Rattle.data_model.specs.declared.axis.Axis.{Axis}
 use Rattle.query_grammar.specs.declared.ast.Sign.{Sign}
 use Rattle.query_grammar.specs.Lang.{Lang, pure as empty, ◌>>=◌ as ◌▹◌, ◌∪◌, Many, tok, stands}
 use Rattle.query_grammar.specs.Grammar as g

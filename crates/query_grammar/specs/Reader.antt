@@ -2,7 +2,7 @@
 -- alternative to take. What follows an operand goes on with it as long as it stands tight enough.
 use Rattle.std.specs.Prelude.{ℕ, zero, suc, Bool, true, false, ◌&&◌, ◌||◌, if◌then◌else◌, nat_le, List, [], ◌∷◌, ◌++◌, map, length, Option, Some, None}
 use Rattle.std.specs.List.{flat_map}
-use Rattle.trees.specs.declared.axis.Axis.TheVariants as axis
+use Rattle.data_model.specs.declared.axis.Axis.TheVariants as axis
 use Rattle.query_tokens.specs.declared.kind.Kind.{Kind}
 use Rattle.query_tokens.specs.declared.kind.Kind.TheVariants as k
 use Rattle.query_tokens.specs.declared.token.Token.{Token}

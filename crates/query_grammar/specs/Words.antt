@@ -1,7 +1,7 @@
 -- What single tokens stand for in the grammar.
 use Rattle.std.specs.Prelude.{Bool, false, Option, Some, None}
-use Rattle.trees.specs.declared.axis.Axis.{Axis}
-use Rattle.trees.specs.declared.axis.Axis.TheVariants as axis
+use Rattle.data_model.specs.declared.axis.Axis.{Axis}
+use Rattle.data_model.specs.declared.axis.Axis.TheVariants as axis
 use Rattle.values.specs.declared.compare.Comparison.TheVariants.{Equal, NotEqual, Less, LessOrEqual, Greater, GreaterOrEqual}
 use Rattle.values.specs.declared.operators.Operator.TheVariants.{Add, Subtract, Multiply, IntegerDivide, Modulo}
 use Rattle.query_tokens.specs.declared.kind.Kind.{Kind}

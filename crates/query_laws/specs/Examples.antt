@@ -1,7 +1,7 @@
 -- The data of the worked examples.
 use Rattle.std.specs.Prelude.{ℕ, Bool, List, [], ◌∷◌, codes}
-use Rattle.trees.specs.declared.axis.Axis.{Axis}
-use Rattle.trees.specs.declared.axis.Axis.TheVariants as axis
+use Rattle.data_model.specs.declared.axis.Axis.{Axis}
+use Rattle.data_model.specs.declared.axis.Axis.TheVariants as axis
 use Rattle.query_grammar.specs.declared.ast.Binary.{Binary}
 use Rattle.query_grammar.specs.declared.ast.Expr.{Expr}
 use Rattle.query_grammar.specs.declared.ast.Expr.TheVariants as e

@@ -1,7 +1,7 @@
 //! Laws of texts and their expressions, each the contract of a function that does nothing.
 
 ghost use Rattle.std.specs.Prelude.{◌≡◌, ◌↔◌, ℕ, List, [], ◌∷◌, codes, length, Some, None, Err, true, false};
-ghost use Rattle.trees.specs.declared.axis.Axis.TheVariants as axis;
+ghost use Rattle.data_model.specs.declared.axis.Axis.TheVariants as axis;
 ghost use Rattle.values.specs.declared.code.Code.{Code};
 ghost use Rattle.values.specs.declared.compare.Comparison.TheVariants as comparison;
 ghost use Rattle.values.specs.declared.operators.Operator.TheVariants as arithmetic;

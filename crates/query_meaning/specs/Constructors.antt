@@ -2,10 +2,10 @@
 use Rattle.std.specs.Prelude.{ℕ, not, ◌||◌, if◌then◌else◌, List, [], ◌∷◌, codes, Option, Result, Ok, Err}
 use Rattle.std.specs.Str.{bytes_eq, str_to_ascii_lowercase}
 use Rattle.document_names.specs.Characters.{is_name}
-use Rattle.trees.specs.Tidy.{holds_text, ends_in_hyphen}
-use Rattle.trees.specs.Trees.{Trees, no_trees, tree, leaf}
-use Rattle.trees.specs.declared.node.Kind.{Kind}
-use Rattle.trees.specs.declared.node.Kind.TheVariants as kind
+use Rattle.data_model.specs.Tidy.{holds_text, ends_in_hyphen}
+use Rattle.data_model.specs.Trees.{Trees, no_trees, tree, leaf}
+use Rattle.data_model.specs.declared.node.Kind.{Kind}
+use Rattle.data_model.specs.declared.node.Kind.TheVariants as kind
 use Rattle.values.specs.declared.code.Code.{Code}
 use Rattle.values.specs.declared.code.Code.TheVariants.{XQDY0026, XQDY0041, XQDY0064, XQDY0072, XQDY0074}
 use Rattle.values.specs.declared.atom.Atom.{Atom}

@@ -1,10 +1,10 @@
 -- Copied content, and what constructors make of it (XQuery 1.0, section 3.7.1.3).
 use Rattle.std.specs.Prelude.{ℕ, ◌+◌, Bool, true, false, not, ◌&&◌, nat_le, if◌then◌else◌, List, [], ◌∷◌, length, Option, Some, None, Result, Ok, Err}
-use Rattle.trees.specs.Changes.{pick, renumbered}
-use Rattle.trees.specs.Tidy.{has_distinct_names, is_document}
-use Rattle.trees.specs.Trees.{Trees, no_trees, tree, leaf, Place, find, append, roots, size, height}
-use Rattle.trees.specs.declared.node.Kind.{Kind}
-use Rattle.trees.specs.declared.node.Kind.TheVariants as kind
+use Rattle.data_model.specs.Changes.{pick, renumbered}
+use Rattle.data_model.specs.Tidy.{has_distinct_names, is_document}
+use Rattle.data_model.specs.Trees.{Trees, no_trees, tree, leaf, Place, find, append, roots, size, height}
+use Rattle.data_model.specs.declared.node.Kind.{Kind}
+use Rattle.data_model.specs.declared.node.Kind.TheVariants as kind
 use Rattle.pending.specs.Texts.{merged, without_empty_texts, texts_within}
 use Rattle.values.specs.declared.code.Code.{Code}
 use Rattle.values.specs.declared.code.Code.TheVariants.{XPTY0004, XQTY0024, XQDY0025, PXQ0002, PXQ0003}

@@ -1,11 +1,11 @@
 -- The data of the worked examples: expressions by what they mean, and two small stores.
 use Rattle.std.specs.Prelude.{ℕ, ◌+◌, ◌-◌, List, [], ◌∷◌, map, codes, None, Result, Ok, Err}
 use Rattle.trees.specs.Forest.{ForestTerm, opening_forest}
-use Rattle.trees.specs.Trees.{Trees, no_trees, tree, leaf, append}
-use Rattle.trees.specs.declared.axis.Axis.{Axis}
-use Rattle.trees.specs.declared.axis.Axis.TheVariants as axis
-use Rattle.trees.specs.declared.node.Kind.{Kind}
-use Rattle.trees.specs.declared.node.Kind.TheVariants as kind
+use Rattle.data_model.specs.Trees.{Trees, no_trees, tree, leaf, append}
+use Rattle.data_model.specs.declared.axis.Axis.{Axis}
+use Rattle.data_model.specs.declared.axis.Axis.TheVariants as axis
+use Rattle.data_model.specs.declared.node.Kind.{Kind}
+use Rattle.data_model.specs.declared.node.Kind.TheVariants as kind
 use Rattle.pending.specs.Primitives.{PrimitiveTerm}
 use Rattle.values.specs.Printing.{item_text}
 use Rattle.values.specs.declared.code.Code.{Code}

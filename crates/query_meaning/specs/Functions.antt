@@ -5,9 +5,9 @@ use Rattle.std.specs.List.{concat, list_any, starts_with, ends_with}
 use Rattle.std.specs.Ordering.{is_eq}
 use Rattle.std.specs.declared.cmp.Ordering.{Ordering}
 use Rattle.std.specs.Str.{bytes_eq}
-use Rattle.trees.specs.Tidy.{holds_text}
-use Rattle.trees.specs.Trees.{Place, find}
-use Rattle.trees.specs.Walks.{root_of}
+use Rattle.data_model.specs.Tidy.{holds_text}
+use Rattle.data_model.specs.Trees.{Place, find}
+use Rattle.data_model.specs.Walks.{root_of}
 use Rattle.values.specs.declared.code.Code.{Code}
 use Rattle.values.specs.declared.code.Code.TheVariants.{XPST0017, XPTY0004, FODC0002, FORG0001, FORG0006}
 use Rattle.values.specs.declared.atom.Atom.{Atom}

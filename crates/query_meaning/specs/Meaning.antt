@@ -1,6 +1,6 @@
 -- What expressions mean (XQuery 1.0; XQuery Update Facility 1.0).
 use Rattle.std.specs.Prelude.{ℕ, [], List, Result, Ok, Err}
-use Rattle.trees.specs.Trees.{Trees, no_trees}
+use Rattle.data_model.specs.Trees.{Trees, no_trees}
 use Rattle.trees.specs.Forest.{ForestTerm}
 use Rattle.pending.specs.Primitives.{PrimitiveTerm}
 use Rattle.values.specs.declared.code.Code.{Code}

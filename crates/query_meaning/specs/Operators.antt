@@ -2,9 +2,9 @@
 -- sides are evaluated before either is judged (our own choice).
 use Rattle.std.specs.Prelude.{ℕ, ◌+◌, ℤ, pos, ◌+ℤ◌, ◌-ℤ◌, neg_ℤ, nat_abs, int_lt, nat_lt, Bool, true, false, ◌&&◌, ◌||◌, not, ◌==◌, if◌then◌else◌, List, [], ◌∷◌, map, filter, reverse, Option, Some, None, Result, Ok, Err}
 use Rattle.std.specs.List.{range_with_len}
-use Rattle.trees.specs.Trees.{Trees}
-use Rattle.trees.specs.Axes.{is_in}
-use Rattle.trees.specs.Order.{identities, precedes}
+use Rattle.data_model.specs.Trees.{Trees}
+use Rattle.data_model.specs.Axes.{is_in}
+use Rattle.data_model.specs.Order.{identities, precedes}
 use Rattle.values.specs.declared.code.Code.{Code}
 use Rattle.values.specs.declared.code.Code.TheVariants.{XPTY0004, PXQ0002}
 use Rattle.values.specs.declared.compare.Comparison.{Comparison}

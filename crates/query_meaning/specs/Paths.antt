@@ -2,13 +2,13 @@
 use Rattle.std.specs.Prelude.{ℕ, ◌+◌, pos, Bool, true, false, ◌&&◌, nat_le, if◌then◌else◌, List, [], ◌∷◌, ◌++◌, length, filter, reverse, map, Option, Some, None, Result, Ok, Err}
 use Rattle.std.specs.Ordering.{is_eq, int_cmp}
 use Rattle.std.specs.Str.{bytes_eq}
-use Rattle.trees.specs.Trees.{Trees, Place, Content, find}
-use Rattle.trees.specs.Axes.{on_axis, is_in}
-use Rattle.trees.specs.Order.{identities}
-use Rattle.trees.specs.declared.axis.Axis.{Axis}
-use Rattle.trees.specs.declared.axis.Axis.TheVariants as axis
-use Rattle.trees.specs.declared.node.Kind.{Kind}
-use Rattle.trees.specs.declared.node.Kind.TheVariants as kind
+use Rattle.data_model.specs.Trees.{Trees, Place, Content, find}
+use Rattle.data_model.specs.Axes.{on_axis, is_in}
+use Rattle.data_model.specs.Order.{identities}
+use Rattle.data_model.specs.declared.axis.Axis.{Axis}
+use Rattle.data_model.specs.declared.axis.Axis.TheVariants as axis
+use Rattle.data_model.specs.declared.node.Kind.{Kind}
+use Rattle.data_model.specs.declared.node.Kind.TheVariants as kind
 use Rattle.values.specs.declared.code.Code.{Code}
 use Rattle.values.specs.declared.code.Code.TheVariants.{XPTY0018, XPTY0019, XPTY0020, PXQ0002}
 use Rattle.values.specs.declared.atom.Atom.{Atom}

@@ -1,7 +1,7 @@
 -- What an evaluation has come to, and steps that are taken one after the other: the first fault ends them (XQuery 1.0, section 2.3.4).
 use Rattle.std.specs.Prelude.{ℕ, suc, ◌+◌, ◌-◌, ◌==◌, nat_le, if◌then◌else◌, List, [], ◌∷◌, ◌++◌, length, Result, Ok, Err, refl}
 use Rattle.std.specs.Coded.{Coded, code_by, coded×, coded_ℕ, coded_list}
-use Rattle.trees.specs.Trees.{Trees, append}
+use Rattle.data_model.specs.Trees.{Trees, append}
 use Rattle.shelves.specs.Shelf.{ShelfTerm, shelf_trees, shelf_code}
 use Rattle.pending.specs.Compatible.{most_primitives}
 use Rattle.pending.specs.Primitives.{PrimitiveTerm, primitive_code}

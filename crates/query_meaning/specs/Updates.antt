@@ -1,10 +1,10 @@
 -- Updating expressions (XQuery Update Facility 1.0, section 2.4): each adds primitives, and gives no items. Operands are evaluated as written, and
 -- each is judged as soon as it is evaluated (our own choice).
 use Rattle.std.specs.Prelude.{ℕ, Bool, true, false, not, ◌||◌, if◌then◌else◌, List, [], ◌∷◌, Option, Some, None, is_some, Result, Ok, Err}
-use Rattle.trees.specs.Tidy.{is_document}
-use Rattle.trees.specs.Trees.{Trees, no_trees, tree, Content, Place as Standing, find}
-use Rattle.trees.specs.declared.node.Kind.{Kind}
-use Rattle.trees.specs.declared.node.Kind.TheVariants as kind
+use Rattle.data_model.specs.Tidy.{is_document}
+use Rattle.data_model.specs.Trees.{Trees, no_trees, tree, Content, Place as Standing, find}
+use Rattle.data_model.specs.declared.node.Kind.{Kind}
+use Rattle.data_model.specs.declared.node.Kind.TheVariants as kind
 use Rattle.pending.specs.Primitives.{PrimitiveTerm, insert_before, insert_after, insert_into, insert_into_as_first, insert_into_as_last, insert_attributes, delete as delete_node, replace_node as replace_by, replace_value as replace_text, replace_element_content, rename as rename_to}
 use Rattle.values.specs.declared.code.Code.{Code}
 use Rattle.values.specs.declared.code.Code.TheVariants.{XUTY0004, XUTY0005, XUTY0006, XUTY0007, XUTY0008, XUTY0010, XUTY0011, XUTY0012, XUTY0022, XUDY0009, XUDY0027, XUDY0029, XUDY0030}

@@ -3,7 +3,7 @@ use Rattle.std.proofs.Common.{◌≡◌, ℕ, ◌≤◌, ◌<◌, true, false, L
 use Rattle.std.proofs.lemmas.Bool.Decides.{nat_tests}
 use Rattle.std.specs.List.{join_with_byte}
 use Rattle.query_forms.specs.Forms.{ChildPath, path_of}
-use Rattle.trees.specs.Trees.{Trees}
+use Rattle.data_model.specs.Trees.{Trees}
 use Rattle.trees.specs.Forest.{ForestTerm}
 use Rattle.values.specs.declared.code.Code.TheVariants.{PXQ0002, PXQ0005}
 use Rattle.sessions.specs.Run.{document_of}

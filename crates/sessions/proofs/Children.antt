@@ -6,8 +6,8 @@ use Rattle.std.proofs.lemmas.List.{get_or-map, length-map, take_all}
 use Rattle.std.proofs.lemmas.List.Sums.{count_by_more_no, count_by_more_yes}
 use Rattle.std.proofs.lemmas.List.Recursion.{is_count_by}
 use Rattle.std.specs.Str.{bytes_eq}
-use Rattle.trees.specs.Trees.{Trees, no_trees, tree, Content, Place, roots, count, first, find, find_below, children_at, children_of, IsAt}
-use Rattle.trees.specs.declared.node.Kind.TheVariants.{Element}
+use Rattle.data_model.specs.Trees.{Trees, no_trees, tree, Content, Place, roots, count, first, find, find_below, children_at, children_of, IsAt}
+use Rattle.data_model.specs.declared.node.Kind.TheVariants.{Element}
 use Rattle.sessions.specs.Answers.{item_text, item_texts, is_element, trees_at}
 use Rattle.sessions.proofs.Insertions.{find-absent}
 

@@ -2,8 +2,8 @@
 use Rattle.std.proofs.Common.{◌≡◌, ℕ, ◌+◌, ◌≤◌, ◌<◌, length, refl, ap, ◌∙◌, arith, Option, Some, None, IsSome, option_map, ⊎_elim}
 use Prim.Native.Nat.{zero, suc}
 use Rattle.std.proofs.lemmas.Bool.Decides.{eqb_tells}
-use Rattle.trees.specs.Trees.{Trees, no_trees, tree, Content, Place, append, leaf, roots, count, first, find, find_below, children_at, children_of}
-use Rattle.trees.specs.Changes.{with_children, splice}
+use Rattle.data_model.specs.Trees.{Trees, no_trees, tree, Content, Place, append, leaf, roots, count, first, find, find_below, children_at, children_of}
+use Rattle.data_model.specs.Changes.{with_children, splice}
 use Rattle.sessions.specs.Run.{put_last}
 
 -- ---- where no node has that identity

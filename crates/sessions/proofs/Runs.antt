@@ -2,9 +2,9 @@
 use Rattle.std.proofs.Common.{◌≡◌, ℕ, ◌+◌, ◌≤◌, ◌<◌, Bool, true, false, ◌||◌, List, length, cond, nat_lt, refl, ap, arith, Option, Some, None, IsSome}
 use Rattle.std.proofs.lemmas.Bool.Decides.{nat_tests}
 use Rattle.query_forms.specs.Forms.{Insertion, insertion_of}
-use Rattle.trees.specs.Trees.{Trees, Content, Place, size, count, find, children_of, IsAt}
+use Rattle.data_model.specs.Trees.{Trees, Content, Place, size, count, find, children_of, IsAt}
 use Rattle.trees.specs.Forest.{ForestTerm, IsForest, IsDocument}
-use Rattle.trees.specs.declared.node.Part.TheVariants.{Children}
+use Rattle.data_model.specs.declared.node.Part.TheVariants.{Children}
 use Rattle.trees.proofs.Makes.{size-make-below}
 use Rattle.values.specs.declared.code.Code.TheVariants.{PXQ0003}
 use Rattle.sessions.specs.declared.execute.Outcome.TheVariants.{Done, Fault}

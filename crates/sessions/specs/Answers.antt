@@ -3,10 +3,10 @@ use Rattle.std.specs.Prelude.{ℕ, Bool, true, false, ◌&&◌, nat_lt, cond, Li
 use Rattle.std.specs.List.{join_with_byte}
 use Rattle.std.specs.Str.{bytes_eq}
 use Rattle.query_forms.specs.Forms.{ChildPath, path_of}
-use Rattle.trees.specs.Trees.{Trees, no_trees, tree, Place, find}
+use Rattle.data_model.specs.Trees.{Trees, no_trees, tree, Place, find}
 use Rattle.trees.specs.Forest.{ForestTerm}
-use Rattle.trees.specs.declared.node.Kind.{Kind}
-use Rattle.trees.specs.declared.node.Kind.TheVariants.{Element}
+use Rattle.data_model.specs.declared.node.Kind.{Kind}
+use Rattle.data_model.specs.declared.node.Kind.TheVariants.{Element}
 use Rattle.values.specs.declared.code.Code.TheVariants.{FODC0002, PXQ0002, PXQ0005}
 use Rattle.ballots.specs.Replies.{Answered, text, fault}
 use Rattle.sessions.specs.Run.{document_of}

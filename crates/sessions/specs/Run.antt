@@ -3,10 +3,10 @@ use Rattle.std.specs.Prelude.{ℕ, ◌+◌, Bool, ◌||◌, nat_lt, cond, List, 
 use Rattle.std.specs.Map.{lookup}
 use Rattle.std.specs.Str.{bytes_eq}
 use Rattle.query_forms.specs.Forms.{Insertion, insertion_of}
-use Rattle.trees.specs.Trees.{Trees, Content, leaf, size, children_of}
-use Rattle.trees.specs.Changes.{with_children, splice}
+use Rattle.data_model.specs.Trees.{Trees, Content, leaf, size, children_of}
+use Rattle.data_model.specs.Changes.{with_children, splice}
 use Rattle.trees.specs.Forest.{ForestTerm}
-use Rattle.trees.specs.declared.node.Kind.TheVariants.{Element}
+use Rattle.data_model.specs.declared.node.Kind.TheVariants.{Element}
 use Rattle.sessions.specs.declared.execute.Outcome.{Outcome}
 use Rattle.sessions.specs.declared.execute.Outcome.TheVariants.{Done, Fault}
 use Rattle.values.specs.declared.code.Code.TheVariants.{FODC0002, PXQ0003}

@@ -4,7 +4,7 @@ ghost use Rattle.std.specs.Prelude.{◌≡◌, ℕ, ◌++◌, ◌≤◌, OnOk, I
 ghost use Rattle.std.specs.Str.{bytes_eq};
 ghost use Rattle.std.specs.List.{join_with_byte};
 ghost use Rattle.query_forms.specs.Forms.{path_of};
-ghost use Rattle.trees.specs.Trees.{count, find, IsAt};
+ghost use Rattle.data_model.specs.Trees.{count, find, IsAt};
 ghost use Rattle.sessions.specs.Run.{document_of};
 ghost use Rattle.ballots.specs.Replies.{answered};
 ghost use Rattle.sessions.specs.Answers.{item_text, item_texts, trees_at, is_element, path_answer, answer};

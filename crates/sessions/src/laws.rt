@@ -9,7 +9,7 @@ ghost use Rattle.ballots.specs.declared.request.RequestId.{RequestId};
 ghost use Rattle.ballots.specs.Terms.{Request as RequestTerm};
 ghost use Rattle.sessions.specs.Terms.{id_of, is_of};
 ghost use Rattle.trees.specs.Forest.{document_node};
-ghost use Rattle.trees.specs.Trees.{tree, no_trees, leaf};
+ghost use Rattle.data_model.specs.Trees.{tree, no_trees, leaf};
 ghost use Rattle.values.specs.declared.code.Code.TheVariants.{FODC0002};
 ghost use Rattle.ballots.specs.declared.reply.Reply.TheVariants.{Done, Fault};
 ghost use Rattle.sessions.specs.Run.{run, element};

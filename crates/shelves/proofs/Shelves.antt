@@ -3,20 +3,20 @@ use Rattle.std.proofs.Common.{◌≡◌, ℕ, ◌+◌, ◌≤◌, ◌<◌, [], �
 use Prim.Native.Nat.{suc}
 use Rattle.std.proofs.lemmas.List.{map-append}
 use Rattle.std.proofs.lemmas.Bool.Decides.{eqb_tells}
-use Rattle.trees.specs.Trees.{Trees, no_trees, tree, Content, Place, append, leaf, listing, count, find, first, parent_at, IsAt}
-use Rattle.trees.specs.Changes.{all_moved_below, CanAllMoveBelow}
-use Rattle.trees.specs.declared.node.Kind.TheVariants.{Document}
-use Rattle.trees.specs.declared.node.Part.{Part}
-use Rattle.trees.specs.Order.{identities, precedes}
-use Rattle.trees.specs.Walks.{held, seen, or_else}
+use Rattle.data_model.specs.Trees.{Trees, no_trees, tree, Content, Place, append, leaf, listing, count, find, first, parent_at, IsAt}
+use Rattle.data_model.specs.Changes.{all_moved_below, CanAllMoveBelow}
+use Rattle.data_model.specs.declared.node.Kind.TheVariants.{Document}
+use Rattle.data_model.specs.declared.node.Part.{Part}
+use Rattle.data_model.specs.Order.{identities, precedes}
+use Rattle.data_model.specs.Walks.{held, seen, or_else}
 use Rattle.trees.specs.Forest.{ForestTerm, IsForest, IsDocument}
 use Rattle.shelves.specs.Shelf.{ShelfTerm, ComesAfter, IsShelf, shelf_trees}
-use Rattle.trees.proofs.Weights.{weigh-append}
+use Rattle.data_model.proofs.Weights.{weigh-append}
 use Rattle.trees.proofs.Puts.{weigh-moved}
-use Rattle.trees.proofs.Climbs.{AreDistinct, any-tells, find-absent, there-counts}
+use Rattle.data_model.proofs.Climbs.{AreDistinct, any-tells, find-absent, there-counts}
 use Rattle.trees.proofs.CallerLemmas.{find-append}
-use Rattle.trees.proofs.Firsts.{before-seen, held-identities, seen-none, seen-a, seen-b, seen-first}
-use Rattle.trees.proofs.Scans.{seen-append}
+use Rattle.data_model.proofs.Firsts.{before-seen, held-identities, seen-none, seen-a, seen-b, seen-first}
+use Rattle.data_model.proofs.Scans.{seen-append}
 use Rattle.trees.proofs.Lent.{find-lent, has-counts, has-not-counts, lent-apart}
 
 -- ---- what is known of both

@@ -1,7 +1,7 @@
 -- What a shelf is to its callers: the trees of a lent forest, then those of an own one.
 use Rattle.std.specs.Prelude.{◌≡◌, ℕ, ◌≤◌, ◌<◌, [], refl}
 use Rattle.std.specs.Coded.{Coded, code_by, coded×}
-use Rattle.trees.specs.Trees.{Trees, append, count}
+use Rattle.data_model.specs.Trees.{Trees, append, count}
 use Rattle.trees.specs.Forest.{ForestTerm, forest_code, IsForest}
 
 pub record ShelfTerm : Type 0 where

@@ -3,13 +3,13 @@
 ghost use Rattle.std.specs.Prelude.{◌≡◌, ℕ, ◌+◌, ◌<◌, ◌≤◌, ◌^◌, ◌↔◌, Option, Some, None, IfOk, OnOk, OnErr, IfSome, IsErrOf, IsSome, List, [], is_some, string_bytes, option_map};
 ghost use Rattle.std.specs.Map.{lookup};
 ghost use Rattle.std.specs.Str.{bytes_eq};
-ghost use Rattle.trees.specs.Trees.{no_trees, append, leaf, find, size, children_of, attributes_of, parent_of, string_value_of, text_within, IsAt};
-ghost use Rattle.trees.specs.Changes.{with_content, taken_out, all_moved_below, CanAllMoveBelow, pick, renumbered};
-ghost use Rattle.trees.specs.declared.node.Part.TheVariants.{Attributes, Children};
-ghost use Rattle.trees.specs.Order.{precedes};
+ghost use Rattle.data_model.specs.Trees.{no_trees, append, leaf, find, size, children_of, attributes_of, parent_of, string_value_of, text_within, IsAt};
+ghost use Rattle.data_model.specs.Changes.{with_content, taken_out, all_moved_below, CanAllMoveBelow, pick, renumbered};
+ghost use Rattle.data_model.specs.declared.node.Part.TheVariants.{Attributes, Children};
+ghost use Rattle.data_model.specs.Order.{precedes};
 ghost use Rattle.trees.specs.Forest.{IsDocument};
 ghost use Rattle.shelves.specs.Shelf.{ShelfTerm, shelf_trees, IsShelf};
-ghost use Rattle.trees.specs.Tree.{trees_of_tree};
+ghost use Rattle.data_model.specs.Tree.{trees_of_tree};
 
 use std::alloc::{AllocError, Global};
 use std::marker::Model;

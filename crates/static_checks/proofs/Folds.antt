@@ -11,7 +11,7 @@ use Rattle.query_grammar.specs.declared.ast.Operation.{Operation}
 use Rattle.query_grammar.specs.declared.ast.SortKey.{SortKey}
 use Rattle.query_grammar.specs.declared.ast.Quantifier.{Quantifier}
 use Rattle.query_grammar.specs.declared.ast.NodeTest.{NodeTest}
-use Rattle.trees.specs.declared.axis.Axis.{Axis}
+use Rattle.data_model.specs.declared.axis.Axis.{Axis}
 use Rattle.static_checks.specs.Inside.{children}
 use Rattle.static_checks.specs.Parts.{Part, keys, operands, Scope, under, clauses_then, bindings_then, source_of, sources, variables_of, bound_by}
 

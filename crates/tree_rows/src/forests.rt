@@ -5,7 +5,7 @@
 //! first child; `take NUMBER` takes a node out of its parent, and `copy NUMBER` copies its tree.
 
 ghost use Rattle.std.specs.Prelude.{◌≡◌, ◌≢◌, ◌<◌, ◌≤◌, ◌^◌, IsSome};
-ghost use Rattle.trees.specs.Trees.{find};
+ghost use Rattle.data_model.specs.Trees.{find};
 
 use super::parts::{Given, LIMIT, MOST, Made, Pieces, element, take_made, take_node};
 use rows::{RowFault, Words};

@@ -5,7 +5,7 @@
 
 ghost use Rattle.std.specs.Prelude.{◌≡◌, ◌≢◌, IsSome};
 ghost use Rattle.shelves.specs.Shelf.{shelf_trees};
-ghost use Rattle.trees.specs.Trees.{find, parent_of};
+ghost use Rattle.data_model.specs.Trees.{find, parent_of};
 
 use super::parts::{Given, MOST, Made, Pieces, take_made, take_node, take_word};
 use rows::{RowFault, Words};

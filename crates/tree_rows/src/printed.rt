@@ -2,7 +2,7 @@
 
 ghost use Rattle.std.specs.Prelude.{IsSome};
 ghost use Rattle.shelves.specs.Shelf.{shelf_trees};
-ghost use Rattle.trees.specs.Trees.{find};
+ghost use Rattle.data_model.specs.Trees.{find};
 
 use rows::RowFault;
 use shelves::Shelf;

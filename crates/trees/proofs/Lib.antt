@@ -1,4 +1,3 @@
-pub mod Weights
 pub mod Lists
 pub mod Tables
 pub mod Puts
@@ -10,10 +9,6 @@ pub mod Texts
 pub mod Takes
 pub mod Contents
 pub mod Clones
-pub mod Climbs
-pub mod Paths
-pub mod Scans
-pub mod Firsts
 pub mod Moves
 pub mod Copies
 pub mod CallerLemmas

@@ -2,12 +2,12 @@
 use Rattle.std.proofs.Common.{◌≡◌, ℕ, ◌+◌, ◌≤◌, ◌<◌, ◌^◌, length, refl, ap, ◌∙◌, arith, ⊎_elim, Option, Some, None}
 use Rattle.std.proofs.lemmas.Bool.Decides.{eqb_tells}
 use Rattle.std.proofs.lemmas.List.{length-append}
-use Rattle.trees.specs.Trees.{Trees, no_trees, tree, roots, count, size}
-use Rattle.trees.specs.Walks.{held}
+use Rattle.data_model.specs.Trees.{Trees, no_trees, tree, roots, count, size}
+use Rattle.data_model.specs.Walks.{held}
 use Rattle.trees.specs.Flat.{Entry, Table, Holds, IsTableOf}
 use Rattle.trees.specs.Labels.{AreListed, lists_in, parent_in}
-use Rattle.trees.proofs.Climbs.{any-tells}
-use Rattle.trees.proofs.Firsts.{held-append}
+use Rattle.data_model.proofs.Climbs.{any-tells}
+use Rattle.data_model.proofs.Firsts.{held-append}
 use Rattle.trees.proofs.Tables.{find-table, count-there}
 use Rattle.trees.proofs.Takes.{count-most}
 use Rattle.trees.proofs.Onces.{once-below}

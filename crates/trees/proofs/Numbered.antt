@@ -2,8 +2,8 @@
 use Rattle.std.proofs.Common.{◌≡◌, ℕ, ◌+◌, ◌≤◌, ◌<◌, ap, sym, ◌∙◌, arith, ⊎_elim, None}
 use Rattle.std.proofs.lemmas.Bool.{cases_lt}
 use Rattle.std.specs.BTreeMap.{BTreeMap}
-use Rattle.trees.specs.Trees.{Trees, append, count}
-use Rattle.trees.specs.Changes.{renumbered, ranked}
+use Rattle.data_model.specs.Trees.{Trees, append, count}
+use Rattle.data_model.specs.Changes.{renumbered, ranked}
 use Rattle.trees.specs.Forest.{ForestTerm}
 use Rattle.trees.specs.Flat.{Table, IsTableOf}
 use Rattle.trees.specs.Inside.{table_of, term_of, IsSound}

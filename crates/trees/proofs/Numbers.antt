@@ -5,16 +5,16 @@ use Rattle.std.specs.List.{slice_get}
 use Rattle.std.proofs.Math.Nat.{add-mul, mul-le-mul_left, mul_comm, mul-div-le, le-div_iff_mul-le}
 use Rattle.std.proofs.lemmas.List.{take-append-drop, append_assoc, length-take-le, length-append}
 use Rattle.std.proofs.lemmas.Bool.Decides.{eqb_tells}
-use Rattle.trees.specs.Trees.{Trees, no_trees, tree, Content, append, roots, count, size}
-use Rattle.trees.specs.Changes.{renumbered, ranked}
-use Rattle.trees.specs.Walks.{held}
+use Rattle.data_model.specs.Trees.{Trees, no_trees, tree, Content, append, roots, count, size}
+use Rattle.data_model.specs.Changes.{renumbered, ranked}
+use Rattle.data_model.specs.Walks.{held}
 use Rattle.trees.specs.Flat.{Entry, Table, Holds, IsTableOf, IsChangedAt, Makes, Puts, listed, with_child}
-use Rattle.trees.specs.declared.node.Part.{Part}
-use Rattle.trees.specs.declared.node.Part.TheVariants.{Attributes, Children}
+use Rattle.data_model.specs.declared.node.Part.{Part}
+use Rattle.data_model.specs.declared.node.Part.TheVariants.{Attributes, Children}
 use Rattle.trees.specs.Labels.{AllAbove, Ascends, AreNumbered, AreRanked, HasNumbers, RisesBut, AreListed, lists_in, get_before, position_in, parent_in}
-use Rattle.trees.proofs.Weights.{eqb-same}
-use Rattle.trees.proofs.Climbs.{any-tells}
-use Rattle.trees.proofs.Firsts.{held-append}
+use Rattle.data_model.proofs.Weights.{eqb-same}
+use Rattle.data_model.proofs.Climbs.{any-tells}
+use Rattle.data_model.proofs.Firsts.{held-append}
 use Rattle.trees.proofs.Tables.{Sets}
 use Rattle.trees.proofs.Takes.{Takes}
 use Rattle.trees.proofs.Onces.{held-roots}

@@ -1,14 +1,4 @@
-pub mod Trees
-pub mod Changes
-pub mod Order
-pub mod Paths
-pub mod Tidy
 pub mod Forest
-pub mod Tree
-pub mod Planted
-pub mod Axes
-pub mod Walks
 pub mod Flat
 pub mod Inside
-pub mod Nested
 pub mod Labels

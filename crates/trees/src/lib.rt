@@ -1,20 +1,16 @@
-//! XDM trees: nodes with identities, kinds, names and texts, in forests over one flat table.
+//! XDM trees: nodes in forests over one flat table. What a node is stands in the crate `data_model`, whose types are exported here too.
 //!
-//! Contracts speak of nested trees alone (`specs/Trees.antt`); nothing outside this crate sees the table.
+//! Contracts speak of nested trees alone (`Trees.antt` of `data_model`); nothing outside this crate sees the table.
 #![tactic(auto)]
 
-mod axis;
 mod copy;
 mod forest;
 pub mod laws;
-mod node;
 mod order;
 mod plant;
 mod table;
 mod tree;
 mod walk;
 
-pub use axis::Axis;
+pub use data_model::{Axis, Content, Kind, NodeId, Tree};
 pub use forest::{Forest, MakeFault};
-pub use node::{Content, Kind, NodeId};
-pub use tree::Tree;

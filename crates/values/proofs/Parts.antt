@@ -4,13 +4,13 @@ use Rattle.std.specs.List.{All, AllByRecursion}
 use Rattle.std.proofs.lemmas.List.Elements.{All-from_recursion}
 use Rattle.std.proofs.lemmas.List.Sums.{sum_by-cons}
 use Rattle.std.proofs.lemmas.Bool.Decides.{eqb_tells}
-use Rattle.trees.specs.Trees.{Trees, no_trees, tree, Content, Place, roots, count, size, first, find, find_below, IsAt, is_inner, attributes_at, attributes_of, children_at, children_of}
-use Rattle.trees.specs.declared.node.Kind.{Kind}
+use Rattle.data_model.specs.Trees.{Trees, no_trees, tree, Content, Place, roots, count, size, first, find, find_below, IsAt, is_inner, attributes_at, attributes_of, children_at, children_of}
+use Rattle.data_model.specs.declared.node.Kind.{Kind}
 use Rattle.values.specs.Printing.{place_text, tree_texts, node_text, constructor, literal}
 use Rattle.values.specs.Inside.{opening, following, nothing}
 use Rattle.values.proofs.Constructors.{none-of-none, inner-text, leaf-text}
-use Rattle.trees.proofs.Weights.{eqb-same}
-use Rattle.trees.proofs.Climbs.{AreDistinct, any-tells, find-absent, find-present, first-some}
+use Rattle.data_model.proofs.Weights.{eqb-same}
+use Rattle.data_model.proofs.Climbs.{AreDistinct, any-tells, find-absent, find-present, first-some}
 
 -- where a node below the first tree, or in the others, is found
 module _ (p : Option ℕ) (c : Content) (bs cs rest : Trees) (d : AreDistinct (tree c bs cs rest)) (j : ℕ) where

@@ -1,9 +1,9 @@
 -- Atomic values and items, atomization, and the effective boolean value.
 use Rattle.std.specs.Prelude.{ℕ, ℤ, unsigned_abs, Bool, true, false, not, ◌==◌, nat_lt, if◌then◌else◌, List, [], ◌∷◌, length, Option, Some, None, Result, Ok, Err}
 use Rattle.std.specs.Str.{bytes_eq}
-use Rattle.trees.specs.Trees.{Trees, Place, find, value_of}
-use Rattle.trees.specs.declared.node.Kind.{Kind}
-use Rattle.trees.specs.declared.node.Kind.TheVariants as kind
+use Rattle.data_model.specs.Trees.{Trees, Place, find, value_of}
+use Rattle.data_model.specs.declared.node.Kind.{Kind}
+use Rattle.data_model.specs.declared.node.Kind.TheVariants as kind
 use Rattle.values.specs.declared.code.Code.{Code}
 use Rattle.values.specs.declared.code.Code.TheVariants.{FORG0006, PXQ0002}
 use Rattle.values.specs.declared.atom.Atom.{Atom}

@@ -1,7 +1,7 @@
 -- The data of the worked examples.
 use Rattle.std.specs.Prelude.{ℕ, List, [], ◌∷◌, ℤ, pos, neg_ℤ, codes, ◌^◌}
-use Rattle.trees.specs.Trees.{Trees, no_trees, tree, leaf}
-use Rattle.trees.specs.declared.node.Kind.TheVariants as kind
+use Rattle.data_model.specs.Trees.{Trees, no_trees, tree, leaf}
+use Rattle.data_model.specs.declared.node.Kind.TheVariants as kind
 use Rattle.values.specs.declared.atom.Atom.{Atom}
 use Rattle.values.specs.declared.atom.Atom.TheVariants.{String, Untyped, Integer}
 

@@ -3,8 +3,8 @@ use Rattle.std.specs.Prelude.{ℕ, Bool, true, cond, List, [], ◌∷◌, ◌++�
 use Rattle.std.specs.Rc.{rc_value}
 use Rattle.values.specs.declared.text.Kept.{Kept}
 use Rattle.values.specs.declared.text.Kept.TheVariants.{Alone, Shared}
-use Rattle.trees.specs.declared.node.Kind.{Kind}
-use Rattle.trees.specs.declared.node.Kind.TheVariants.{Document, Element, Attribute, Text, Comment, Instruction}
+use Rattle.data_model.specs.declared.node.Kind.{Kind}
+use Rattle.data_model.specs.declared.node.Kind.TheVariants.{Document, Element, Attribute, Text, Comment, Instruction}
 
 -- what a constructor begins with
 abbrev pub opening : Kind → (name : List ℕ) → List ℕ

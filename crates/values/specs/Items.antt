@@ -1,7 +1,7 @@
 -- Items whose nodes stand in given trees.
 use Rattle.std.specs.Prelude.{List, IsSome}
 use Rattle.std.specs.List.{All}
-use Rattle.trees.specs.Trees.{Trees, find}
+use Rattle.data_model.specs.Trees.{Trees, find}
 use Rattle.values.specs.declared.atom.Item.{Item}
 use Rattle.values.specs.declared.atom.Item.TheVariants as item
 

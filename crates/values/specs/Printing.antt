@@ -2,9 +2,9 @@
 use Rattle.std.specs.Prelude.{ℕ, ◌==◌, if◌then◌else◌, List, [], ◌∷◌, ◌++◌, Option, Some, None, codes}
 use Rattle.std.specs.List.{flat_map}
 use Rattle.std.specs.Fmt.{signed_decimal}
-use Rattle.trees.specs.Trees.{Trees, no_trees, tree, Content, Place, find}
-use Rattle.trees.specs.declared.node.Kind.{Kind}
-use Rattle.trees.specs.declared.node.Kind.TheVariants.{Document, Element, Attribute, Text, Comment, Instruction}
+use Rattle.data_model.specs.Trees.{Trees, no_trees, tree, Content, Place, find}
+use Rattle.data_model.specs.declared.node.Kind.{Kind}
+use Rattle.data_model.specs.declared.node.Kind.TheVariants.{Document, Element, Attribute, Text, Comment, Instruction}
 use Rattle.values.specs.declared.atom.Atom.{Atom}
 use Rattle.values.specs.declared.atom.Atom.TheVariants as a
 use Rattle.values.specs.declared.atom.Item.{Item}

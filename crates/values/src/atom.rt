@@ -2,7 +2,7 @@
 
 ghost use Rattle.std.specs.Prelude.{◌≡◌, Ok, Err, IfOk, IfErr, IsSome};
 ghost use Rattle.shelves.specs.Shelf.{shelf_trees};
-ghost use Rattle.trees.specs.Trees.{find};
+ghost use Rattle.data_model.specs.Trees.{find};
 ghost use Rattle.values.specs.declared.code.Code.{Code};
 ghost use Rattle.values.specs.declared.fault.ValueFault.{ValueFault};
 ghost use Rattle.values.specs.Atoms.{typed, typed_at, atom_of, atomized, atom_truth, truth};

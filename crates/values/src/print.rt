@@ -7,7 +7,7 @@ ghost use Rattle.values.specs.Printing.{escaped, literal, atom_text, place_text,
 ghost use Rattle.values.specs.Items.{IsThere};
 ghost use Rattle.values.specs.Inside.{opening, following, nothing};
 ghost use Rattle.shelves.specs.Shelf.{shelf_trees};
-ghost use Rattle.trees.specs.Trees.{find, count};
+ghost use Rattle.data_model.specs.Trees.{find, count};
 
 use super::atom::{Atom, Item};
 use shelves::Shelf;

@@ -3,8 +3,8 @@ use Rattle.std.proofs.Math.Utf8.{encode}
 use Rattle.std.proofs.lemmas.List.Elements.{All-nil, All-from_recursion}
 use Rattle.std.specs.Fmt.{digits}
 use Rattle.std.specs.Str.{chars}
-use Rattle.trees.specs.Tidy.{is_document}
-use Rattle.trees.specs.Trees.{listing}
+use Rattle.data_model.specs.Tidy.{is_document}
+use Rattle.data_model.specs.Trees.{listing}
 use Rattle.values.specs.Examples.{trees}
 use Rattle.values.specs.declared.atom.Item.TheVariants as item
 use Rattle.query_tokens.specs.Lexing.{tokens}

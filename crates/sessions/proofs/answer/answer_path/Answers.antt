@@ -1,5 +1,5 @@
 use Rattle.std.proofs.Common.{◌≡◌, ◌≤◌, ap, sym, ◌∙◌, arith, Some}
-use Rattle.trees.specs.Trees.{find}
+use Rattle.data_model.specs.Trees.{find}
 use Rattle.sessions.specs.Run.{document_of}
 use Rattle.ballots.specs.Replies.{text}
 use Rattle.sessions.specs.Answers.{trees_at}

@@ -1,5 +1,5 @@
 use Rattle.std.proofs.Common.{◌≡◌, ◌∙◌, subst, Bool}
-use Rattle.trees.specs.Trees.{find, IsAt}
+use Rattle.data_model.specs.Trees.{find, IsAt}
 use Rattle.sessions.proofs.Children.{is_named, child-there, counted-yes, counted-no, counted-all}
 use Rattle.sessions.proofs.answer.count_named.Goals as goal
 use Rattle.sessions.proofs.answer.count_named.Goals.{then-is_named, else-is_named}

@@ -1,5 +1,5 @@
 use Rattle.std.proofs.Common.{◌≡◌, take, count_by}
-use Rattle.trees.specs.Trees.{find}
+use Rattle.data_model.specs.Trees.{find}
 use Rattle.sessions.specs.Answers.{trees_at}
 use Rattle.sessions.proofs.Children.{tops, is_named}
 use Rattle.sessions.proofs.answer.count_named.Given as goal

@@ -1,7 +1,7 @@
 use Rattle.std.proofs.Common.{◌≡◌, ◌+◌, Some, length, [], string_bytes, sym, ap, ◌∙◌, arith}
-use Rattle.trees.specs.Trees.{leaf, children_of}
-use Rattle.trees.specs.Changes.{with_children, splice}
-use Rattle.trees.specs.declared.node.Kind.TheVariants.{Element}
+use Rattle.data_model.specs.Trees.{leaf, children_of}
+use Rattle.data_model.specs.Changes.{with_children, splice}
+use Rattle.data_model.specs.declared.node.Kind.TheVariants.{Element}
 use Rattle.values.specs.declared.code.Code.TheVariants.{PXQ0003}
 use Rattle.trees.specs.Forest.{ForestTerm}
 use Rattle.sessions.specs.declared.execute.Outcome.TheVariants.{Done, Fault}

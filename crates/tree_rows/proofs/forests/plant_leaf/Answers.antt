@@ -1,7 +1,7 @@
 use Rattle.std.proofs.Common.{◌≡◌, ℕ, ◌<◌, ◌≤◌, ◌^◌, ap, sym, ◌∙◌, arith, subst, ⊎_elim}
 use Rattle.std.proofs.lemmas.Bool.Decides.{eqb_tells}
-use Rattle.trees.specs.Trees.{Trees, Content, append, leaf, count}
-use Rattle.trees.specs.Tree.{trees_of_tree}
+use Rattle.data_model.specs.Trees.{Trees, Content, append, leaf, count}
+use Rattle.data_model.specs.Tree.{trees_of_tree}
 use Rattle.trees.proofs.CallerLemmas.{distinct-planted}
 use Rattle.shelves.proofs.Shelves.{count-leaf}
 use Rattle.tree_rows.proofs.forests.plant_leaf.Goals as goal

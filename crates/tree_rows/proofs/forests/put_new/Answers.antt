@@ -1,8 +1,8 @@
 use Rattle.std.proofs.Common.{sym, arith, subst, string_bytes}
-use Rattle.trees.specs.Trees.{Content}
-use Rattle.trees.specs.Changes.{CanMoveBelow}
+use Rattle.data_model.specs.Trees.{Content}
+use Rattle.data_model.specs.Changes.{CanMoveBelow}
 use Rattle.trees.specs.Forest.{ForestTerm}
-use Rattle.trees.specs.declared.node.Part.TheVariants.{Attributes, Children}
+use Rattle.data_model.specs.declared.node.Part.TheVariants.{Attributes, Children}
 use Rattle.trees.proofs.CallerLemmas.{can-move-made}
 use Rattle.tree_rows.proofs.forests.put_new.Goals as goal
 

@@ -1,7 +1,7 @@
 -- An own node has the parent that it has on the shelf, since it stands in the own forest alone.
 use Rattle.std.proofs.Common.{◌≡◌, ℕ, ◌∙◌, refl, arith, subst, ⊎_elim, Option, None, IsSome}
-use Rattle.trees.specs.Trees.{Place, find, count, parent_at}
-use Rattle.trees.proofs.Climbs.{any-tells, find-absent, there-counts}
+use Rattle.data_model.specs.Trees.{Place, find, count, parent_at}
+use Rattle.data_model.proofs.Climbs.{any-tells, find-absent, there-counts}
 use Rattle.trees.proofs.CallerLemmas.{find-append}
 use Rattle.trees.proofs.Lent.{lent-apart}
 use Rattle.shelves.specs.Shelf.{ShelfTerm, IsShelf, shelf_trees}

@@ -1,6 +1,6 @@
 use Rattle.std.proofs.Common.{ℕ, None, refl, ◌≡◌, ◌+◌, length, ap, sym, ◌∙◌, arith, option_copied}
-use Rattle.trees.specs.declared.node.Part.{Part}
-use Rattle.trees.specs.declared.node.Part.TheVariants.{Attributes, Children}
+use Rattle.data_model.specs.declared.node.Part.{Part}
+use Rattle.data_model.specs.declared.node.Part.TheVariants.{Attributes, Children}
 use Rattle.trees.specs.Inside.{table_of}
 use Rattle.trees.specs.Labels.{position_in}
 use Rattle.trees.proofs.Rows.{row-entry, row-none}

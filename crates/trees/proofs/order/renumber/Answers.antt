@@ -1,12 +1,12 @@
 use Prim.Native.Nat.{suc}
 use Rattle.std.proofs.Common.{◌≡◌, ◌≢◌, ℕ, ◌+◌, ◌<◌, ◌∷◌, [], List, length, take, ap, sym, refl, ◌∙◌, arith, subst, add-one, take_all}
 use Rattle.std.specs.List.{slice_get}
-use Rattle.trees.specs.Walks.{held}
+use Rattle.data_model.specs.Walks.{held}
 use Rattle.trees.specs.Inside.{table_of}
 use Rattle.trees.specs.Labels.{place_of, lists_in, AreListed}
 use Rattle.std.proofs.lemmas.List.{length-take-le}
-use Rattle.trees.proofs.Weights.{eqb-same}
-use Rattle.trees.proofs.Firsts.{held-append}
+use Rattle.data_model.proofs.Weights.{eqb-same}
+use Rattle.data_model.proofs.Firsts.{held-append}
 use Rattle.trees.proofs.Numbers.{IsStepped, stepped-rises, stepped-last, stepped-same, step-fits, step-some, take-more, held-more, listed-there, suc-mul, none-within}
 use Rattle.trees.proofs.order.renumber.Goals as goal
 

@@ -1,6 +1,6 @@
 use Rattle.std.proofs.Common.{◌≡◌, ℕ, ◌*◌, take}
-use Rattle.trees.specs.declared.node.Part.{Part}
-use Rattle.trees.specs.Walks.{held}
+use Rattle.data_model.specs.declared.node.Part.{Part}
+use Rattle.data_model.specs.Walks.{held}
 use Rattle.trees.specs.Inside.{table_of, HasRoom}
 use Rattle.trees.specs.Labels.{place_of, lists_in}
 use Rattle.trees.proofs.Numbers.{IsStepped}

@@ -1,7 +1,7 @@
 use Rattle.std.proofs.Common.{◌≡◌, ℕ, ◌+◌, ◌<◌, Option, Some, IfSome, option_map, ap, sym, ◌∙◌, arith, subst, add-one}
 use Rattle.std.specs.List.{slice_get}
 use Rattle.trees.specs.Flat.{Table}
-use Rattle.trees.specs.Walks.{held}
+use Rattle.data_model.specs.Walks.{held}
 use Rattle.trees.specs.Inside.{table_of}
 use Rattle.trees.specs.Labels.{place_of, lists_in, get_before, HasNumbers, RisesBut}
 use Rattle.trees.proofs.Numbers.{gap-filled, gap-node, listed-there, settled, held-at}

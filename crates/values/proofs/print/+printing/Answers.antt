@@ -1,6 +1,6 @@
 -- A node's text is made of its pieces. What both calls of `push_parts` require holds of either list, so their order is a matter of the text alone.
 use Rattle.std.proofs.Common.{◌≡◌, ◌++◌, arith, refl, sym, ◌∙◌, string_bytes, codes, rules}
-use Rattle.trees.specs.Trees.{find, attributes_of, children_of}
+use Rattle.data_model.specs.Trees.{find, attributes_of, children_of}
 use Rattle.shelves.specs.Shelf.{shelf_trees}
 use Rattle.values.specs.Printing.{place_text}
 use Rattle.values.proofs.Parts.{has-parts, inner-whole, leaf-whole}

@@ -1,7 +1,7 @@
 use Rattle.std.proofs.Common.{◌∙◌, ap, sym}
-use Rattle.trees.specs.Order.{precedes}
+use Rattle.data_model.specs.Order.{precedes}
 use Rattle.shelves.specs.Shelf.{ShelfTerm, shelf_trees}
-use Rattle.trees.proofs.Climbs.{find-present}
+use Rattle.data_model.proofs.Climbs.{find-present}
 use Rattle.shelves.proofs.Shelves.{own-counts, lent-counts, precedes-lent, precedes-first, precedes-last, precedes-own}
 use Rattle.shelves.proofs.shelf.Shelf.before.Goals as goal
 

@@ -1,5 +1,5 @@
 use Rattle.std.proofs.Common.{◌∙◌, ap, sym, is_some}
-use Rattle.trees.specs.Trees.{find}
+use Rattle.data_model.specs.Trees.{find}
 use Rattle.shelves.specs.Shelf.{ShelfTerm, shelf_trees}
 use Rattle.trees.proofs.Lent.{find-lent, find-own, has-counts, has-not-counts}
 use Rattle.shelves.proofs.shelf.Shelf.has.Goals as goal

@@ -1,7 +1,7 @@
 use Rattle.std.proofs.Common.{◌∙◌, ap, sym}
-use Rattle.trees.specs.Trees.{size}
+use Rattle.data_model.specs.Trees.{size}
 use Rattle.shelves.specs.Shelf.{ShelfTerm, shelf_trees}
-use Rattle.trees.proofs.Weights.{weigh-append}
+use Rattle.data_model.proofs.Weights.{weigh-append}
 use Rattle.shelves.proofs.shelf.Shelf.len.Goals as goal
 
 pub returns : goal.returns

@@ -1,5 +1,5 @@
 use Rattle.std.proofs.Common.{◌≡◌, ℕ, ◌+◌, string_bytes, arith}
-use Rattle.trees.specs.Trees.{Content, append, leaf}
+use Rattle.data_model.specs.Trees.{Content, append, leaf}
 use Rattle.shelves.proofs.Shelves.{after-either, after-more, count-leaf}
 use Rattle.shelves.proofs.shelf.Shelf.make.Goals as goal
 

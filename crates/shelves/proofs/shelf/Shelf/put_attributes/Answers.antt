@@ -1,6 +1,6 @@
 use Rattle.std.proofs.Common.{◌≡◌, sym, subst}
-use Rattle.trees.specs.Changes.{all_moved_below, CanAllMoveBelow}
-use Rattle.trees.specs.declared.node.Part.TheVariants.{Attributes}
+use Rattle.data_model.specs.Changes.{all_moved_below, CanAllMoveBelow}
+use Rattle.data_model.specs.declared.node.Part.TheVariants.{Attributes}
 use Rattle.shelves.specs.Shelf.{ShelfTerm}
 use Rattle.shelves.proofs.Shelves.{after-either, after-weighed, count-all-moved}
 use Rattle.shelves.proofs.shelf.Shelf.put_attributes.Goals as goal

@@ -1,6 +1,6 @@
 use Rattle.std.proofs.Common.{refl, string_bytes}
-use Rattle.trees.specs.Trees.{Content}
-use Rattle.trees.specs.Changes.{with_content}
+use Rattle.data_model.specs.Trees.{Content}
+use Rattle.data_model.specs.Changes.{with_content}
 use Rattle.trees.specs.Flat.{with_text}
 use Rattle.trees.proofs.Contents.{SaysSame, weigh-with_content}
 use Rattle.shelves.proofs.Shelves.{after-weighed}

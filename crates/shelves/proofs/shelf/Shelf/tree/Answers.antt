@@ -1,6 +1,6 @@
 use Rattle.std.proofs.Common.{◌≡◌, IfOk, subst}
-use Rattle.trees.specs.Trees.{Trees}
-use Rattle.trees.specs.Tree.{trees_of_tree}
+use Rattle.data_model.specs.Trees.{Trees}
+use Rattle.data_model.specs.Tree.{trees_of_tree}
 use Rattle.shelves.specs.Shelf.{shelf_trees}
 use Rattle.trees.proofs.Nests.{same-picked}
 use Rattle.shelves.proofs.shelf.Shelf.tree.Goals as goal

@@ -1,13 +1,13 @@
 use Rattle.std.proofs.Common.{ℕ, ◌≡◌, ◌+◌, ◌≤◌, ◌<◌, ◌⊎◌, inl, inr, ⊎_elim, length, ltb, false, ap, sym, ◌∙◌, arith}
 use Rattle.std.proofs.lemmas.Bool.{cases_lt}
 use Rattle.std.proofs.lemmas.Bool.Decides.{nat_tests}
-use Rattle.trees.specs.Order.{precedes}
-use Rattle.trees.specs.Paths.{path_of, shared}
-use Rattle.trees.proofs.Climbs.{there-counts}
+use Rattle.data_model.specs.Order.{precedes}
+use Rattle.data_model.specs.Paths.{path_of, shared}
+use Rattle.data_model.proofs.Climbs.{there-counts}
 use Rattle.trees.proofs.Takes.{ltb-yes}
 use Rattle.trees.proofs.LabelSteps.{order-self}
 use Rattle.trees.proofs.Ups.{same-ids}
-use Rattle.trees.proofs.Paths.{path-length, depth-size, shared-same, lifted-same, lifted-apart}
+use Rattle.data_model.proofs.Paths.{path-length, depth-size, shared-same, lifted-same, lifted-apart}
 use Rattle.trees.proofs.forest.Forest.compared.Goals as goal
 use Rattle.trees.proofs.forest.Forest.compared.Goals.{then-high-low, else-high-low}
 

@@ -1,5 +1,5 @@
 use Rattle.std.proofs.Common.{◌∙◌, sym, arith}
-use Rattle.trees.proofs.Paths.{path-up, path-top, depth-size}
+use Rattle.data_model.proofs.Paths.{path-up, path-top, depth-size}
 use Rattle.trees.proofs.forest.Forest.level.Goals as goal
 
 pub overflow_add-levels : goal.overflow_add-levels

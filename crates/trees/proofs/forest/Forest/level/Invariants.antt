@@ -1,6 +1,6 @@
 use Rattle.std.proofs.Common.{◌≡◌, ◌+◌, IsSome}
-use Rattle.trees.specs.Trees.{find}
-use Rattle.trees.specs.Walks.{depth_of}
+use Rattle.data_model.specs.Trees.{find}
+use Rattle.data_model.specs.Walks.{depth_of}
 use Rattle.trees.proofs.forest.Forest.level.Given as goal
 
 abbrev pub invariant-loop-parent : goal.invariant-loop-parent

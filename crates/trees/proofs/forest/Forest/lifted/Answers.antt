@@ -1,9 +1,9 @@
 use Rattle.std.proofs.Common.{◌≢◌, ℕ, ◌≤◌, ◌∙◌, sym, arith, ap}
-use Rattle.trees.specs.Walks.{depth_of}
+use Rattle.data_model.specs.Walks.{depth_of}
 use Rattle.trees.proofs.LabelSteps.{order-lift, order-parent}
-use Rattle.trees.specs.Paths.{path_of, shared}
-use Rattle.trees.proofs.Paths.{path-up, path-top, path-length, shared-last}
-use Rattle.trees.proofs.Climbs.{there-counts}
+use Rattle.data_model.specs.Paths.{path_of, shared}
+use Rattle.data_model.proofs.Paths.{path-up, path-top, path-length, shared-last}
+use Rattle.data_model.proofs.Climbs.{there-counts}
 use Rattle.trees.proofs.forest.Forest.lifted.Goals as goal
 
 pub loop-preserved : goal.loop-preserved

@@ -1,6 +1,6 @@
 use Rattle.std.proofs.Common.{min, ap, ◌∙◌, arith}
-use Rattle.trees.specs.Paths.{path_of}
-use Rattle.trees.proofs.Paths.{path-height, steps-most, unwrap-min}
+use Rattle.data_model.specs.Paths.{path_of}
+use Rattle.data_model.proofs.Paths.{path-height, steps-most, unwrap-min}
 use Rattle.trees.proofs.forest.Forest.order_steps.Goals as goal
 
 pub returns-clause-steps : goal.returns-clause-steps

@@ -1,15 +1,15 @@
 use Rattle.std.proofs.Common.{◌≡◌, ◌+◌, ◌++◌, ◌∷◌, [], length, ap, sym, refl, ◌∙◌, arith, Some}
-use Rattle.trees.specs.Paths.{path_of, shared}
-use Rattle.trees.specs.Walks.{depth_of}
-use Rattle.trees.specs.Trees.{parent_of}
+use Rattle.data_model.specs.Paths.{path_of, shared}
+use Rattle.data_model.specs.Walks.{depth_of}
+use Rattle.data_model.specs.Trees.{parent_of}
 use Rattle.trees.specs.Inside.{table_of}
 use Rattle.trees.specs.Labels.{place_of}
-use Rattle.trees.proofs.Climbs.{there-counts}
-use Rattle.trees.proofs.Firsts.{lt-is}
+use Rattle.data_model.proofs.Climbs.{there-counts}
+use Rattle.data_model.proofs.Firsts.{lt-is}
 use Rattle.trees.proofs.Forests.{now-table}
 use Rattle.trees.proofs.LabelSteps.{order-siblings, order-both}
 use Rattle.trees.proofs.Ups.{orders-of, order-roots, parent-zero, same-ids, other-ids}
-use Rattle.trees.proofs.Paths.{path-up, path-top, path-zero, path-length, shared-both, shared-same}
+use Rattle.data_model.proofs.Paths.{path-up, path-top, path-zero, path-length, shared-both, shared-same}
 use Rattle.trees.proofs.forest.Forest.parted.Goals as goal
 
 pub loop-above_first-smaller : goal.loop-above_first-smaller

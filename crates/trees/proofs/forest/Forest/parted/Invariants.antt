@@ -1,8 +1,8 @@
 use Rattle.std.proofs.Common.{◌≡◌, ◌≢◌, ◌≤◌, IsSome}
-use Rattle.trees.specs.Trees.{find}
-use Rattle.trees.specs.Order.{precedes}
-use Rattle.trees.specs.Walks.{depth_of}
-use Rattle.trees.specs.Paths.{path_of, shared}
+use Rattle.data_model.specs.Trees.{find}
+use Rattle.data_model.specs.Order.{precedes}
+use Rattle.data_model.specs.Walks.{depth_of}
+use Rattle.data_model.specs.Paths.{path_of, shared}
 use Rattle.trees.proofs.forest.Forest.parted.Given as goal
 
 -- both are at one level, and what they share and which is first is as with the two nodes

@@ -4,11 +4,11 @@ use Rattle.std.specs.Prelude.{OkIff, min}
 use Rattle.std.specs.Result.{result_unwrap_or}
 use Rattle.std.proofs.lemmas.Bool.{cases_lt}
 use Rattle.std.proofs.lemmas.Bool.Decides.{nat_tests, eqb_tells}
-use Rattle.trees.specs.Trees.{Trees, no_trees, tree, Content, find, find_below, first, parent_at, parent_of, count, size, height}
-use Rattle.trees.specs.Walks.{depth_of}
-use Rattle.trees.specs.Paths.{path_of, shared, steps}
-use Rattle.trees.proofs.Weights.{eqb-same}
-use Rattle.trees.proofs.Climbs.{AreDistinct, any-tells, find-absent, find-present, first-some, there-counts}
+use Rattle.data_model.specs.Trees.{Trees, no_trees, tree, Content, find, find_below, first, parent_at, parent_of, count, size, height}
+use Rattle.data_model.specs.Walks.{depth_of}
+use Rattle.data_model.specs.Paths.{path_of, shared, steps}
+use Rattle.data_model.proofs.Weights.{eqb-same}
+use Rattle.data_model.proofs.Climbs.{AreDistinct, any-tells, find-absent, find-present, first-some, there-counts}
 
 -- ---- what two lists share
 pub shared-same : (l : List ℕ) → shared l l ≡ length l

@@ -1,6 +1,6 @@
 -- The way from a root down to a node, and how much of it two nodes share.
 use Rattle.std.specs.Prelude.{ℕ, ◌+◌, ◌&&◌, cond, eqb, ltb, List, [], ◌∷◌, length}
-use Rattle.trees.specs.Trees.{Trees, no_trees, tree, count}
+use Rattle.data_model.specs.Trees.{Trees, no_trees, tree, count}
 
 -- the identities from the root of the node's tree down to the node i
 abbrev pub path_of : ℕ → Trees → List ℕ

@@ -1,0 +1,5 @@
+pub mod Weights
+pub mod Climbs
+pub mod Paths
+pub mod Scans
+pub mod Firsts

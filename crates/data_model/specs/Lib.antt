@@ -1,0 +1,10 @@
+pub mod Trees
+pub mod Changes
+pub mod Order
+pub mod Paths
+pub mod Tidy
+pub mod Tree
+pub mod Planted
+pub mod Axes
+pub mod Walks
+pub mod Nested

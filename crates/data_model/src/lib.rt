@@ -1,0 +1,12 @@
+//! XDM nodes: identities, kinds, names and texts; trees of nodes, their axes and their document order.
+//!
+//! Contracts speak of nested trees (`specs/Trees.antt`). The forests that nodes stand in are the crate `trees`.
+#![tactic(auto)]
+
+mod axis;
+mod node;
+mod tree;
+
+pub use axis::Axis;
+pub use node::{Content, Kind, NodeId, Part};
+pub use tree::Tree;
