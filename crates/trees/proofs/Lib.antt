@@ -19,6 +19,7 @@ pub mod Onces
 pub mod Plants
 pub mod Labels
 pub mod LabelSteps
+pub mod LabelLists
 pub mod Ordered
 pub mod Numbers
 pub mod Listings

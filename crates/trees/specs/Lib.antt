@@ -2,3 +2,4 @@ pub mod Forest
 pub mod Flat
 pub mod Inside
 pub mod Labels
+pub mod Steps

@@ -1,12 +1,13 @@
 //! Forests: trees of nodes, documents by name, and the next identity.
 
-ghost use Rattle.std.specs.Prelude.{◌≡◌, ◌≢◌, ℕ, ◌+◌, ◌<◌, ◌≤◌, ◌^◌, ◌↔◌, ◌-◌, min, Option, Some, None, IfOk, OnOk, OnErr, IfSome, IsErrOf, IsSome, List, [], ◌∷◌, ◌++◌, length, map, is_some, string_bytes, IsTrue, true, false, max, option_map};
+ghost use Rattle.std.specs.Prelude.{◌≡◌, ◌≢◌, ℕ, ◌+◌, ◌<◌, ◌≤◌, ◌^◌, ◌↔◌, ◌-◌, min, Option, Some, None, IfOk, OnOk, OnErr, IfSome, IsErrOf, IsSome, List, [], ◌∷◌, ◌++◌, length, map, filter, is_some, string_bytes, IsTrue, true, false, max, option_map};
 ghost use Rattle.std.specs.Map.{lookup};
 ghost use Rattle.std.specs.Str.{bytes_eq};
 ghost use Rattle.data_model.specs.Trees.{no_trees, append, leaf, find, count, size, height, children_of, attributes_of, parent_of, string_value_of, text_within, IsAt, Content as NodeContent};
 ghost use Rattle.data_model.specs.Changes.{with_children, with_attributes, with_content, splice, taken_out, all_moved_below, CanAllMoveBelow, pick, renumbered, ranked};
 ghost use Rattle.data_model.specs.declared.node.Part.TheVariants.{Attributes, Children};
-ghost use Rattle.data_model.specs.Order.{precedes};
+ghost use Rattle.data_model.specs.Order.{identities, precedes};
+ghost use Rattle.data_model.specs.Axes.{is_in};
 ghost use Rattle.trees.specs.Forest.{ForestTerm, IsForest, IsDocument, document_node, opening_forest};
 ghost use Rattle.data_model.specs.Tree.{trees_of_tree};
 ghost use Rattle.data_model.specs.Planted.{past};
@@ -17,7 +18,7 @@ ghost use Rattle.trees.specs.Flat.{entry_in};
 ghost use Rattle.trees.specs.Inside.{entry_of_row};
 
 use super::table::{Row, Rows};
-use super::{copy, order, plant, table, tree, walk};
+use super::{copy, label, order, plant, table, tree, walk};
 use data_model::{Content, Kind, NodeId, Part, Tree};
 use document_names::Names;
 use indexmap::IndexMap;
@@ -373,6 +374,23 @@ impl Forest {
     {
         let (before, steps) = self.compared(a, b);
         (before, u32::try_from(steps).unwrap_or(u32::MAX))
+    }
+
+    /// The nodes of a list in document order, each once (XQuery 1.0 and XPath 2.0 Data Model, section 2.4). Those that do not stand
+    /// here are left out.
+    ///
+    /// A node's label is read once, by going up from it, and a list of n nodes takes n log n comparisons of labels, or n where it is
+    /// in order already. A node alone takes no label. Where memory is refused, the list is gone.
+    pub fn document_order(&self, alloc: Global, ids: Vec<NodeId>) -> Result<Vec<NodeId>, AllocError>
+        ensures { IfOk result (λ nodes. nodes.items ≡ filter (λ i. is_in i ids.items) (identities self.now.trees)) }
+    {
+        self.facts();
+        if ids.len() == 1 && self.has(ids[0]) {
+            return Ok(ids);
+        }
+        let mut labelled = label::with_labels(&self.rows, alloc, &ids, self.next)?;
+        labelled.sort_unstable();
+        label::nodes_of(&labelled, ids)
     }
 
     /// Makes a node with no parent, which takes the next identity.

@@ -5,6 +5,7 @@
 
 mod copy;
 mod forest;
+mod label;
 pub mod laws;
 mod order;
 mod plant;
