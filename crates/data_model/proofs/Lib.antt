@@ -3,3 +3,5 @@ pub mod Climbs
 pub mod Paths
 pub mod Scans
 pub mod Firsts
+pub mod Lists
+pub mod Turns

@@ -9,4 +9,4 @@ mod tree;
 
 pub use axis::Axis;
 pub use node::{Content, Kind, NodeId, Part};
-pub use tree::Tree;
+pub use tree::{Tree, node_count, past_identities};

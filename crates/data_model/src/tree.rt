@@ -1,6 +1,8 @@
 //! Trees of their own, which own what is below them.
 
-ghost use Rattle.std.specs.Prelude.{◌≡◌};
+ghost use Rattle.std.specs.Prelude.{◌≡◌, ◌<◌, ◌≤◌, ◌^◌};
+ghost use Rattle.data_model.specs.Trees.{size};
+ghost use Rattle.data_model.specs.Planted.{past};
 ghost use Rattle.data_model.specs.Tree.{all_of};
 
 use super::node::Content;
@@ -69,4 +71,32 @@ impl Tree {
     {
         &self.children
     }
+}
+
+/// How many nodes some trees have.
+pub fn node_count(trees: &[Tree]) -> u64
+    requires { size (all_of trees.now) < 2 ^ 64 }
+    ensures { result ≡ size (all_of trees.now) }
+{
+    let mut nodes = 0;
+    for tree in trees {
+        nodes += 1 + node_count(tree.attributes());
+        nodes += node_count(tree.children());
+    }
+    nodes
+}
+
+/// One more than the largest identity of some trees, or 0 where there is none.
+pub fn past_identities(trees: &[Tree]) -> u64
+    requires { past (all_of trees.now) ≤ 2 ^ 62 }
+    ensures { result ≡ past (all_of trees.now) }
+{
+    let mut end = 0;
+    for tree in trees {
+        let content = tree.content();
+        end = end.max(content.identity.number() + 1);
+        end = end.max(past_identities(tree.attributes()));
+        end = end.max(past_identities(tree.children()));
+    }
+    end
 }

@@ -1,19 +1,8 @@
 -- Labels that are read upwards, and lists of nodes with their labels.
-use Rattle.std.proofs.Common.{◌≡◌, ℕ, ◌+◌, ◌<◌, Bool, true, false, List, [], ◌∷◌, ◌++◌, length, take, drop, get_or, cond, map, filter, reverse, refl, ap, sym, ◌∙◌, arith, append-nil, Option, Some, None, option_map}
+use Rattle.std.proofs.Common.{◌≡◌, ℕ, ◌+◌, ◌<◌, Bool, true, false, List, [], ◌∷◌, ◌++◌, length, take, drop, get_or, cond, map, filter, reverse, ap, sym, ◌∙◌, arith, append-nil}
 use Rattle.std.proofs.lemmas.List.{take_all, drop_all, append_assoc, reverse-append, map_push}
 use Rattle.std.proofs.lemmas.List.Elements.{filter_more}
 use Rattle.trees.specs.declared.label.Labelled.{Labelled}
-use Rattle.trees.specs.declared.label.Step.{Step}
-use Rattle.trees.specs.Steps.{step_from}
-
--- ---- what was read of a row
-pub read-some : (o : Option ℕ) (n : ℕ) (s : Step) → option_map (step_from n) o ≡ Some s → (o ≡ Some s.parent) × (s.place ≡ n)
-read-some None n s h = cc
-read-some (Some x) n s h = (ap (option_map (λ (t : Step). t.parent)) h, sym (ap (λ (o : Option Step). elim o as (λ _. ℕ) [ None ↦ n | Some t ↦ t.place ]) h))
-
-pub read-none : (o : Option ℕ) (n : ℕ) → option_map (step_from n) o ≡ None → o ≡ None
-read-none None n h = refl
-read-none (Some x) n h = cc
 
 -- ---- numbers that are read from the last to the first
 pub read-back : (front xs ys : List ℕ) (x : ℕ) → ys ≡ xs ++ x ∷ [] → (front ++ x ∷ []) ++ reverse xs ≡ front ++ reverse ys

@@ -1,4 +1,3 @@
-pub mod Lists
 pub mod Tables
 pub mod Puts
 pub mod Makes

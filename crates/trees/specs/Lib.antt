@@ -2,4 +2,3 @@ pub mod Forest
 pub mod Flat
 pub mod Inside
 pub mod Labels
-pub mod Steps

@@ -676,8 +676,8 @@ impl Forest {
         let trees = slice::from_ref(tree);
         match plant::plant_all(&mut self.rows, alloc, trees, None, 0) {
             Ok(_) => {
-                self.nodes += plant::count_all(trees);
-                self.next = plant::larger(self.next, plant::past_all(trees));
+                self.nodes += data_model::node_count(trees);
+                self.next = self.next.max(data_model::past_identities(trees));
                 Ok(())
             }
             Err(_) => {

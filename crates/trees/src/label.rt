@@ -1,11 +1,10 @@
 //! Labels of nodes: numbers that compare as nodes do in document order.
 
-ghost use Rattle.std.specs.Prelude.{◌≡◌, Option, option_map, is_some, IfOk, OnOk, IsSome, All, map, filter, eqb};
+ghost use Rattle.std.specs.Prelude.{◌≡◌, is_some, IfOk, OnOk, IsSome, All, map, filter, eqb};
 ghost use Rattle.std.specs.List.{dedup};
 ghost use Rattle.trees.specs.Flat.{IsTableOf};
 ghost use Rattle.trees.specs.Inside.{table_of, trees_of};
-ghost use Rattle.trees.specs.Labels.{place_of, parent_in, label_of};
-ghost use Rattle.trees.specs.Steps.{step_from};
+ghost use Rattle.trees.specs.Labels.{place_of, label_of};
 
 use super::table::Rows;
 use data_model::NodeId;
@@ -22,29 +21,6 @@ pub struct Labelled {
     pub node: NodeId,
 }
 
-/// What a step up from a node finds: its parent, and the number that the node's own row carries.
-#[derive(Clone, Copy)]
-struct Step {
-    parent: NodeId,
-    place: u64,
-}
-
-/// The step up from a node; `None` where it has no parent.
-fn step_up(rows: &Rows, id: NodeId) -> Option<Step>
-    ensures { result ≡ option_map (step_from (place_of rows.now id)) (parent_in (table_of rows.now id)) }
-{
-    match rows.get(&id.number()) {
-        Some(row) => match row.parent {
-            Some(parent) => Some(Step {
-                parent,
-                place: row.place,
-            }),
-            None => None,
-        },
-        None => None,
-    }
-}
-
 /// The label of a node that has at most so many others above it.
 fn read_label(rows: &Rows, alloc: Global, id: NodeId, levels: u64) -> Result<Label, AllocError>
     requires table { IsTableOf (table_of rows.now) levels (trees_of (table_of rows.now) levels) }
@@ -54,11 +30,14 @@ fn read_label(rows: &Rows, alloc: Global, id: NodeId, levels: u64) -> Result<Lab
     let mut label = SmallVec::new(alloc);
     let mut at = id;
     for _ in 0..levels {
-        let Some(step) = step_up(rows, at) else {
+        let Some(row) = rows.get(&at.number()) else {
             break;
         };
-        label.push(step.place)?;
-        at = step.parent;
+        let Some(parent) = row.parent else {
+            break;
+        };
+        label.push(row.place)?;
+        at = parent;
     }
     label.push(at.number())?;
     label.as_mut_slice().reverse();

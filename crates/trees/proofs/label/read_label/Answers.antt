@@ -1,12 +1,13 @@
-use Rattle.std.proofs.Common.{◌≡◌, ◌++◌, ◌∷◌, [], length, ap, sym, ◌∙◌, arith, reverse}
+use Rattle.std.proofs.Common.{◌≡◌, ◌++◌, ◌∷◌, [], length, ap, sym, ◌∙◌, arith, reverse, option_copied}
 use Rattle.std.proofs.lemmas.List.{reverse-append}
 use Rattle.data_model.proofs.Paths.{depth-size}
 use Rattle.trees.specs.Inside.{table_of, trees_of}
 use Rattle.trees.specs.Labels.{place_of, parent_in, label_of}
-use Rattle.trees.proofs.LabelLists.{read-some, read-none, read-back, whole-write}
+use Rattle.trees.proofs.LabelLists.{read-back, whole-write}
+use Rattle.trees.proofs.Rows.{row-entry, row-none, place-some}
 use Rattle.trees.proofs.Ups.{row-label-up, row-label-top, row-label-end}
 use Rattle.trees.proofs.label.read_label.Goals as goal
-use Rattle.trees.proofs.label.read_label.Goals.{else-loop-test, then-loop-test+in_default}
+use Rattle.trees.proofs.label.read_label.Goals.{else-loop-test, then-loop-test+in_default, then-loop-test+in-Some+in_default-parent}
 
 pub loop-preserved : goal.loop-preserved
 loop-preserved c =
@@ -15,15 +16,17 @@ loop-preserved c =
     let f = table_of m in
     let ts = trees_of f c.args.levels in
     let w = place_of m in
-    let read = read-some (parent_in (f c.loop.at)) (w c.loop.at) c.in-Some.step (sym c.step_up.ensures ∙ c.in-Some.is) in
-    let up = row-label-up w f c.args.levels ts c.requires.table c.loop.at c.in-Some.step.parent i.there read.0 in
+    let read = sym c.get.ensures.value ∙ ap option_copied c.in-Some.is in
+    let at = rw c.number.ensures at (row-entry m c.number.result c.in-Some.row.now read) in
+    let place = rw c.number.ensures at (place-some m c.number.result c.in-Some.row.now read) in
+    let up = row-label-up w f c.args.levels ts c.requires.table c.loop.at c.in-Some-parent.parent i.there (ap parent_in at ∙ c.in-Some-parent.is) in
     let level = up.1 in
     let was = i.level in
-    let pushed = c.in_ok-push.ensures.ok ∙ ap (λ n. c.loop.label.items ++ n ∷ []) read.1 in
+    let pushed = c.in_ok-push.ensures.ok ∙ ap (λ n. c.loop.label.items ++ n ∷ []) (sym place) in
     record {
       there = up.0;
       level = omega arith;
-      label = i.label ∙ ap (λ l. l ++ reverse c.loop.label.items) up.2 ∙ read-back (label_of w c.in-Some.step.parent ts) c.loop.label.items _ (w c.loop.at) pushed;
+      label = i.label ∙ ap (λ l. l ++ reverse c.loop.label.items) up.2 ∙ read-back (label_of w c.in-Some-parent.parent ts) c.loop.label.items _ (w c.loop.at) pushed;
     }
 
 pub returns : goal.returns
@@ -37,10 +40,12 @@ returns c =
     let top : label_of w c.loop.at ts ≡ c.loop.at ∷ [] =
     elim c.loop-test.branch [
       | else-loop-test b ↦ (let over = b.loop-test.false in let level = i.level in let deep = depth-size c.args.id ts in let few = h.fits in row-label-end w f c.args.levels ts h c.loop.at i.there (omega arith))
-      | then-loop-test+in_default b ↦ row-label-top w f c.args.levels ts h c.loop.at i.there (read-none (parent_in (f c.loop.at)) (w c.loop.at) (sym b.step_up.ensures ∙ b.in_default.is))
+      | then-loop-test+in_default b ↦ row-label-top w f c.args.levels ts h c.loop.at i.there (ap parent_in (rw b.number.ensures at (row-none m b.number.result (sym b.get.ensures.value ∙ ap option_copied b.in_default.is))))
+      | then-loop-test+in-Some+in_default-parent b ↦
+          row-label-top w f c.args.levels ts h c.loop.at i.there (ap parent_in (rw b.number.ensures at (row-entry m b.number.result b.in-Some.row.now (sym b.get.ensures.value ∙ ap option_copied b.in-Some.is))) ∙ b.in_default-parent.is)
     ] in
     let same = c.reverse.ensures.after ∙ ap reverse c.as_mut_slice.ensures.value in
     let len = c.reverse.ensures.len in
     let value = ap length c.as_mut_slice.ensures.value in
-    whole-write _ _ (omega arith) ∙ same ∙ ap reverse (c.in_ok-push-2.ensures.ok ∙ ap (λ n. c.loop.label.items ++ n ∷ []) c.number.ensures) ∙ reverse-append c.loop.label.items (c.loop.at ∷ [])
+    whole-write _ _ (omega arith) ∙ same ∙ ap reverse (c.in_ok-push-2.ensures.ok ∙ ap (λ n. c.loop.label.items ++ n ∷ []) c.number-2.ensures) ∙ reverse-append c.loop.label.items (c.loop.at ∷ [])
     ∙ sym (i.label ∙ ap (λ l. l ++ reverse c.loop.label.items) top)
