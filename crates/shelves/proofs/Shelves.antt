@@ -1,9 +1,10 @@
 -- The two forests of a shelf.
-use Rattle.std.proofs.Common.{◌≡◌, ℕ, ◌+◌, ◌≤◌, ◌<◌, [], ◌∷◌, ◌++◌, refl, ap, sym, ◌∙◌, arith, ⊎_elim, Option, Some, None, IsSome, IfSome, is_some, true, false, unwrap_or, append_assoc, subst, Result, Ok, Err, IfOk, OnErr, List, map, cond, eqb}
+use Rattle.std.proofs.Common.{◌≡◌, ℕ, ◌+◌, ◌≤◌, ◌<◌, [], ◌∷◌, ◌++◌, refl, ap, sym, ◌∙◌, arith, ⊎_elim, Option, Some, None, IsSome, IfSome, is_some, true, false, unwrap_or, append_assoc, subst, Result, Ok, Err, IfOk, OnErr, Bool, List, map, filter, append-nil, cond, eqb}
 use Prim.Native.Nat.{suc}
 use Rattle.std.proofs.lemmas.List.{map-append}
+use Rattle.std.proofs.lemmas.List.Elements.{filter-append}
 use Rattle.std.proofs.lemmas.Bool.Decides.{eqb_tells}
-use Rattle.data_model.specs.Trees.{Trees, no_trees, tree, Content, Place, append, leaf, listing, count, find, first, parent_at, IsAt}
+use Rattle.data_model.specs.Trees.{Trees, no_trees, tree, Content, Place, append, leaf, listing, count, size, find, first, parent_at, IsAt}
 use Rattle.data_model.specs.Changes.{all_moved_below, CanAllMoveBelow}
 use Rattle.data_model.specs.declared.node.Kind.TheVariants.{Document}
 use Rattle.data_model.specs.declared.node.Part.{Part}
@@ -69,6 +70,19 @@ seen-both a b ts us =
     let n : Content → ℕ = λ d. d.identity in
     before-seen a b (identities (append ts us)) ∙ ap (λ (cs : List Content). unwrap_or (seen a b (map n cs)) false) (listing-append ts us)
     ∙ ap (λ xs. unwrap_or (seen a b xs) false) (map-append n (listing ts) (listing us)) ∙ ap (λ o. unwrap_or o false) (seen-append a b (identities ts) (identities us))
+
+-- what of both forests' nodes passes a test
+pub passing-both : (p : ℕ → Bool) (ts us : Trees) → filter p (identities (append ts us)) ≡ filter p (identities ts) ++ filter p (identities us)
+passing-both p ts us =
+    let n : Content → ℕ = λ d. d.identity in
+    ap (λ (cs : List Content). filter p (map n cs)) (listing-append ts us) ∙ ap (filter p) (map-append n (listing ts) (listing us)) ∙ filter-append p (identities ts) (identities us)
+
+none-pass : (p : ℕ → Bool) (us : Trees) → size us ≡ 0 → filter p (identities us) ≡ []
+none-pass p no_trees h = refl
+none-pass p (tree c bs cs rest) h = absurd (omega arith)
+
+pub passing-lent : (p : ℕ → Bool) (ts us : Trees) → size us ≡ 0 → filter p (identities (append ts us)) ≡ filter p (identities ts)
+passing-lent p ts us h = passing-both p ts us ∙ ap (λ l. filter p (identities ts) ++ l) (none-pass p us h) ∙ append-nil (filter p (identities ts))
 
 module _ (a b : ℕ) (ts us : Trees) where
   held-some : (i : ℕ) → 0 < count i ts → 0 < held i (identities ts)

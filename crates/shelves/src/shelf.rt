@@ -1,12 +1,13 @@
 //! Shelves: a lent forest and an own one, seen as one.
 
-ghost use Rattle.std.specs.Prelude.{◌≡◌, ℕ, ◌+◌, ◌<◌, ◌≤◌, ◌^◌, ◌↔◌, Option, Some, None, IfOk, OnOk, OnErr, IfSome, IsErrOf, IsSome, List, [], is_some, string_bytes, option_map};
+ghost use Rattle.std.specs.Prelude.{◌≡◌, ℕ, ◌+◌, ◌<◌, ◌≤◌, ◌^◌, ◌↔◌, Option, Some, None, IfOk, OnOk, OnErr, IfSome, IsErrOf, IsSome, List, [], filter, is_some, string_bytes, option_map};
 ghost use Rattle.std.specs.Map.{lookup};
 ghost use Rattle.std.specs.Str.{bytes_eq};
 ghost use Rattle.data_model.specs.Trees.{no_trees, append, leaf, find, size, children_of, attributes_of, parent_of, string_value_of, text_within, IsAt};
 ghost use Rattle.data_model.specs.Changes.{with_content, taken_out, all_moved_below, CanAllMoveBelow, pick, renumbered};
 ghost use Rattle.data_model.specs.declared.node.Part.TheVariants.{Attributes, Children};
-ghost use Rattle.data_model.specs.Order.{precedes};
+ghost use Rattle.data_model.specs.Order.{identities, precedes};
+ghost use Rattle.data_model.specs.Axes.{is_in};
 ghost use Rattle.trees.specs.Forest.{IsDocument};
 ghost use Rattle.shelves.specs.Shelf.{ShelfTerm, shelf_trees, IsShelf};
 ghost use Rattle.data_model.specs.Tree.{trees_of_tree};
@@ -217,6 +218,23 @@ impl<'a> Shelf<'a> {
             (true, false) => false,
             (true, true) => self.own.before(a, b),
         }
+    }
+
+    /// The nodes of a list in document order, each once (XQuery 1.0 and XPath 2.0 Data Model, section 2.4): those of the lent forest,
+    /// then the own ones. Those that stand in neither are left out.
+    ///
+    /// It takes what `Forest::document_order` does, in the lent forest and, where there are own nodes, in the own one. Where memory is
+    /// refused, the list is gone.
+    pub fn document_order(&self, alloc: Global, ids: Vec<NodeId>) -> Result<Vec<NodeId>, AllocError>
+        ensures { IfOk result (λ nodes. nodes.items ≡ filter (λ i. is_in i ids.items) (identities (shelf_trees self.now))) }
+    {
+        if self.own.len() == 0 {
+            return self.lent.document_order(alloc, ids);
+        }
+        let mut own = self.own.document_order(alloc, ids.clone()?)?;
+        let mut nodes = self.lent.document_order(alloc, ids)?;
+        nodes.append(&mut own)?;
+        Ok(nodes)
     }
 
     /// Makes an own node with no parent, which takes the next identity.
