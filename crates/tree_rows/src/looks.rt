@@ -2,7 +2,8 @@
 //!
 //! `nodes` shows all nodes and `totals` how many there are; `value NUMBER MOST` the string value of a node, where it has at most so many
 //! bytes; `document NAME` the number of a document in the forest and on the shelf, or 0; `order NUMBER ..` for each of these nodes a word
-//! with a mark for each of them: `<` where it comes before that one in document order; `tree NUMBER` the outline of a node's tree; `print
+//! with a mark for each of them: `<` where it comes before that one in document order; `sorted NUMBER ..` those of these nodes that stand
+//! there, in document order and each once; `tree NUMBER` the outline of a node's tree; `print
 //! NUMBER` its printed text; `typed NUMBER` its typed value; `duplicate` all nodes of an equal forest, and how many they are; and `own`,
 //! as the last one, how many own nodes the shelf leaves.
 
@@ -65,6 +66,7 @@ fn shown(
         "value" => value_within(alloc, shelf, words),
         "document" => document(alloc, forest, shelf, words),
         "order" => order(alloc, shelf, words),
+        "sorted" => sorted(alloc, shelf, words),
         "tree" => tree(alloc, shelf, take_node(words)?),
         "print" => printed(alloc, shelf, take_node(words)?),
         "typed" => typed(alloc, shelf, take_node(words)?),
@@ -131,6 +133,22 @@ fn order(alloc: Global, shelf: &Shelf<'_>, words: &mut Words<'_>) -> Result<Stri
         push_order(&mut out, shelf, *id, &nodes)?;
     }
     Ok(out)
+}
+
+/// `NUMBER ..`: those of these nodes that stand there, in document order and each once.
+fn sorted(alloc: Global, shelf: &Shelf<'_>, words: &mut Words<'_>) -> Result<String, RowFault> {
+    let nodes = shelf.document_order(alloc, take_nodes(alloc, words)?)?;
+    let mut out = String::from_str(alloc, "sorted")?;
+    for id in nodes.iter() {
+        push_id(&mut out, *id)?;
+    }
+    Ok(out)
+}
+
+/// Appends the number of a node.
+fn push_id(out: &mut String, id: NodeId) -> Result<(), AllocError> {
+    let number = id.number();
+    write!(out, " {number}")
 }
 
 /// The numbers up to the next word that is none, as nodes.
