@@ -1,6 +1,6 @@
 # `make` alone lists the targets.
 
-.PHONY: help demo test edits refusals paxq measure examples bench sweep clean
+.PHONY: help demo test edits refusals paxq measure expressions examples bench sweep clean
 
 help:
 	@echo 'make demo      builds paxq without waiting for its proof, and runs examples/first.pxq'
@@ -10,7 +10,8 @@ help:
 	@echo 'make paxq      proves paxq and what it stands on, and leaves the program at bin/paxq'
 	@echo 'make examples  runs bin/paxq on the examples and on input that it refuses'
 	@echo 'make measure   proves measure, which runs parts for the benchmarks, and leaves it at bin/measure'
-	@echo 'make bench     measures bin/paxq and bin/measure (figures for docs/BENCHMARKS.md)'
+	@echo 'make expressions  proves query_rows, which evaluates expressions for the benchmarks, and leaves it at bin/query_rows'
+	@echo 'make bench     measures bin/paxq, bin/measure and bin/query_rows (figures for docs/BENCHMARKS.md)'
 	@echo 'make sweep     runs bin/paxq with each allocation refused in turn (needs a C compiler)'
 	@echo 'make clean     removes what builds made'
 
@@ -40,10 +41,16 @@ measure:
 	cd crates/measure && rt run -- votes 1000
 	mkdir -p bin && cp crates/measure/out/measure bin/measure
 
-bench: paxq measure
+expressions:
+	.ci/prove query_rows
+	cd crates/query_rows/data && rt run query_rows -- control.rows > /dev/null
+	mkdir -p bin && cp crates/query_rows/out/query_rows bin/query_rows
+
+bench: paxq measure expressions
 	bench/run bin/paxq
 	bench/limits bin/paxq
 	bench/parts bin/measure
+	bench/expressions bin/query_rows
 
 sweep: paxq bin/refuse.so
 	bench/sweep bin/paxq bin/refuse.so
