@@ -8,3 +8,4 @@ pub mod Planted
 pub mod Axes
 pub mod Walks
 pub mod Nested
+pub mod Views

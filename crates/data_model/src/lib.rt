@@ -8,5 +8,5 @@ mod node;
 mod tree;
 
 pub use axis::Axis;
-pub use node::{Content, Kind, NodeId, Part};
+pub use node::{Content, Kind, NodeId, NodeView, Part};
 pub use tree::{Tree, node_count, past_identities};

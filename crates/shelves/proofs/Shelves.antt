@@ -9,6 +9,8 @@ use Rattle.data_model.specs.Changes.{all_moved_below, CanAllMoveBelow}
 use Rattle.data_model.specs.declared.node.Kind.TheVariants.{Document}
 use Rattle.data_model.specs.declared.node.Part.{Part}
 use Rattle.data_model.specs.Order.{identities, precedes}
+use Rattle.data_model.specs.declared.node.NodeView.{NodeView}
+use Rattle.data_model.specs.Views.{Views}
 use Rattle.data_model.specs.Walks.{held, seen, or_else}
 use Rattle.trees.specs.Forest.{ForestTerm, IsForest, IsDocument}
 use Rattle.shelves.specs.Shelf.{ShelfTerm, ComesAfter, IsShelf, shelf_trees}
@@ -150,3 +152,23 @@ count-all-moved part p m (k ∷ ks) ts d can i =
     let one : count p ts ≡ 1 = omega arith in
     let same = λ (j : ℕ). weigh-moved (λ x. cond (eqb j x) 1 0) part m p k ts one can.0.apart in
     count-all-moved part p (suc m) ks _ (λ j. (let e = same j in let l = d j in omega arith)) can.1 i ∙ same i
+
+-- ---- what one look-up reads
+view-there : (v : NodeView) (o : Option Place) → Views (Some v) o → is_some o ≡ true
+view-there v None h = absurd h
+view-there v (Some x) h = refl
+
+view-absent : (o : Option Place) → Views None o → is_some o ≡ false
+view-absent None h = refl
+view-absent (Some x) h = absurd h
+
+module _ (u v : ForestTerm) (s : ShelfTerm) (is : record { lent = u; own = v } ≡ s) (facts : IsForest u) (after : ComesAfter u v) (i : ℕ) where
+  pub view-own : (w : NodeView) → Views (Some w) (find i v.trees) → Views (Some w) (find i (shelf_trees s))
+  view-own w h =
+      let there = has-counts i v.trees (view-there w (find i v.trees) h) in
+      let none : count i u.trees ≡ 0 = ⊎_elim (λ t. (let z : count i v.trees ≡ 0 = lent-apart u v facts after.apart i t.1 in absurd (omega arith))) (λ t. t.1) (any-tells (count i u.trees)) in
+      let found : find i v.trees ≡ find i (append u.trees v.trees) = sym (find-append None i u.trees v.trees ∙ ap (λ o. first o (find i v.trees)) (find-absent None i u.trees none)) in
+      subst (Views (Some w)) (found ∙ ap (λ (t : ShelfTerm). find i (shelf_trees t)) is) h
+
+  pub view-lent : (o : Option NodeView) → Views None (find i v.trees) → Views o (find i u.trees) → Views o (find i (shelf_trees s))
+  view-lent o none h = subst (Views o) (sym (find-not-own i u.trees v.trees (view-absent (find i v.trees) none)) ∙ ap (λ (t : ShelfTerm). find i (shelf_trees t)) is) h

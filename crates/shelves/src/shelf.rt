@@ -7,6 +7,7 @@ ghost use Rattle.data_model.specs.Trees.{no_trees, append, leaf, find, size, chi
 ghost use Rattle.data_model.specs.Changes.{with_content, taken_out, all_moved_below, CanAllMoveBelow, pick, renumbered};
 ghost use Rattle.data_model.specs.declared.node.Part.TheVariants.{Attributes, Children};
 ghost use Rattle.data_model.specs.Order.{identities, precedes};
+ghost use Rattle.data_model.specs.Views.{Views};
 ghost use Rattle.data_model.specs.Axes.{is_in};
 ghost use Rattle.trees.specs.Forest.{IsDocument};
 ghost use Rattle.shelves.specs.Shelf.{ShelfTerm, shelf_trees, IsShelf};
@@ -14,7 +15,7 @@ ghost use Rattle.data_model.specs.Tree.{trees_of_tree};
 
 use std::alloc::{AllocError, Global};
 use std::marker::Model;
-use trees::{Forest, Kind, MakeFault, NodeId, Tree};
+use trees::{Forest, Kind, MakeFault, NodeId, NodeView, Tree};
 
 /// A lent forest that stays as it is, and an own forest of the nodes that are made beside it, seen as one.
 ///
@@ -120,6 +121,18 @@ impl<'a> Shelf<'a> {
             self.lent
         } else {
             &self.own
+        }
+    }
+
+    /// What a node says of itself and which nodes stand round it, by one look-up in each forest; `None` where none of that identity
+    /// stands in either.
+    pub fn node(&self, id: NodeId) -> Option<NodeView<'_>>
+        ensures { Views result (find id (shelf_trees self.now)) }
+    {
+        self.lent.facts();
+        match self.own.node(id) {
+            Some(view) => Some(view),
+            None => self.lent.node(id),
         }
     }
 

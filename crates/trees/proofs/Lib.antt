@@ -24,3 +24,4 @@ pub mod Numbers
 pub mod Listings
 pub mod Numbered
 pub mod Ups
+pub mod Views

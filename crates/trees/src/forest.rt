@@ -9,6 +9,7 @@ ghost use Rattle.data_model.specs.declared.node.Part.TheVariants.{Attributes, Ch
 ghost use Rattle.data_model.specs.Order.{identities, precedes};
 ghost use Rattle.data_model.specs.Axes.{is_in};
 ghost use Rattle.trees.specs.Forest.{ForestTerm, IsForest, IsDocument, document_node, opening_forest};
+ghost use Rattle.data_model.specs.Views.{Views};
 ghost use Rattle.data_model.specs.Tree.{trees_of_tree};
 ghost use Rattle.data_model.specs.Planted.{past};
 ghost use Rattle.data_model.specs.Walks.{depth_of};
@@ -19,7 +20,7 @@ ghost use Rattle.trees.specs.Inside.{entry_of_row};
 
 use super::table::{Row, Rows};
 use super::{copy, label, order, plant, table, tree, walk};
-use data_model::{Content, Kind, NodeId, Part, Tree};
+use data_model::{Content, Kind, NodeId, NodeView, Part, Tree};
 use document_names::Names;
 use indexmap::IndexMap;
 use std::alloc::{AllocError, Global};
@@ -153,6 +154,23 @@ impl Forest {
         ensures { entry_in id self.now.trees ≡ Some (entry_of_row result.now) }
     {
         &self.rows[&id.number()]
+    }
+
+    /// What a node says of itself and which nodes stand round it, by one look-up; `None` where none of that identity stands here.
+    pub fn node(&self, id: NodeId) -> Option<NodeView<'_>>
+        ensures { Views result (find id self.now.trees) }
+    {
+        match self.rows.get(&id.number()) {
+            Some(row) => Some(NodeView {
+                kind: row.kind,
+                name: row.name.as_str(),
+                text: row.text.as_str(),
+                parent: row.parent,
+                attributes: row.attributes.as_slice(),
+                children: row.children.as_slice(),
+            }),
+            None => None,
+        }
     }
 
     /// The kind of a node.

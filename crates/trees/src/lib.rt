@@ -13,5 +13,5 @@ mod table;
 mod tree;
 mod walk;
 
-pub use data_model::{Axis, Content, Kind, NodeId, Tree};
+pub use data_model::{Axis, Content, Kind, NodeId, NodeView, Tree};
 pub use forest::{Forest, MakeFault};
