@@ -244,7 +244,7 @@ single f (x ∷ []) y h = (x, (refl, cc))
 single f (x ∷ z ∷ more) y h = absurd cc
 
 module _ (o : Setup) (trees : Trees) (sound : IsSound schema trees) where
-  member_row : (row : Row) (b : Ballot) → IsPermutation (map meta_shown (trees 0)) (row ∷ []) → ShowsMember o b row → trees 0 ≡ meta_row o b.round b.member ∷ []
+  pub member_row : (row : Row) (b : Ballot) → IsPermutation (map meta_shown (trees 0)) (row ∷ []) → ShowsMember o b row → trees 0 ≡ meta_row o b.round b.member ∷ []
   member_row row b moved m =
       let one = one_permutation row (map meta_shown (trees 0)) (IsPermutation-sym _ _ moved) in
       let it = single meta_shown (trees 0) row one in

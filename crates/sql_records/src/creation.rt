@@ -1,6 +1,6 @@
 //! Making the tables of a new member.
 
-ghost use Rattle.std.specs.Prelude.{◌≡◌, ◌⊎◌, ◌≤◌, true, false, IfOk, OnOk};
+ghost use Rattle.std.specs.Prelude.{◌≡◌, ◌⊎◌, ◌≤◌, true, false, IfOk, IsErrOf, OnOk};
 ghost use Rattle.sqlite.specs.State.{HasCleanDisk, Survives};
 ghost use Rattle.sqlite.specs.Held.{state};
 ghost use Rattle.sqlite.specs.Tree.{Trees};
@@ -83,6 +83,7 @@ pub(super) fn create<S: Alter>(
     requires mode { connection.old.in_transaction ≡ false }
     requires empty { (state S.Store connection.old).now.schema ≡ no_schema }
     ensures made { HasCleanDisk (state S.Store connection.new) → OnOk result (Holds (state S.Store connection.new) setup.now new_record new_record) }
+    ensures not_other { IsErrOf result OpenFault.Other → ⊥ }
     ensures makes { MakesOnly setup.now (state S.Store connection.old) (state S.Store connection.new) }
     ensures clean { doubt (state S.Store connection.old).is_clean ≤ doubt (state S.Store connection.new).is_clean }
 {

@@ -1,6 +1,7 @@
 //! Reading a record, and judging that it is one.
 
-ghost use Rattle.std.specs.Prelude.{◌≡◌, ◌⊎◌, ◌≤◌, false, IfOk, OnOk, IsTrue};
+ghost use Rattle.std.specs.Prelude.{◌≡◌, ◌⊎◌, ◌≤◌, ◌≢◌, false, IfOk, IsErrOf, OnOk, IsTrue};
+ghost use Rattle.sql_records.specs.Faults.{IsAnothers};
 ghost use Rattle.sqlite.specs.Tree.{Trees};
 ghost use Rattle.sqlite_trees.specs.View.{doubt};
 ghost use Rattle.sqlite.specs.State.{HasCleanDisk, IsLive};
@@ -32,7 +33,9 @@ fn is_ready<S: Alter>(connection: &Connection<S>) -> bool
 }
 
 /// What an error of a query is to a record.
-pub(super) fn fault_of(error: &Error) -> OpenFault {
+pub(super) fn fault_of(error: &Error) -> OpenFault
+    ensures { result ≢ OpenFault.Other }
+{
     if is_memory(error) {
         OpenFault::Memory
     } else {
@@ -49,6 +52,7 @@ pub(super) fn load<S: Alter>(
     ensures found { HasCleanDisk (state S.Store connection.new) → IfOk result (λ r. Holds (state S.Store connection.new) setup.now r r
         × ((a b : RecordTerm) → Holds (state S.Store connection.old) setup.now a b → (r ≡ a) ⊎ (r ≡ b))) }
     ensures crash { HasCleanDisk (state S.Store connection.new) → (o : Owner) (a b : RecordTerm) → Holds (state S.Store connection.old) o a b → Holds (state S.Store connection.new) o a b }
+    ensures other { HasCleanDisk (state S.Store connection.new) → IsErrOf result OpenFault.Other → IsAnothers setup.now (state S.Store connection.old).now }
     ensures schema { OnOk result ((state S.Store connection.old).now.schema ≡ our_schema) }
     ensures left { HasCleanDisk (state S.Store connection.new) → (db : Trees) → (state S.Store connection.new).may_leave db → (state S.Store connection.old).may_leave db }
     ensures clean { doubt (state S.Store connection.old).is_clean ≤ doubt (state S.Store connection.new).is_clean }

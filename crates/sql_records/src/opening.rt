@@ -1,6 +1,7 @@
 //! Opening a database as a member's records.
 
-ghost use Rattle.std.specs.Prelude.{◌≡◌, ◌≢◌, ◌⊎◌, ◌≤◌, false, IfErr, IfOk, OnOk, IsTrue};
+ghost use Rattle.std.specs.Prelude.{◌≡◌, ◌≢◌, ◌⊎◌, ◌≤◌, false, IfErr, IfOk, IsErrOf, OnOk, IsTrue};
+ghost use Rattle.sql_records.specs.Faults.{IsAnothers};
 ghost use Rattle.sqlite_trees.specs.View.{doubt};
 ghost use Rattle.sqlite.specs.State.{HasCleanDisk};
 ghost use Rattle.sqlite.specs.Held.{state};
@@ -22,7 +23,8 @@ use std::alloc::Global;
 
 /// The same setup.
 fn copy(alloc: Global, setup: &Setup) -> Result<Setup, OpenFault>
-    ensures { IfOk result (λ s. s ≡ setup.now) }
+    ensures same { IfOk result (λ s. s ≡ setup.now) }
+    ensures memory { IfErr result (λ fault. fault ≡ OpenFault.Memory) }
 {
     match Setup::new(
         alloc,
@@ -54,6 +56,7 @@ fn prepare<S: Alter>(
     ensures found { HasCleanDisk (state S.Store connection.new) → (state S.Store connection.old).now.schema ≢ no_schema → OnOk result ((r : RecordTerm) × Holds (state S.Store connection.new) setup.now r r
         × ((a b : RecordTerm) → Holds (state S.Store connection.old) setup.now a b → (r ≡ a) ⊎ (r ≡ b))) }
     ensures made { HasCleanDisk (state S.Store connection.new) → (state S.Store connection.old).now.schema ≡ no_schema → OnOk result (Holds (state S.Store connection.new) setup.now new_record new_record) }
+    ensures other { HasCleanDisk (state S.Store connection.new) → IsErrOf result OpenFault.Other → IsAnothers setup.now (state S.Store connection.old).now }
     ensures makes { MakesOnly setup.now (state S.Store connection.old) (state S.Store connection.new) }
     ensures clean { doubt (state S.Store connection.old).is_clean ≤ doubt (state S.Store connection.new).is_clean }
 {
@@ -81,6 +84,7 @@ impl<S: Alter> SqlRecords<S> {
         ensures made { (state S.Store connection).now.schema ≡ no_schema → IfOk result (λ s. ⟦<SqlRecords<S> as Records>⟧.is_kept s → ⟦<SqlRecords<S> as Records>⟧.stands s new_record new_record) }
         ensures makes { IfOk result (λ s. MakesOnly setup.now (state S.Store connection) (state S.Store (connection_of s))) }
         ensures refused { IfErr result (λ e. MakesOnly setup.now (state S.Store connection) (state S.Store e.1)) }
+        ensures other { IfErr result (λ e. HasCleanDisk (state S.Store e.1) → e.0 ≡ OpenFault.Other → IsAnothers setup.now (state S.Store connection).now) }
         ensures whose { IfOk result (λ s. owner s ≡ setup.now) }
     {
         let mut connection = connection;

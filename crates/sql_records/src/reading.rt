@@ -1,6 +1,7 @@
 //! From rows to a record.
 
-ghost use Rattle.std.specs.Prelude.{◌≡◌, ◌≤◌, ◌<◌, ◌+◌, ◌^◌, [], ◌∷◌, ◌↔◌, pos, IfOk, IsTrue, OnOk};
+ghost use Rattle.std.specs.Prelude.{◌≡◌, ◌≤◌, ◌<◌, ◌+◌, ◌^◌, [], ◌∷◌, ◌↔◌, pos, IfOk, IsErrOf, IsTrue, OnOk};
+ghost use Rattle.ballots.specs.Terms.{Setup as Owner};
 ghost use Rattle.ballots.specs.Ballot.{IsBallot};
 ghost use Rattle.ballots.specs.Values.{positions};
 ghost use Rattle.sqlite_value.specs.Order.{column};
@@ -9,7 +10,7 @@ ghost use Rattle.ballots.specs.Spelling.{AreBytes, IsValue, value_spelling};
 ghost use Rattle.ballots.specs.declared.value.Entry.{Entry as EntryTerm};
 ghost use Rattle.paxos.specs.Records.{with_vote};
 ghost use Rattle.sql_records.specs.Stored.{IsPromise, joined};
-ghost use Rattle.sql_records.specs.Reading.{Shows, ShowsMember};
+ghost use Rattle.sql_records.specs.Reading.{Shows, ShowsAnother, ShowsMember, ShowsOwner};
 
 use super::docs;
 use ballots::laws::spellings;
@@ -36,7 +37,8 @@ pub enum OpenFault {
 
 /// The value in a column.
 fn column<T: FromSql>(row: &Row, at: usize) -> Result<T, OpenFault>
-    ensures { IfOk result (λ x. T.FromSql.reads_as (column row.now at) x) }
+    ensures value { IfOk result (λ x. T.FromSql.reads_as (column row.now at) x) }
+    ensures not_other { IsErrOf result OpenFault.Other → ⊥ }
 {
     match row.get(at) {
         Ok(value) => Ok(value),
@@ -47,6 +49,7 @@ fn column<T: FromSql>(row: &Row, at: usize) -> Result<T, OpenFault>
 
 /// The ballot in two columns.
 fn read_ballot(row: &Row, round: usize, leader: usize) -> Result<Ballot, OpenFault>
+    ensures not_other { IsErrOf result OpenFault.Other → ⊥ }
     ensures round { IfOk result (λ b. column row.now round ≡ Int (pos b.round)) }
     ensures leader { IfOk result (λ b. column row.now leader ≡ Int (pos b.member)) }
 {
@@ -92,6 +95,7 @@ fn are_bytes(bytes: &[u8])
 
 /// The value that bytes spell.
 fn read_value(alloc: Global, bytes: &[u8]) -> Result<Value, OpenFault>
+    ensures not_other { IsErrOf result OpenFault.Other → ⊥ }
     ensures value { IfOk result (λ v. bytes.now ≡ value_spelling v) }
     ensures spelt { IfOk result IsValue }
 {
@@ -112,6 +116,7 @@ fn read_value(alloc: Global, bytes: &[u8]) -> Result<Value, OpenFault>
 
 /// The vote that a row shows, with a ballot that is not above the promise.
 fn read_vote(alloc: Global, row: &Row, promise: Ballot) -> Result<Entry, OpenFault>
+    ensures not_other { IsErrOf result OpenFault.Other → ⊥ }
     ensures shows { IfOk result (Shows promise row.now) }
     ensures least { IfOk result (λ e. 1 ≤ e.position) }
 {
@@ -138,6 +143,7 @@ pub(super) fn add_vote(
     found: &mut Record,
     last: &mut u32,
 ) -> Result<(), OpenFault>
+    ensures not_other { IsErrOf result OpenFault.Other → ⊥ }
     ensures added { OnOk result ((e : EntryTerm) × Shows promise row.now e × (last.old < e.position) × (last.new ≡ e.position) × (found.new.votes ≡ with_vote e.position e.vote found.old.votes)) }
 {
     let entry = read_vote(alloc, row, promise)?;
@@ -153,6 +159,7 @@ pub(super) fn add_vote(
 
 /// The promise in the row of this member.
 pub(super) fn read_member(alloc: Global, rows: &[Row], setup: &Setup) -> Result<Ballot, OpenFault>
+    ensures other { IsErrOf result OpenFault.Other → ShowsAnother setup.now rows.now }
     ensures shows { IfOk result (λ b. (row : _) × (rows.now ≡ row ∷ []) × ShowsMember setup.now b row) }
 {
     let [row] = rows else {
@@ -172,7 +179,9 @@ pub(super) fn read_member(alloc: Global, rows: &[Row], setup: &Setup) -> Result<
 
 /// Whether the row is that of this member.
 fn is_of(alloc: Global, row: &Row, setup: &Setup) -> Result<bool, OpenFault>
-    ensures { IfOk result (λ b. IsTrue b ↔ ((column row.now 2 ≡ Int (pos setup.now.group)) × (column row.now 3 ≡ Int (pos setup.now.member)) × (column row.now 4 ≡ Int (pos setup.now.members)) × (column row.now 5 ≡ Text (joined setup.now.names)))) }
+    ensures someone { IfOk result (λ _. (p : Owner) × ShowsOwner p row.now) }
+    ensures not_other { IsErrOf result OpenFault.Other → ⊥ }
+    ensures own { IfOk result (λ b. IsTrue b ↔ ((column row.now 2 ≡ Int (pos setup.now.group)) × (column row.now 3 ≡ Int (pos setup.now.member)) × (column row.now 4 ≡ Int (pos setup.now.members)) × (column row.now 5 ≡ Text (joined setup.now.names)))) }
 {
     let group: u32 = column(row, 2)?;
     let member: u32 = column(row, 3)?;

@@ -1,6 +1,6 @@
 //! The votes of a record, one row at a time.
 
-ghost use Rattle.std.specs.Prelude.{◌≡◌, List, map, IfOk, OnOk, IsPermutation};
+ghost use Rattle.std.specs.Prelude.{◌≡◌, List, map, IfOk, IsErrOf, OnOk, IsPermutation};
 ghost use Rattle.sqlite.specs.State.{HasCleanDisk, IsUnchanged, Survives};
 ghost use Rattle.sqlite.specs.Order.{Row as RowTerm};
 ghost use Rattle.sqlite.specs.Held.{state};
@@ -27,6 +27,7 @@ pub(super) fn load_votes<S: Alter>(
     ensures votes { HasCleanDisk (state S.Store connection.new) → IfOk result (λ r. (rows : List RowTerm) × IsPermutation (map vote_shown ((state S.Store connection.old).now.trees 1)) rows × AreShown promise rows r.votes) }
     ensures promise { IfOk result (λ r. r.promise ≡ promise) }
     ensures rising { IfOk result IsRising }
+    ensures not_other { IsErrOf result OpenFault.Other → ⊥ }
     ensures same { HasCleanDisk (state S.Store connection.new) → OnOk result (IsUnchanged (state S.Store connection.old) (state S.Store connection.new)) }
     ensures ended { HasCleanDisk (state S.Store connection.new) → Ended (state S.Store connection.old) (state S.Store connection.new) }
     ensures survives { Survives (state S.Store connection.old) (state S.Store connection.new) (λ _. ⊥) }
