@@ -3,3 +3,4 @@ pub mod Spelt
 pub mod Standing
 pub mod Strings
 pub mod Written
+pub mod Spelling

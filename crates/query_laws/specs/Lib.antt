@@ -2,3 +2,4 @@ pub mod Faults
 pub mod Examples
 pub mod Standing
 pub mod Written
+pub mod Spelling

@@ -24,6 +24,7 @@ ghost use Rattle.query_tokens.specs.declared.token.Token.{Token};
 ghost use Rattle.query_laws.specs.Written.{HasXmlString};
 ghost use Rattle.query_laws.specs.Examples.{a, b, c, none, on, of_kind, then, between, takes};
 ghost use Rattle.query_laws.specs.Faults.{FirstFault, IsSpelt};
+ghost use Rattle.query_laws.specs.Spelling.{IsSpeltAs};
 ghost use Rattle.query_laws.specs.Standing.{StandsIn, IsPlaced};
 
 /// A text is refused with a code exactly where that is the code of the first pass in which a fault stands. The grammar's fault is that
@@ -46,6 +47,13 @@ pub fn updates_are_placed()
 /// Each string among the tokens of a text is the UTF-8 of characters of XML 1.0, of at most 65,536 bytes.
 pub fn strings_are_xml()
     ensures { (text : List ℕ) (ts : List Token) (rest : List ℕ) → tokens text ≡ Gives ts rest → All HasXmlString ts }
+{}
+
+/// Tokens that are spelt in the standard's productions (XQuery 1.0, appendix A.2), one after the other, with whitespace and comments before, between
+/// and after them, are read as those tokens. Any two stand apart: something separates them, or the first is a name or a number and no name goes on
+/// there.
+pub fn spelt_tokens_are_read()
+    ensures { (text : List ℕ) (ts : List Token) → IsSpeltAs text ts → tokens text ≡ Gives ts [] }
 {}
 
 /// What some texts are spelt as: each axis, test, operator, sign, primary expression, constructor, clause, place and update stands in one.
