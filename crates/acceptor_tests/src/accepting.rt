@@ -70,6 +70,8 @@ prepare 1,1 10 > window 1,1 10 1000000
 ";
     let alloc = rt.alloc();
     plays(&rt, alloc, MemRecords::new(alloc), script);
+    let records = plays(&rt, alloc, store(&rt, alloc, &[]), script);
+    expect_writes(&rt, &records, 9, 0);
 }
 
 // The write of a number fails, and its record is kept or not. The acceptor stops there.

@@ -5,8 +5,8 @@ use Rattle.data_model.specs.Tidy.{is_document, begins_with_text, has_distinct_na
 use Rattle.trees.specs.Forest.{ForestTerm}
 use Rattle.pending.specs.Primitives.{PrimitiveTerm}
 use Rattle.pending.specs.Texts.{before_merged, is_empty_text}
-use Rattle.values.specs.declared.code.Code.{Code}
-use Rattle.values.specs.declared.code.Code.TheVariants.{XUDY0021, PXQ0003}
+use Rattle.fault_codes.specs.declared.code.Code.{Code}
+use Rattle.fault_codes.specs.declared.code.Code.TheVariants.{XUDY0021, PXQ0003}
 use Rattle.apply.specs.Effects.{staged}
 
 -- adjacent texts are one, everywhere, with the first one's identity

@@ -1,6 +1,6 @@
 -- What clients get.
 use Rattle.std.specs.Prelude.{ℕ, List, string_bytes}
-use Rattle.values.specs.declared.code.Code.{Code}
+use Rattle.fault_codes.specs.declared.code.Code.{Code}
 use Rattle.ballots.specs.declared.reply.Answer.{Answer}
 use Rattle.ballots.specs.declared.reply.Answer.TheVariants.{Text, Fault}
 

@@ -1,6 +1,6 @@
 //! What clients get.
 
-use values::Code;
+use fault_codes::Code;
 
 /// What came of a request, with its position, from 1.
 #[derive(Clone, Copy, PartialEq, Eq, Debug)]

@@ -1,6 +1,6 @@
 -- What each form has where its parts have it, every expression has.
 use Rattle.std.proofs.Common.{◌≡◌, ℕ, List, [], ◌∷◌, map, Option, Some, None, refl, subst, sym}
-use Rattle.values.specs.declared.code.Code.TheVariants.{XPST0003}
+use Rattle.fault_codes.specs.declared.code.Code.TheVariants.{XPST0003}
 use Rattle.query_grammar.specs.declared.ast.Binding.{Binding}
 use Rattle.query_grammar.specs.declared.ast.Clause.{Clause}
 use Rattle.query_grammar.specs.declared.ast.Clause.TheVariants as clause

@@ -10,8 +10,8 @@ use Rattle.data_model.specs.Walks.{root_of}
 use Rattle.data_model.specs.declared.axis.Axis.{Axis}
 use Rattle.data_model.specs.declared.node.Kind.{Kind}
 use Rattle.data_model.specs.declared.node.Kind.TheVariants as kind
-use Rattle.values.specs.declared.code.Code.{Code}
-use Rattle.values.specs.declared.code.Code.TheVariants as code
+use Rattle.fault_codes.specs.declared.code.Code.{Code}
+use Rattle.fault_codes.specs.declared.code.Code.TheVariants as code
 use Rattle.values.specs.declared.compare.Comparison.{Comparison}
 use Rattle.values.specs.declared.operators.Operator.{Operator}
 use Rattle.values.specs.declared.atom.Atom.{Atom}

@@ -2,13 +2,13 @@
 use Rattle.std.proofs.Common.{◌≡◌, ℕ, zero, suc, ◌+◌, ◌<◌, ◌≤◌, eqb, cond, Bool, true, false, nat_le, if◌then◌else◌, List, [], ◌∷◌, Option, Some, None, Result, Ok, Err, refl, ap, subst, sym, ◌∙◌, arith}
 use Rattle.data_model.specs.Changes.{renumbered}
 use Rattle.data_model.specs.Trees.{Trees, no_trees, tree, leaf, Content, append, count, size, find}
-use Rattle.trees.proofs.Copies.{in-renumbered, renumbered-within}
-use Rattle.trees.proofs.Ups.{same-ids}
+use Rattle.node_table.proofs.Copies.{in-renumbered, renumbered-within}
+use Rattle.node_table.proofs.Ups.{same-ids}
 use Rattle.data_model.proofs.Weights.{weigh-append, append-append, eqb-same}
 use Rattle.pending.specs.Texts.{merged, without_empty_texts, texts_within}
 use Rattle.data_model.specs.declared.node.Kind.{Kind}
-use Rattle.values.specs.declared.code.Code.{Code}
-use Rattle.values.specs.declared.code.Code.TheVariants.{PXQ0002, PXQ0003}
+use Rattle.fault_codes.specs.declared.code.Code.{Code}
+use Rattle.fault_codes.specs.declared.code.Code.TheVariants.{PXQ0002, PXQ0003}
 use Rattle.values.specs.declared.atom.Item.{Item}
 use Rattle.values.specs.declared.atom.Item.TheVariants as item
 use Rattle.values.specs.Atoms.{most_bytes}

@@ -5,11 +5,11 @@ use Rattle.std.specs.List.{range_with_len}
 use Rattle.data_model.specs.Changes.{renumbered}
 use Rattle.data_model.specs.Order.{identities}
 use Rattle.data_model.specs.Trees.{Trees, no_trees, tree, append, size, find}
-use Rattle.trees.proofs.Copies.{size-renumbered}
+use Rattle.node_table.proofs.Copies.{size-renumbered}
 use Rattle.data_model.proofs.Firsts.{identities-tree}
 use Rattle.data_model.proofs.Weights.{weigh-append}
-use Rattle.values.specs.declared.code.Code.{Code}
-use Rattle.values.specs.declared.code.Code.TheVariants.{PXQ0003}
+use Rattle.fault_codes.specs.declared.code.Code.{Code}
+use Rattle.fault_codes.specs.declared.code.Code.TheVariants.{PXQ0003}
 use Rattle.values.specs.declared.atom.Item.{Item}
 use Rattle.query_meaning.specs.Running.{Run, M, trees_of, pure, and_then, ◌>>=◌, come_to, each, new_nodes, most_nodes}
 use Rattle.query_meaning.specs.Strings.{spaced}

@@ -4,8 +4,8 @@ use Rattle.std.proofs.lemmas.Bool.{leb-true}
 use Rattle.data_model.specs.Trees.{Trees, count}
 use Rattle.pending.specs.Compatible.{most_primitives}
 use Rattle.pending.specs.Primitives.{PrimitiveTerm}
-use Rattle.values.specs.declared.code.Code.{Code}
-use Rattle.values.specs.declared.code.Code.TheVariants.{PXQ0002}
+use Rattle.fault_codes.specs.declared.code.Code.{Code}
+use Rattle.fault_codes.specs.declared.code.Code.TheVariants.{PXQ0002}
 use Rattle.values.specs.declared.atom.Item.{Item}
 use Rattle.values.specs.declared.atom.Item.TheVariants as item
 use Rattle.query_meaning.specs.Running.{Run, M, trees_of, pure, fault, and_then, ◌>>=◌, come_to, seen, each, turn, turns, adding, within, joined, most_items}

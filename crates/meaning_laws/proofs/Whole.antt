@@ -5,7 +5,7 @@ use Rattle.data_model.specs.Trees.{Trees, Place, append, count, find, IsAt}
 use Rattle.data_model.specs.declared.node.Kind.TheVariants.{Document}
 use Rattle.data_model.proofs.Climbs.{there-counts}
 use Rattle.data_model.proofs.Weights.{append-none, weigh-append}
-use Rattle.values.specs.declared.code.Code.{Code}
+use Rattle.fault_codes.specs.declared.code.Code.{Code}
 use Rattle.values.specs.declared.atom.Item.{Item}
 use Rattle.query_grammar.specs.declared.ast.Expr.{Expr}
 use Rattle.query_meaning.specs.Environment.{no_environment}

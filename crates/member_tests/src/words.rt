@@ -1,9 +1,9 @@
 // Words of a line, and messages in words: a ballot is `ROUND,MEMBER`, a request stands there by its number.
 
 use ballots::{Answer, Ask, Ballot, Entry, Message, Pair, Reply, Request, Value, Vote, Window};
+use fault_codes::Code;
 use std::alloc::{AllocError, Global};
 use std::process::Abort;
-use values::Code;
 
 // The client of each request and question, and the text of each request.
 const CLIENT: u32 = 7;

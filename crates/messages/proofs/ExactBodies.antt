@@ -1,8 +1,8 @@
 -- The bodies of messages, and whole datagrams, are read exactly.
 use Rattle.std.proofs.Common.{◌≡◌, ℕ, zero, suc, ◌+◌, ◌^◌, ◌<◌, ◌≤◌, Bool, true, false, nat_le, ◌==◌, ◌&&◌, ◌||◌, List, [], ◌∷◌, ◌++◌, length, slice_get, Option, Some, None, refl, sym, ap, ◌∙◌, arith, subst, ◌⊎◌, inl, inr}
 use Rattle.byteorder.specs.Endian.{big_bytes}
-use Rattle.values.specs.Codes.{code_number}
-use Rattle.values.specs.declared.code.Code.{Code}
+use Rattle.fault_codes.specs.Codes.{code_number}
+use Rattle.fault_codes.specs.declared.code.Code.{Code}
 use Rattle.ballots.specs.Ballot.{most_members}
 use Rattle.ballots.specs.Terms.{most_text}
 use Rattle.ballots.specs.Values.{positions}

@@ -3,7 +3,7 @@ use Rattle.std.proofs.Common.{ℕ, suc, ◌+◌, ◌*◌, ◌≤◌, List, [], �
 use Rattle.std.proofs.lemmas.List.{length-append}
 use Rattle.byteorder.specs.Endian.{big_bytes}
 use Rattle.byteorder.specs.Numbers.{length-bytes_high_first}
-use Rattle.values.specs.Codes.{code_number}
+use Rattle.fault_codes.specs.Codes.{code_number}
 use Rattle.ballots.specs.Ballot.{most_members}
 use Rattle.ballots.specs.Terms.{Request, Question, most_text}
 use Rattle.ballots.specs.Replies.{Answered, text, fault}

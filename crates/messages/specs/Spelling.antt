@@ -2,7 +2,7 @@
 use Rattle.std.specs.Prelude.{ℕ, ◌<◌, ◌≤◌, ◌≡◌, ◌^◌, true, List, [], ◌∷◌, ◌++◌, length, flat_map, All}
 use Rattle.std.specs.Str.{is_utf8}
 use Rattle.byteorder.specs.Endian.{big_bytes}
-use Rattle.values.specs.Codes.{code_number}
+use Rattle.fault_codes.specs.Codes.{code_number}
 use Rattle.ballots.specs.Ballot.{most_members}
 use Rattle.ballots.specs.Terms.{most_text}
 use Rattle.ballots.specs.Values.{positions}

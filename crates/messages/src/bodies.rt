@@ -15,8 +15,8 @@ use super::limits::MOST_ANSWER;
 use super::lists::{split_entries, split_pairs};
 use ballots::limits::{MOST_BYTES, MOST_ENTRIES, MOST_MEMBERS, POSITIONS};
 use ballots::{Answer, Ask, AskFault, Entry, Message, Reply, Request, RequestFault, Vote, Window};
+use fault_codes::Code;
 use std::alloc::Global;
-use values::Code;
 
 #[tactic(auto, unfolding(ballots::specs::Values::positions))]
 /// A Prepare, whose ballot has to be its sender's.

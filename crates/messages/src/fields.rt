@@ -9,8 +9,8 @@ use super::fault::WireFault;
 use ballots::limits::{LAST_ROUND, MOST_MEMBERS};
 use ballots::{Ballot, Value, take_value};
 use byteorder::{BigEndian, ByteOrder};
+use fault_codes::Code;
 use std::alloc::Global;
-use values::Code;
 
 /// So many bytes, and the bytes after them.
 pub(super) fn split(bytes: &[u8], count: usize) -> Result<(&[u8], &[u8]), WireFault>

@@ -1,7 +1,7 @@
 -- What the passes give is the expression of a text.
 use Rattle.std.proofs.Common.{◌≡◌, ℕ, Bool, true, false, ◌||◌, if◌then◌else◌, List, [], Option, Some, None, Result, Ok, Err, IfOk, refl, ap, subst, sym, ◌∙◌}
-use Rattle.values.specs.declared.code.Code.{Code}
-use Rattle.values.specs.declared.code.Code.TheVariants.{XPST0008, XPST0017, XUST0001, XQST0089, PXQ0001}
+use Rattle.fault_codes.specs.declared.code.Code.{Code}
+use Rattle.fault_codes.specs.declared.code.Code.TheVariants.{XPST0008, XPST0017, XUST0001, XQST0089, PXQ0001}
 use Rattle.query_tokens.specs.declared.fault.ParseFault.{ParseFault}
 use Rattle.query_tokens.specs.declared.token.Token.{Token}
 use Rattle.query_tokens.specs.Lexing.{tokens}

@@ -1,7 +1,7 @@
 //! Laws of texts and their expressions.
 
 ghost use Rattle.std.specs.Prelude.{◌≡◌, ◌↔◌, ℕ, List, Ok, Err};
-ghost use Rattle.values.specs.declared.code.Code.{Code};
+ghost use Rattle.fault_codes.specs.declared.code.Code.{Code};
 ghost use Rattle.query_grammar.specs.declared.ast.Expr.{Expr};
 ghost use Rattle.static_checks.specs.Static.{IsExpression, parsed};
 

@@ -1,8 +1,8 @@
 -- Neither the order of primitives nor leaving some out makes a compatible list incompatible.
 use Rattle.std.proofs.Common.{◌≡◌, ℕ, Bool, true, false, ◌||◌, ◌==◌, List, [], ◌∷◌, ◌++◌, Option, Some, None, filter_map, if◌then◌else◌, refl}
 use Rattle.std.specs.List.{cons_option}
-use Rattle.values.specs.declared.code.Code.{Code}
-use Rattle.values.specs.declared.code.Code.TheVariants.{XUDY0015, XUDY0016, XUDY0017}
+use Rattle.fault_codes.specs.declared.code.Code.{Code}
+use Rattle.fault_codes.specs.declared.code.Code.TheVariants.{XUDY0015, XUDY0016, XUDY0017}
 use Rattle.pending.specs.Compatible.{is_among, has_repeat, has_two, renamed, replaced, value_replaced, content_replaced, conflict}
 use Rattle.pending.specs.Primitives.{PrimitiveTerm}
 use Rattle.pending.proofs.Repeats.{turned, or-swapped}

@@ -1,8 +1,8 @@
 -- Which primitives may stand in one pending update list (XQuery Update Facility 1.0, section 3.2.2).
 use Rattle.std.specs.Prelude.{ℕ, Bool, false, ◌||◌, ◌==◌, if◌then◌else◌, List, [], ◌∷◌, filter_map, Option, Some, None}
 use Rattle.std.specs.List.{list_any}
-use Rattle.values.specs.declared.code.Code.{Code}
-use Rattle.values.specs.declared.code.Code.TheVariants.{XUDY0015, XUDY0016, XUDY0017}
+use Rattle.fault_codes.specs.declared.code.Code.{Code}
+use Rattle.fault_codes.specs.declared.code.Code.TheVariants.{XUDY0015, XUDY0016, XUDY0017}
 use Rattle.pending.specs.Primitives.{PrimitiveTerm, replace_node, replace_value, replace_element_content, rename}
 
 -- the most primitives in a list (our own choice)

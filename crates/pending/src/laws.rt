@@ -2,7 +2,7 @@
 
 ghost use Rattle.std.specs.Prelude.{◌≡◌, ◌++◌, ◌∷◌, ℕ, List, [], None, Some, codes};
 ghost use Rattle.data_model.specs.Trees.{Trees};
-ghost use Rattle.values.specs.declared.code.Code.TheVariants.{XUDY0015, XUDY0016, XUDY0017};
+ghost use Rattle.fault_codes.specs.declared.code.Code.TheVariants.{XUDY0015, XUDY0016, XUDY0017};
 ghost use Rattle.pending.specs.Primitives.{PrimitiveTerm, insert_before, insert_after, insert_into, insert_into_as_first, insert_into_as_last, insert_attributes, delete, replace_node, replace_value, replace_element_content, rename};
 ghost use Rattle.pending.specs.Compatible.{conflict};
 

@@ -1,7 +1,7 @@
 //! Pending update lists.
 
 ghost use Rattle.std.specs.Prelude.{◌≡◌, ◌<◌, ◌≤◌, ◌+◌, ◌++◌, ◌∷◌, ◌↔◌, [], None, Some, length, map, IsErrOf, IfErr, IfOk, OnErr, OnOk};
-ghost use Rattle.values.specs.declared.code.Code.{Code as CodeTerm};
+ghost use Rattle.fault_codes.specs.declared.code.Code.{Code as CodeTerm};
 ghost use Rattle.pending.specs.Compatible.{conflict, most_primitives};
 ghost use Rattle.pending.specs.Primitives.{primitive_term};
 

@@ -6,7 +6,7 @@ use Rattle.std.proofs.lemmas.List.Elements.{All-nil, All-cons, All-head}
 use Rattle.std.specs.List.{list_all}
 use Rattle.std.specs.Str.{bytes_eq}
 use Rattle.document_names.specs.Characters.{is_digit, is_name, is_name_start, is_name_character}
-use Rattle.values.specs.declared.code.Code.TheVariants.{XPST0003}
+use Rattle.fault_codes.specs.declared.code.Code.TheVariants.{XPST0003}
 use Rattle.query_tokens.specs.Reading.{Gives, Fails, fails, pure, begins}
 use Rattle.query_tokens.specs.Lexing.{goes_on, is_space, is_separated, is_left, IsRun, token, name as read_name, name_of, number as read_number, number_of, decimal_of, max_integer, mark_token}
 use Rattle.query_tokens.specs.Words.{marks, pairs, singles}

@@ -15,7 +15,7 @@ use Rattle.values.specs.declared.atom.Atom.{Atom}
 use Rattle.values.specs.declared.atom.Atom.TheVariants as a
 use Rattle.values.specs.declared.atom.Item.{Item}
 use Rattle.values.specs.declared.atom.Item.TheVariants as item
-use Rattle.values.specs.declared.code.Code.TheVariants.{XPST0008, XPST0017, XUST0001, XQST0089, PXQ0001}
+use Rattle.fault_codes.specs.declared.code.Code.TheVariants.{XPST0008, XPST0017, XUST0001, XQST0089, PXQ0001}
 use Rattle.query_tokens.specs.Lexing.{is_separated}
 use Rattle.query_tokens.specs.declared.token.Token.{Token}
 use Rattle.query_grammar.specs.declared.ast.Expr.{Expr}

@@ -9,7 +9,7 @@ ghost use Rattle.values.specs.Printing.{item_text};
 ghost use Rattle.values.specs.declared.atom.Atom.TheVariants.{Integer};
 ghost use Rattle.values.specs.declared.atom.Item.{Item};
 ghost use Rattle.values.specs.declared.atom.Item.TheVariants as item;
-ghost use Rattle.values.specs.declared.code.Code.TheVariants.{XPST0003};
+ghost use Rattle.fault_codes.specs.declared.code.Code.TheVariants.{XPST0003};
 ghost use Rattle.query_grammar.specs.declared.ast.Expr.TheVariants as e;
 ghost use Rattle.query_grammar.specs.declared.ast.Name.TheVariants.{Written};
 ghost use Rattle.query_grammar.specs.declared.ast.Sign.TheVariants.{Minus};

@@ -4,8 +4,8 @@ use Rattle.std.proofs.lemmas.Bool.{le-ltb}
 use Rattle.std.proofs.lemmas.Bool.Decides.{nat_tests}
 use Rattle.std.proofs.lemmas.List.{length-append, append_assoc, append-nil}
 use Rattle.std.specs.List.{list_all}
-use Rattle.trees.proofs.Ups.{same-ids}
-use Rattle.values.specs.declared.code.Code.TheVariants.{XPST0003, XQST0090, PXQ0002}
+use Rattle.node_table.proofs.Ups.{same-ids}
+use Rattle.fault_codes.specs.declared.code.Code.TheVariants.{XPST0003, XQST0090, PXQ0002}
 use Rattle.document_names.specs.Characters.{is_digit, is_name_start, is_name_character, is_xml_character}
 use Rattle.query_tokens.specs.Reading.{Read, Gives, Fails, Reader, on_read, ◌>>=◌, ◌>>◌, pure, fails, begins, first_of, skip, mark, such, rounds}
 use Rattle.query_tokens.specs.Lexing as lexing
@@ -147,7 +147,7 @@ abbrev separated : ℕ → List ℕ → Read (Unit {0})
 separated n text = rounds (λ _ text. lexing.is_separated text) (λ _. lexing.separator) n tt text
 
 separators_read : (w rest : List ℕ) → IsSeparation w → lexing.is_separated rest ≡ false → (n : ℕ) → length w ≤ n → separated n (w ++ rest) ≡ Gives tt rest
-separators_read w rest spelling.None h n le = round_off (λ _ text. lexing.is_separated text) (λ _. lexing.separator) n tt rest h
+separators_read w rest spelling.NoSeparator h n le = round_off (λ _ text. lexing.is_separated text) (λ _. lexing.separator) n tt rest h
 separators_read w rest (spelling.Space c cs e s) h zero le = absurd (omega (arith, le))
 separators_read w rest (spelling.Space c cs e s) h (suc n) le =
     round_given (λ _ text. lexing.is_separated text) (λ _. lexing.separator) n tt tt (c ∷ cs ++ rest) (cs ++ rest) (ap (λ b. b || begins (codes "(:") (c ∷ cs ++ rest)) e)

@@ -1,8 +1,8 @@
 -- The first fault of a text, in the order of the passes (our own choice): tokens, brackets, grammar, functions, names that one clause
 -- binds twice, variables, categories.
 use Rattle.std.specs.Prelude.{◌≡◌, ℕ, true, false, List, []}
-use Rattle.values.specs.declared.code.Code.{Code}
-use Rattle.values.specs.declared.code.Code.TheVariants.{XPST0003, XPST0008, XPST0017, XUST0001, XQST0089, PXQ0001}
+use Rattle.fault_codes.specs.declared.code.Code.{Code}
+use Rattle.fault_codes.specs.declared.code.Code.TheVariants.{XPST0003, XPST0008, XPST0017, XUST0001, XQST0089, PXQ0001}
 use Rattle.query_tokens.specs.declared.token.Token.{Token}
 use Rattle.query_tokens.specs.Lexing.{tokens}
 use Rattle.query_tokens.specs.Reading.{Gives, Fails}

@@ -21,7 +21,7 @@ pub data EndsComment : List ℕ → Type 0 where
 
 -- whitespace and comments, or nothing
 pub data IsSeparation : List ℕ → Type 0 where
-  None : IsSeparation []
+  NoSeparator : IsSeparation []
   Space : (c : ℕ) (cs : List ℕ) → is_space c ≡ true → IsSeparation cs → IsSeparation (c ∷ cs)
   Comment : (cs ds : List ℕ) → EndsComment cs → IsSeparation ds → IsSeparation (codes "(:" ++ (cs ++ ds))
 

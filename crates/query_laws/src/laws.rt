@@ -2,7 +2,7 @@
 
 ghost use Rattle.std.specs.Prelude.{◌≡◌, ◌↔◌, ℕ, List, [], ◌∷◌, codes, length, Some, None, Err, true, false};
 ghost use Rattle.data_model.specs.declared.axis.Axis.TheVariants as axis;
-ghost use Rattle.values.specs.declared.code.Code.{Code};
+ghost use Rattle.fault_codes.specs.declared.code.Code.{Code};
 ghost use Rattle.values.specs.declared.compare.Comparison.TheVariants as comparison;
 ghost use Rattle.values.specs.declared.operators.Operator.TheVariants as arithmetic;
 ghost use Rattle.query_grammar.specs.declared.ast.Binary.TheVariants as operator;

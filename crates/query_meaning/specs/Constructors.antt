@@ -6,8 +6,8 @@ use Rattle.data_model.specs.Tidy.{holds_text, ends_in_hyphen}
 use Rattle.data_model.specs.Trees.{Trees, no_trees, tree, leaf}
 use Rattle.data_model.specs.declared.node.Kind.{Kind}
 use Rattle.data_model.specs.declared.node.Kind.TheVariants as kind
-use Rattle.values.specs.declared.code.Code.{Code}
-use Rattle.values.specs.declared.code.Code.TheVariants.{XQDY0026, XQDY0041, XQDY0064, XQDY0072, XQDY0074}
+use Rattle.fault_codes.specs.declared.code.Code.{Code}
+use Rattle.fault_codes.specs.declared.code.Code.TheVariants.{XQDY0026, XQDY0041, XQDY0064, XQDY0072, XQDY0074}
 use Rattle.values.specs.declared.atom.Atom.{Atom}
 use Rattle.values.specs.declared.atom.Item.{Item}
 use Rattle.values.specs.declared.atom.Item.TheVariants as item

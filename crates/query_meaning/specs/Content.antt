@@ -6,8 +6,8 @@ use Rattle.data_model.specs.Trees.{Trees, no_trees, tree, leaf, Place, find, app
 use Rattle.data_model.specs.declared.node.Kind.{Kind}
 use Rattle.data_model.specs.declared.node.Kind.TheVariants as kind
 use Rattle.pending.specs.Texts.{merged, without_empty_texts, texts_within}
-use Rattle.values.specs.declared.code.Code.{Code}
-use Rattle.values.specs.declared.code.Code.TheVariants.{XPTY0004, XQTY0024, XQDY0025, PXQ0002, PXQ0003}
+use Rattle.fault_codes.specs.declared.code.Code.{Code}
+use Rattle.fault_codes.specs.declared.code.Code.TheVariants.{XPTY0004, XQTY0024, XQDY0025, PXQ0002, PXQ0003}
 use Rattle.values.specs.declared.atom.Atom.{Atom}
 use Rattle.values.specs.declared.atom.Item.{Item}
 use Rattle.values.specs.declared.atom.Item.TheVariants as item

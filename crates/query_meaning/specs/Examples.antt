@@ -8,7 +8,7 @@ use Rattle.data_model.specs.declared.node.Kind.{Kind}
 use Rattle.data_model.specs.declared.node.Kind.TheVariants as kind
 use Rattle.pending.specs.Primitives.{PrimitiveTerm}
 use Rattle.values.specs.Printing.{item_text}
-use Rattle.values.specs.declared.code.Code.{Code}
+use Rattle.fault_codes.specs.declared.code.Code.{Code}
 use Rattle.query_grammar.specs.declared.ast.Expr.TheOpen.{Expr-F}
 use Rattle.query_grammar.specs.declared.ast.Binary.{Binary}
 use Rattle.query_grammar.specs.declared.ast.Clause.TheVariants as clause

@@ -8,8 +8,8 @@ use Rattle.std.specs.Str.{bytes_eq}
 use Rattle.data_model.specs.Tidy.{holds_text}
 use Rattle.data_model.specs.Trees.{Place, find}
 use Rattle.data_model.specs.Walks.{root_of}
-use Rattle.values.specs.declared.code.Code.{Code}
-use Rattle.values.specs.declared.code.Code.TheVariants.{XPST0017, XPTY0004, FODC0002, FORG0001, FORG0006}
+use Rattle.fault_codes.specs.declared.code.Code.{Code}
+use Rattle.fault_codes.specs.declared.code.Code.TheVariants.{XPST0017, XPTY0004, FODC0002, FORG0001, FORG0006}
 use Rattle.values.specs.declared.atom.Atom.{Atom}
 use Rattle.values.specs.declared.atom.Atom.TheVariants as atom
 use Rattle.values.specs.declared.atom.Item.{Item}

@@ -3,8 +3,8 @@ use Rattle.std.specs.Prelude.{ℕ, [], List, Result, Ok, Err}
 use Rattle.data_model.specs.Trees.{Trees, no_trees}
 use Rattle.trees.specs.Forest.{ForestTerm}
 use Rattle.pending.specs.Primitives.{PrimitiveTerm}
-use Rattle.values.specs.declared.code.Code.{Code}
-use Rattle.values.specs.declared.code.Code.TheVariants.{XPST0003}
+use Rattle.fault_codes.specs.declared.code.Code.{Code}
+use Rattle.fault_codes.specs.declared.code.Code.TheVariants.{XPST0003}
 use Rattle.values.specs.declared.atom.Item.{Item}
 use Rattle.query_grammar.specs.declared.ast.Expr.{Expr, fold-Expr}
 use Rattle.query_grammar.specs.declared.ast.Expr.TheOpen.{Expr-F}

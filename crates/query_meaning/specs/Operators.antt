@@ -5,8 +5,8 @@ use Rattle.std.specs.List.{range_with_len}
 use Rattle.data_model.specs.Trees.{Trees}
 use Rattle.data_model.specs.Axes.{is_in}
 use Rattle.data_model.specs.Order.{identities, precedes}
-use Rattle.values.specs.declared.code.Code.{Code}
-use Rattle.values.specs.declared.code.Code.TheVariants.{XPTY0004, PXQ0002}
+use Rattle.fault_codes.specs.declared.code.Code.{Code}
+use Rattle.fault_codes.specs.declared.code.Code.TheVariants.{XPTY0004, PXQ0002}
 use Rattle.values.specs.declared.compare.Comparison.{Comparison}
 use Rattle.values.specs.declared.operators.Operator.{Operator}
 use Rattle.values.specs.declared.atom.Atom.{Atom}

@@ -9,8 +9,8 @@ use Rattle.data_model.specs.declared.axis.Axis.{Axis}
 use Rattle.data_model.specs.declared.axis.Axis.TheVariants as axis
 use Rattle.data_model.specs.declared.node.Kind.{Kind}
 use Rattle.data_model.specs.declared.node.Kind.TheVariants as kind
-use Rattle.values.specs.declared.code.Code.{Code}
-use Rattle.values.specs.declared.code.Code.TheVariants.{XPTY0018, XPTY0019, XPTY0020, PXQ0002}
+use Rattle.fault_codes.specs.declared.code.Code.{Code}
+use Rattle.fault_codes.specs.declared.code.Code.TheVariants.{XPTY0018, XPTY0019, XPTY0020, PXQ0002}
 use Rattle.values.specs.declared.atom.Atom.{Atom}
 use Rattle.values.specs.declared.atom.Atom.TheVariants as atom
 use Rattle.values.specs.declared.atom.Item.{Item}

@@ -5,8 +5,8 @@ use Rattle.data_model.specs.Trees.{Trees, append}
 use Rattle.shelves.specs.Shelf.{ShelfTerm, shelf_trees, shelf_code}
 use Rattle.pending.specs.Compatible.{most_primitives}
 use Rattle.pending.specs.Primitives.{PrimitiveTerm, primitive_code}
-use Rattle.values.specs.declared.code.Code.{Code}
-use Rattle.values.specs.declared.code.Code.TheVariants.{PXQ0002, PXQ0003}
+use Rattle.fault_codes.specs.declared.code.Code.{Code}
+use Rattle.fault_codes.specs.declared.code.Code.TheVariants.{PXQ0002, PXQ0003}
 use Rattle.values.specs.declared.atom.Item.{Item}
 use Rattle.values.specs.declared.atom.Atom.{Atom}
 use Rattle.values.specs.Atoms.{atomized}

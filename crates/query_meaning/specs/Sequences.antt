@@ -5,8 +5,8 @@ use Rattle.std.specs.List.{list_all}
 use Rattle.std.specs.declared.cmp.Ordering.{Ordering}
 use Rattle.std.specs.declared.cmp.Ordering.TheVariants.{Less, Equal, Greater}
 use Rattle.std.specs.Ordering.{is_lt, ordering_reverse, ordering_then}
-use Rattle.values.specs.declared.code.Code.{Code}
-use Rattle.values.specs.declared.code.Code.TheVariants.{XPST0008, XPDY0002, XPTY0004, PXQ0002}
+use Rattle.fault_codes.specs.declared.code.Code.{Code}
+use Rattle.fault_codes.specs.declared.code.Code.TheVariants.{XPST0008, XPDY0002, XPTY0004, PXQ0002}
 use Rattle.values.specs.declared.atom.Atom.{Atom}
 use Rattle.values.specs.declared.atom.Atom.TheVariants as atom
 use Rattle.values.specs.declared.atom.Item.{Item}

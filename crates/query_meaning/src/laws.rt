@@ -6,7 +6,7 @@ ghost use Rattle.data_model.specs.declared.axis.Axis.TheVariants as axis;
 ghost use Rattle.data_model.specs.declared.node.Kind.TheVariants as kind;
 ghost use Rattle.pending.specs.Primitives.{insert_before, insert_after, insert_into, insert_into_as_first, insert_into_as_last, insert_attributes, replace_node, replace_element_content};
 ghost use Rattle.pending.specs.Primitives.{delete as delete_node, replace_value as replace_text, rename as rename_to};
-ghost use Rattle.values.specs.declared.code.Code.TheVariants.{XPST0008, XPST0017, XPDY0002, XPTY0004, XPTY0018, XPTY0019, XPTY0020, FOAR0001, FOAR0002, FODC0002, FORG0001, FORG0006, XQTY0024, XQDY0025, XQDY0026, XQDY0041, XQDY0064, XQDY0072, XQDY0074, XUTY0004, XUTY0005, XUTY0006, XUTY0007, XUTY0008, XUTY0010, XUTY0011, XUTY0012, XUTY0022, XUDY0009, XUDY0027, XUDY0029, XUDY0030, PXQ0002, PXQ0003};
+ghost use Rattle.fault_codes.specs.declared.code.Code.TheVariants.{XPST0008, XPST0017, XPDY0002, XPTY0004, XPTY0018, XPTY0019, XPTY0020, FOAR0001, FOAR0002, FODC0002, FORG0001, FORG0006, XQTY0024, XQDY0025, XQDY0026, XQDY0041, XQDY0064, XQDY0072, XQDY0074, XUTY0004, XUTY0005, XUTY0006, XUTY0007, XUTY0008, XUTY0010, XUTY0011, XUTY0012, XUTY0022, XUDY0009, XUDY0027, XUDY0029, XUDY0030, PXQ0002, PXQ0003};
 ghost use Rattle.values.specs.declared.compare.Comparison.TheVariants.{Equal, Less};
 ghost use Rattle.values.specs.declared.operators.Operator.TheVariants.{Add, IntegerDivide, Modulo};
 ghost use Rattle.query_grammar.specs.declared.ast.Expr.TheOpen.{Expr-F};

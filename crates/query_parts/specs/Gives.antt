@@ -1,7 +1,7 @@
 -- What a function that reads ensures: what the reader gives, unless memory is refused. What the reader refuses has the code of a
 -- text that is no expression of the grammar (XQuery 1.0, section 2.1), and no other.
 use Rattle.std.specs.Prelude.{◌≡◌, ◌<◌, List, length, Option, Some, None, Result, Ok, Err}
-use Rattle.values.specs.declared.code.Code.TheVariants.{XPST0003}
+use Rattle.fault_codes.specs.declared.code.Code.TheVariants.{XPST0003}
 use Rattle.query_tokens.specs.declared.fault.ParseFault.{ParseFault}
 use Rattle.query_tokens.specs.declared.fault.ParseFault.TheVariants.{Memory, Static}
 use Rattle.query_tokens.specs.declared.token.Token.{Token}

@@ -2,7 +2,7 @@
 use Rattle.std.proofs.Common.{◌≡◌, ℕ, zero, suc, ◌-◌, ◌+◌, ◌<◌, ◌≤◌, Bool, true, false, cond, List, refl, ap, subst, ◌∙◌, sym, arith}
 use Rattle.std.specs.Prelude.{Result, Ok, Err}
 use Rattle.std.specs.Result.{IsErrAnd}
-use Rattle.values.specs.declared.code.Code.{Code}
+use Rattle.fault_codes.specs.declared.code.Code.{Code}
 use Rattle.query_tokens.specs.declared.fault.ParseFault.{ParseFault}
 use Rattle.query_tokens.specs.declared.fault.ParseFault.TheVariants.{Memory, Static}
 use Rattle.query_tokens.specs.Outcome.{IsFault, IsNext, IsRead}

@@ -1,7 +1,7 @@
 -- The longest run of characters is what `run_of` reads.
 use Rattle.std.proofs.Common.{◌≡◌, ℕ, suc, Bool, true, false, cond, List, [], ◌∷◌, ◌++◌, length, All, ap, sym, ◌∙◌, append_assoc, append-nil}
 use Rattle.std.proofs.lemmas.List.Elements.{All-head, All-tail}
-use Rattle.values.specs.declared.code.Code.TheVariants.{XPST0003}
+use Rattle.fault_codes.specs.declared.code.Code.TheVariants.{XPST0003}
 use Rattle.query_tokens.specs.Reading.{Gives, Fails, Reader, on_read, ◌>>=◌, pure, such, rounds}
 use Rattle.query_tokens.specs.Lexing.{goes_on, run_of, IsRun}
 use Rattle.query_tokens.proofs.Rounds.{ends}

@@ -10,7 +10,7 @@ use Rattle.query_tokens.specs.declared.kind.Kind.TheVariants.{Name}
 use Rattle.query_tokens.specs.Words.{kind_in, begins_between, marks, pairs, singles, first_kind}
 use Rattle.query_tokens.specs.Reading.{Gives, Fails, begins, first_of}
 use Rattle.query_tokens.specs.Lexing.{marked, mark_token}
-use Rattle.values.specs.declared.code.Code.TheVariants.{XPST0003}
+use Rattle.fault_codes.specs.declared.code.Code.TheVariants.{XPST0003}
 
 -- the name is none of these
 abbrev pub IsNone : List ℕ → List (List ℕ × Kind) → Type 0

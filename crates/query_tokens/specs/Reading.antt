@@ -1,8 +1,8 @@
 -- Reading a text from the left: what it begins with, or the first fault. A text is the list of its characters (their code points).
 use Rattle.std.specs.Prelude.{ℕ, zero, suc, Bool, ◌==◌, if◌then◌else◌, List, [], ◌∷◌, length, drop, Option, Some, None}
 use Rattle.std.specs.List.{starts_with}
-use Rattle.values.specs.declared.code.Code.{Code}
-use Rattle.values.specs.declared.code.Code.TheVariants.{XPST0003}
+use Rattle.fault_codes.specs.declared.code.Code.{Code}
+use Rattle.fault_codes.specs.declared.code.Code.TheVariants.{XPST0003}
 
 -- something and the text after it, or the code of the first fault
 pub data Read (A : Type 0) : Type 0 where

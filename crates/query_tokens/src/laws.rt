@@ -1,7 +1,7 @@
 //! Worked examples of the tokens of a text, the contract of a function that does nothing.
 
 ghost use Rattle.std.specs.Prelude.{◌≡◌, ◌∷◌, [], codes};
-ghost use Rattle.values.specs.declared.code.Code.TheVariants.{XPST0003, XQST0090};
+ghost use Rattle.fault_codes.specs.declared.code.Code.TheVariants.{XPST0003, XQST0090};
 ghost use Rattle.query_tokens.specs.declared.kind.Kind.TheVariants as kind;
 ghost use Rattle.query_tokens.specs.Reading.{Fails};
 ghost use Rattle.query_tokens.specs.Lexing.{tokens, mark_token};

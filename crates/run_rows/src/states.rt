@@ -8,7 +8,7 @@
 
 use ballots::{Answer, Reply, Request, RequestFault, RequestId, Value};
 use document_names::NamesFault;
-use paxq_files::read_names;
+use line_parts::read_names;
 use query_forms::{read_insertion, read_path};
 use rows::{RowFault, Words};
 use sessions::State;

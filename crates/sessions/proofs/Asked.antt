@@ -5,7 +5,7 @@ use Rattle.std.specs.List.{join_with_byte}
 use Rattle.query_forms.specs.Forms.{ChildPath, path_of}
 use Rattle.data_model.specs.Trees.{Trees}
 use Rattle.trees.specs.Forest.{ForestTerm}
-use Rattle.values.specs.declared.code.Code.TheVariants.{PXQ0002, PXQ0005}
+use Rattle.fault_codes.specs.declared.code.Code.TheVariants.{PXQ0002, PXQ0005}
 use Rattle.sessions.specs.Run.{document_of}
 use Rattle.ballots.specs.Replies.{text, fault}
 use Rattle.sessions.specs.Answers.{item_text, item_texts, printed, path_answer, text_answer, answer}

@@ -5,8 +5,8 @@ use Rattle.query_forms.specs.Forms.{Insertion, insertion_of}
 use Rattle.data_model.specs.Trees.{Trees, Content, Place, size, count, find, children_of, IsAt}
 use Rattle.trees.specs.Forest.{ForestTerm, IsForest, IsDocument}
 use Rattle.data_model.specs.declared.node.Part.TheVariants.{Children}
-use Rattle.trees.proofs.Makes.{size-make-below}
-use Rattle.values.specs.declared.code.Code.TheVariants.{PXQ0003}
+use Rattle.node_table.proofs.Makes.{size-make-below}
+use Rattle.fault_codes.specs.declared.code.Code.TheVariants.{PXQ0003}
 use Rattle.sessions.specs.declared.execute.Outcome.TheVariants.{Done, Fault}
 use Rattle.sessions.specs.Run.{Ran, document_of, element, inserted, is_too_large, judged, insertion_ran, text_ran, run}
 use Rattle.sessions.proofs.Insertions.{count-found, children-inserted}

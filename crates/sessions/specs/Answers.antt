@@ -7,7 +7,7 @@ use Rattle.data_model.specs.Trees.{Trees, no_trees, tree, Place, find}
 use Rattle.trees.specs.Forest.{ForestTerm}
 use Rattle.data_model.specs.declared.node.Kind.{Kind}
 use Rattle.data_model.specs.declared.node.Kind.TheVariants.{Element}
-use Rattle.values.specs.declared.code.Code.TheVariants.{FODC0002, PXQ0002, PXQ0005}
+use Rattle.fault_codes.specs.declared.code.Code.TheVariants.{FODC0002, PXQ0002, PXQ0005}
 use Rattle.ballots.specs.Replies.{Answered, text, fault}
 use Rattle.sessions.specs.Run.{document_of}
 

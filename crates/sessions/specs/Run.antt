@@ -9,7 +9,7 @@ use Rattle.trees.specs.Forest.{ForestTerm}
 use Rattle.data_model.specs.declared.node.Kind.TheVariants.{Element}
 use Rattle.sessions.specs.declared.execute.Outcome.{Outcome}
 use Rattle.sessions.specs.declared.execute.Outcome.TheVariants.{Done, Fault}
-use Rattle.values.specs.declared.code.Code.TheVariants.{FODC0002, PXQ0003}
+use Rattle.fault_codes.specs.declared.code.Code.TheVariants.{FODC0002, PXQ0003}
 
 -- the store that a request leaves, and how it ends
 pub record Ran : Type 0 where

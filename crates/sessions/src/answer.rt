@@ -10,10 +10,10 @@ ghost use Rattle.ballots.specs.Replies.{answered};
 ghost use Rattle.sessions.specs.Answers.{item_text, item_texts, trees_at, is_element, path_answer, answer};
 
 use ballots::Answer;
+use fault_codes::Code;
 use query_forms::read_path;
 use std::alloc::{AllocError, Global};
 use trees::{Forest, Kind, NodeId};
-use values::Code;
 
 /// The items that an answer has at most.
 const MAX_ITEMS: usize = 10_000;

@@ -4,10 +4,10 @@ ghost use Rattle.std.specs.Prelude.{◌≡◌, ◌+◌, ◌<◌, ◌^◌, IfOk, 
 ghost use Rattle.query_forms.specs.Forms.{insertion_of};
 ghost use Rattle.sessions.specs.Run.{run, insertion_ran, document_of};
 
+use fault_codes::Code;
 use query_forms::read_insertion;
 use std::alloc::{AllocError, Global};
 use trees::{Content, Forest, Kind, NodeId};
-use values::Code;
 
 /// The children and attributes that a node has at most.
 const MAX_CHILDREN: usize = 10_000;

@@ -10,7 +10,7 @@ ghost use Rattle.ballots.specs.Terms.{Request as RequestTerm};
 ghost use Rattle.sessions.specs.Terms.{id_of, is_of};
 ghost use Rattle.trees.specs.Forest.{document_node};
 ghost use Rattle.data_model.specs.Trees.{tree, no_trees, leaf};
-ghost use Rattle.values.specs.declared.code.Code.TheVariants.{FODC0002};
+ghost use Rattle.fault_codes.specs.declared.code.Code.TheVariants.{FODC0002};
 ghost use Rattle.ballots.specs.declared.reply.Reply.TheVariants.{Done, Fault};
 ghost use Rattle.sessions.specs.Run.{run, element};
 ghost use Rattle.ballots.specs.Replies.{text};

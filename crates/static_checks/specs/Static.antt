@@ -2,8 +2,8 @@
 -- and the first pass in which a fault stands gives the code (our own choice): tokens, brackets, grammar, functions, names that one clause
 -- binds twice, variables that are not bound, categories.
 use Rattle.std.specs.Prelude.{◌≡◌, ℕ, false, if◌then◌else◌, List, [], Option, Some, None, Result, Ok, Err}
-use Rattle.values.specs.declared.code.Code.{Code}
-use Rattle.values.specs.declared.code.Code.TheVariants.{XPST0003, XPST0008, XPST0017, XUST0001, XQST0089, PXQ0001}
+use Rattle.fault_codes.specs.declared.code.Code.{Code}
+use Rattle.fault_codes.specs.declared.code.Code.TheVariants.{XPST0003, XPST0008, XPST0017, XUST0001, XQST0089, PXQ0001}
 use Rattle.query_tokens.specs.declared.fault.ParseFault.{ParseFault}
 use Rattle.query_tokens.specs.declared.fault.ParseFault.TheVariants.{Memory, Static}
 use Rattle.query_tokens.specs.declared.token.Token.{Token}

@@ -1,6 +1,6 @@
 -- How items are atomized one by one.
 use Rattle.std.proofs.Common.{List, ◌++◌, Result, Ok, Err}
-use Rattle.values.specs.declared.code.Code.{Code}
+use Rattle.fault_codes.specs.declared.code.Code.{Code}
 use Rattle.values.specs.declared.atom.Atom.{Atom}
 
 -- values, and then the others

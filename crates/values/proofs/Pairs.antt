@@ -4,8 +4,8 @@ use Prim.Native.Nat.{zero, suc}
 use Rattle.std.specs.List.{flat_map}
 use Rattle.std.proofs.lemmas.List.{at_drop_more, at_drop_all}
 use Rattle.std.proofs.lemmas.Bool.Decides.{nat_tests}
-use Rattle.values.specs.declared.code.Code.{Code}
-use Rattle.values.specs.declared.code.Code.TheVariants.{PXQ0002}
+use Rattle.fault_codes.specs.declared.code.Code.{Code}
+use Rattle.fault_codes.specs.declared.code.Code.TheVariants.{PXQ0002}
 use Rattle.values.specs.Comparisons.{decided, tried}
 
 -- what the pairs come to, and the turns that are left

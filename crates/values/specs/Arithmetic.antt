@@ -1,7 +1,7 @@
 -- Arithmetic on integers (XQuery 1.0, section 3.4; Functions and Operators, section 6.2).
 use Rattle.std.specs.Prelude.{◌^◌, ◌-◌, ℤ, pos, neg_ℤ, ◌+ℤ◌, ◌-ℤ◌, ◌*ℤ◌, int_le, int_div, int_rem, Bool, ◌&&◌, if◌then◌else◌, List, [], ◌∷◌, Option, Some, None, Result, Ok, Err}
-use Rattle.values.specs.declared.code.Code.{Code}
-use Rattle.values.specs.declared.code.Code.TheVariants.{XPTY0004, FOAR0001, FOAR0002, FORG0001}
+use Rattle.fault_codes.specs.declared.code.Code.{Code}
+use Rattle.fault_codes.specs.declared.code.Code.TheVariants.{XPTY0004, FOAR0001, FOAR0002, FORG0001}
 use Rattle.values.specs.declared.atom.Atom.{Atom}
 use Rattle.values.specs.declared.atom.Atom.TheVariants.{String, Boolean, Untyped, Integer}
 use Rattle.values.specs.declared.operators.Operator.{Operator}

@@ -4,8 +4,8 @@ use Rattle.std.specs.Str.{bytes_eq}
 use Rattle.data_model.specs.Trees.{Trees, Place, find, value_of}
 use Rattle.data_model.specs.declared.node.Kind.{Kind}
 use Rattle.data_model.specs.declared.node.Kind.TheVariants as kind
-use Rattle.values.specs.declared.code.Code.{Code}
-use Rattle.values.specs.declared.code.Code.TheVariants.{FORG0006, PXQ0002}
+use Rattle.fault_codes.specs.declared.code.Code.{Code}
+use Rattle.fault_codes.specs.declared.code.Code.TheVariants.{FORG0006, PXQ0002}
 use Rattle.values.specs.declared.atom.Atom.{Atom}
 use Rattle.values.specs.declared.atom.Atom.TheVariants.{String, Boolean, Untyped, Integer}
 use Rattle.values.specs.declared.atom.Item.{Item}

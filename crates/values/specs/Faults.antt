@@ -1,7 +1,7 @@
 -- Why an evaluation makes no value.
 use Rattle.trees.specs.declared.forest.MakeFault.{MakeFault}
 use Rattle.trees.specs.declared.forest.MakeFault.TheVariants as made
-use Rattle.values.specs.declared.code.Code.TheVariants.{PXQ0003}
+use Rattle.fault_codes.specs.declared.code.Code.TheVariants.{PXQ0003}
 use Rattle.values.specs.declared.fault.ValueFault.{ValueFault}
 use Rattle.values.specs.declared.fault.ValueFault.TheVariants.{Memory, Code}
 

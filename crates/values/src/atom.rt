@@ -3,14 +3,14 @@
 ghost use Rattle.std.specs.Prelude.{◌≡◌, Ok, Err, IfOk, IfErr, IsSome};
 ghost use Rattle.shelves.specs.Shelf.{shelf_trees};
 ghost use Rattle.data_model.specs.Trees.{find};
-ghost use Rattle.values.specs.declared.code.Code.{Code};
+ghost use Rattle.fault_codes.specs.declared.code.Code.{Code};
 ghost use Rattle.values.specs.declared.fault.ValueFault.{ValueFault};
 ghost use Rattle.values.specs.Atoms.{typed, typed_at, atom_of, atomized, atom_truth, truth};
 ghost use Rattle.values.specs.Items.{IsThere, AreThere};
 
-use super::code::Code;
 use super::fault::ValueFault;
 use super::text::Text;
+use fault_codes::Code;
 use shelves::Shelf;
 use std::alloc::Global;
 use trees::{Kind, NodeId};

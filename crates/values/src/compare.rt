@@ -1,15 +1,15 @@
 //! Comparisons of atomic values (XQuery 1.0, section 3.5).
 
 ghost use Rattle.std.specs.Prelude.{◌≡◌, ◌-◌, nat_le, if◌then◌else◌, Ok, Err, IfOk, IfErr, map};
-ghost use Rattle.values.specs.declared.code.Code.{Code};
+ghost use Rattle.fault_codes.specs.declared.code.Code.{Code};
 ghost use Rattle.values.specs.declared.fault.ValueFault.{ValueFault};
-ghost use Rattle.values.specs.declared.code.Code.TheVariants.{PXQ0002};
+ghost use Rattle.fault_codes.specs.declared.code.Code.TheVariants.{PXQ0002};
 ghost use Rattle.values.specs.Comparisons.{holds, string_cmp, same_type_cmp, as_string, if_comparable, pair_compared, pairs_compared, decided, tried, value_compared, general_compared};
 
 use super::atom::Atom;
-use super::code::Code;
 use super::fault::ValueFault;
 use super::operand::{Operand, Types, operands};
+use fault_codes::Code;
 use std::alloc::Global;
 use std::cmp::Ordering;
 

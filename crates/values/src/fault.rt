@@ -2,7 +2,7 @@
 
 ghost use Rattle.std.specs.Prelude.{◌≡◌};
 
-use super::code::Code;
+use fault_codes::Code;
 use std::alloc::{AllocError, AllocFailed};
 use trees::MakeFault;
 

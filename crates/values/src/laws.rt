@@ -1,7 +1,7 @@
 //! Worked examples of the rules, the contract of a function that does nothing.
 
 ghost use Rattle.std.specs.Prelude.{◌≡◌, ◌++◌, [], ◌∷◌, pos, neg_ℤ, codes, Ok, Err, Some, None, true, false};
-ghost use Rattle.values.specs.declared.code.Code.TheVariants.{XPTY0004, FOAR0001, FOAR0002, FORG0001, FORG0006};
+ghost use Rattle.fault_codes.specs.declared.code.Code.TheVariants.{XPTY0004, FOAR0001, FOAR0002, FORG0001, FORG0006};
 ghost use Rattle.values.specs.declared.atom.Atom.TheVariants.{String, Untyped, Integer};
 ghost use Rattle.values.specs.declared.atom.Item.TheVariants as item;
 ghost use Rattle.values.specs.declared.operators.Operator.TheVariants.{Add, IntegerDivide, Modulo};

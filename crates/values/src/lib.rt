@@ -1,8 +1,7 @@
-//! Atomic values and items, what compares and computes with them, their printed text, and the codes of all faults.
+//! Atomic values and items, what compares and computes with them, and their printed text.
 #![tactic(auto)]
 
 mod atom;
-mod code;
 mod compare;
 mod fault;
 mod laws;
@@ -13,9 +12,9 @@ mod readings;
 mod text;
 
 pub use atom::{Atom, Item, atomize, truth};
-pub use code::Code;
 pub use compare::{Comparison, compare_general, compare_value};
 pub use fault::ValueFault;
+pub use fault_codes::Code;
 pub use laws::examples;
 pub use operators::{Operator, arithmetic, integer_operands};
 pub use print::item_text;

@@ -4,12 +4,12 @@ ghost use Rattle.std.specs.Prelude.{◌≡◌, IfOk};
 ghost use Rattle.values.specs.Readings.{integer_of, boolean_of};
 ghost use Rattle.values.specs.Atoms.{or_fault};
 ghost use Rattle.values.specs.declared.atom.Atom.TheVariants.{Untyped};
-ghost use Rattle.values.specs.declared.code.Code.TheVariants.{FORG0001};
+ghost use Rattle.fault_codes.specs.declared.code.Code.TheVariants.{FORG0001};
 
 use super::atom::Atom;
-use super::code::Code;
 use super::readings::{cast_boolean, cast_integer, read_boolean, read_integer};
 use super::text::Text;
+use fault_codes::Code;
 use std::alloc::{AllocError, Global};
 use std::marker::Model;
 

@@ -5,8 +5,8 @@ ghost use Rattle.values.specs.Arithmetic.{operand, operands, calculated, divided
 ghost use Rattle.std.specs.Prelude.{int_div, int_rem};
 
 use super::atom::Atom;
-use super::code::Code;
 use super::readings::cast_integer;
+use fault_codes::Code;
 
 /// The arithmetic operators.
 #[derive(Clone, Copy, PartialEq, Eq, Debug)]

@@ -1,11 +1,11 @@
 //! How texts are read as integers and booleans (XML Schema Part 2, sections 3.2.2 and 3.3.13).
 
 ghost use Rattle.std.specs.Prelude.{◌≡◌};
-ghost use Rattle.values.specs.declared.code.Code.TheVariants.{FORG0001};
+ghost use Rattle.fault_codes.specs.declared.code.Code.TheVariants.{FORG0001};
 ghost use Rattle.values.specs.Readings.{trimmed, integer_of, boolean_of};
 ghost use Rattle.values.specs.Atoms.{or_fault};
 
-use super::code::Code;
+use fault_codes::Code;
 
 /// The characters of whitespace: space, tab, line feed and carriage return (XML 1.0, production S).
 const SPACES: [char; 4] = [' ', '\t', '\n', '\r'];

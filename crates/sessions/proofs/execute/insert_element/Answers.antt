@@ -2,7 +2,7 @@ use Rattle.std.proofs.Common.{◌≡◌, ◌+◌, Some, length, [], string_bytes
 use Rattle.data_model.specs.Trees.{leaf, children_of}
 use Rattle.data_model.specs.Changes.{with_children, splice}
 use Rattle.data_model.specs.declared.node.Kind.TheVariants.{Element}
-use Rattle.values.specs.declared.code.Code.TheVariants.{PXQ0003}
+use Rattle.fault_codes.specs.declared.code.Code.TheVariants.{PXQ0003}
 use Rattle.trees.specs.Forest.{ForestTerm}
 use Rattle.sessions.specs.declared.execute.Outcome.TheVariants.{Done, Fault}
 use Rattle.sessions.specs.Run.{Ran, inserted, insertion_ran, document_of}

@@ -1,7 +1,7 @@
 //! The codes of faults.
 
 ghost use Rattle.std.specs.Prelude.{◌≡◌, ◌≤◌, ◌⊎◌, ◌<◌, Some, None, IfSome};
-ghost use Rattle.values.specs.Codes.{code_name, code_number};
+ghost use Rattle.fault_codes.specs.Codes.{code_name, code_number};
 
 use std::fmt;
 
