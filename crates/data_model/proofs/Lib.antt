@@ -3,5 +3,7 @@ pub mod Climbs
 pub mod Paths
 pub mod Scans
 pub mod Firsts
+pub mod Levels
 pub mod Lists
+pub mod Numbering
 pub mod Turns

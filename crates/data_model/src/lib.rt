@@ -9,4 +9,4 @@ mod tree;
 
 pub use axis::Axis;
 pub use node::{Content, Kind, NodeId, NodeView, Part};
-pub use tree::{Tree, node_count, past_identities};
+pub use tree::{Tree, are_within_levels, node_count, past_identities, renumber};

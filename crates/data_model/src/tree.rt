@@ -1,11 +1,13 @@
 //! Trees of their own, which own what is below them.
 
-ghost use Rattle.std.specs.Prelude.{◌≡◌, ◌<◌, ◌≤◌, ◌^◌};
-ghost use Rattle.data_model.specs.Trees.{size};
+ghost use Rattle.std.specs.Prelude.{◌≡◌, ◌<◌, ◌≤◌, ◌^◌, ◌+◌, ◌++◌, nat_le, OnOk, OnErr};
+ghost use Rattle.data_model.specs.Changes.{renumbered};
 ghost use Rattle.data_model.specs.Planted.{past};
-ghost use Rattle.data_model.specs.Tree.{all_of};
+ghost use Rattle.data_model.specs.Tree.{all_of, tree_size, trees_of_tree};
+ghost use Rattle.data_model.specs.Trees.{height, size};
 
-use super::node::Content;
+use super::node::{Content, NodeId};
+use std::alloc::AllocError;
 use std::marker::Model;
 
 /// A node with its attributes and its children, each a tree of its own.
@@ -71,6 +73,68 @@ impl Tree {
     {
         &self.children
     }
+
+    /// The trees of its children alone, in document order.
+    pub fn into_children(self) -> Vec<Tree>
+        ensures { all_of result.items ≡ self.children }
+    {
+        let Tree { children, .. } = self;
+        children
+    }
+
+    /// Adds to the text of its node. Where memory is refused, it stays as it was.
+    pub fn push_text(&mut self, text: &str) -> Result<(), AllocError>
+        ensures pushed { OnOk result
+            (self.new
+            ≡ record self.old { content = record self.old.content { text = self.old.content.text ++ text.now } }) }
+        ensures refused { OnErr result (self.new ≡ self.old) }
+    {
+        self.content.text.push_str(text)
+    }
+
+    /// Gives its nodes the identities `first`, `first + 1` and so on in document order, and gives the one after them.
+    #[cycle(renumbering)]
+    fn renumber(&mut self, first: u64) -> u64
+        requires { first + tree_size self.old ≤ 2 ^ 62 }
+        ensures numbered { trees_of_tree self.new ≡ renumbered first (trees_of_tree self.old) }
+        ensures next { result ≡ first + tree_size self.old }
+    {
+        self.content.identity = NodeId::new(first);
+        let next = renumber(&mut self.attributes, first + 1);
+        renumber(&mut self.children, next)
+    }
+}
+
+/// Gives the nodes of some trees the identities `first`, `first + 1` and so on in document order, and gives the one after them.
+#[cycle(renumbering)]
+pub fn renumber(trees: &mut [Tree], first: u64) -> u64
+    requires { first + size (all_of trees.old) ≤ 2 ^ 62 }
+    ensures numbered { all_of trees.new ≡ renumbered first (all_of trees.old) }
+    ensures next { result ≡ first + size (all_of trees.old) }
+{
+    let mut next = first;
+    for tree in trees.iter_mut() {
+        next = tree.renumber(next);
+    }
+    next
+}
+
+/// Whether no node of some trees stands more than so many levels down, where a root is on the first.
+pub fn are_within_levels(trees: &[Tree], levels: u64) -> bool
+    ensures { result ≡ nat_le (height (all_of trees.now)) levels }
+{
+    if levels == 0 {
+        return trees.is_empty();
+    }
+    for tree in trees {
+        if !are_within_levels(tree.attributes(), levels - 1) {
+            return false;
+        }
+        if !are_within_levels(tree.children(), levels - 1) {
+            return false;
+        }
+    }
+    true
 }
 
 /// How many nodes some trees have.

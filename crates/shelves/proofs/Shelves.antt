@@ -1,11 +1,13 @@
 -- The two forests of a shelf.
-use Rattle.std.proofs.Common.{◌≡◌, ℕ, ◌+◌, ◌≤◌, ◌<◌, [], ◌∷◌, ◌++◌, refl, ap, sym, ◌∙◌, arith, ⊎_elim, Option, Some, None, IsSome, IfSome, is_some, true, false, unwrap_or, append_assoc, subst, Result, Ok, Err, IfOk, OnErr, Bool, List, map, filter, append-nil, cond, eqb}
+use Rattle.std.proofs.Common.{◌≡◌, ℕ, ◌+◌, ◌≤◌, ◌<◌, [], ◌∷◌, ◌++◌, refl, ap, sym, ◌∙◌, arith, ⊎_elim, Option, Some, None, IsSome, IfSome, is_some, true, false, unwrap_or, append_assoc, subst, Result, Ok, Err, IfOk, OnErr, Bool, List, map, filter, append-nil, cond, eqb, max}
 use Prim.Native.Nat.{suc}
 use Rattle.std.proofs.lemmas.List.{map-append}
 use Rattle.std.proofs.lemmas.List.Elements.{filter-append}
 use Rattle.std.proofs.lemmas.Bool.Decides.{eqb_tells}
 use Rattle.data_model.specs.Trees.{Trees, no_trees, tree, Content, Place, append, leaf, listing, count, size, find, first, parent_at, IsAt}
-use Rattle.data_model.specs.Changes.{all_moved_below, CanAllMoveBelow}
+use Rattle.data_model.specs.Changes.{all_moved_below, CanAllMoveBelow, ranked}
+use Rattle.data_model.specs.Planted.{past}
+use Rattle.data_model.specs.Tree.{TreeTerm, trees_of_tree}
 use Rattle.data_model.specs.declared.node.Kind.TheVariants.{Document}
 use Rattle.data_model.specs.declared.node.Part.{Part}
 use Rattle.data_model.specs.Order.{identities, precedes}
@@ -14,8 +16,10 @@ use Rattle.data_model.specs.Views.{Views}
 use Rattle.data_model.specs.Walks.{held, seen, or_else}
 use Rattle.trees.specs.Forest.{ForestTerm, IsForest, IsDocument}
 use Rattle.shelves.specs.Shelf.{ShelfTerm, ComesAfter, IsShelf, shelf_trees}
-use Rattle.data_model.proofs.Weights.{weigh-append}
-use Rattle.trees.proofs.Puts.{weigh-moved}
+use Rattle.data_model.proofs.Weights.{weigh-append, eqb-same}
+use Rattle.node_table.proofs.Plants.{past-most}
+use Rattle.node_table.proofs.Puts.{weigh-moved}
+use Rattle.node_table.proofs.Takes.{ltb-no}
 use Rattle.data_model.proofs.Climbs.{AreDistinct, any-tells, find-absent, there-counts}
 use Rattle.trees.proofs.CallerLemmas.{find-append}
 use Rattle.data_model.proofs.Firsts.{before-seen, held-identities, seen-none, seen-a, seen-b, seen-first}
@@ -140,6 +144,9 @@ pub after-either : {A E : Type 0} (r : Result A E) (P : A → Type 0) (u v w : F
 after-either (Ok x) P u v w h f made same = f x made
 after-either (Err e) P u v w h f made same = after-same u v w h same
 
+pub one-leaf : (i : ℕ) (c : Content) → count i (leaf c) ≤ 1
+one-leaf i c = ⊎_elim (λ t. rw t.0 (omega arith)) (λ t. rw t.0 (omega arith)) (eqb_tells i c.identity)
+
 pub count-leaf : (i : ℕ) (c : Content) → 0 < count i (leaf c) → i ≡ c.identity
 count-leaf i c h = ⊎_elim (λ t. t.1) (λ t. (let z = rw t.0 at h in absurd (omega arith))) (eqb_tells i c.identity)
 
@@ -152,6 +159,49 @@ count-all-moved part p m (k ∷ ks) ts d can i =
     let one : count p ts ≡ 1 = omega arith in
     let same = λ (j : ℕ). weigh-moved (λ x. cond (eqb j x) 1 0) part m p k ts one can.0.apart in
     count-all-moved part p (suc m) ks _ (λ j. (let e = same j in let l = d j in omega arith)) can.1 i ∙ same i
+
+-- ---- a tree that is planted after all others
+ranked-last : (k : ℕ) (us ts : Trees) → ((i : ℕ) → 0 < count i ts → i < k) → ranked k us ts ≡ append ts us
+ranked-last k us no_trees h = refl
+ranked-last k us (tree c bs cs rest) h =
+    rw (ltb-no k c.identity (h c.identity (rw (eqb-same c.identity) (omega arith)))) (ap (tree c bs cs) (ranked-last k us rest (λ i there. h i (omega arith))))
+
+module _ (u v : ForestTerm) (s : ShelfTerm) (is : record { lent = u; own = v } ≡ s) (t : TreeTerm) (facts : IsForest v) (distinct : AreDistinct (trees_of_tree t)) (least : (i : ℕ) → 0 < count i (trees_of_tree t) → t.content.identity ≤ i)
+    (below : (i : ℕ) → 0 < count i (trees_of_tree t) → i < s.own.next) (later : (i : ℕ) → 0 < count i s.own.trees → i < t.content.identity) (lent : s.lent.next ≤ t.content.identity) where
+  abbrev us : Trees
+  us = trees_of_tree t
+
+  own-before : (i : ℕ) → 0 < count i v.trees → i < t.content.identity
+  own-before i there = later i (let P : ShelfTerm → Type 0 = λ x. 0 < count i x.own.trees in subst P is there)
+
+  within : (i : ℕ) → 0 < count i us → i < v.next
+  within i there = let P : ShelfTerm → Type 0 = λ x. i < x.own.next in subst P (sym is) (below i there)
+
+  pub planted-distinct : (i : ℕ) → count i (append v.trees us) ≤ 1
+  planted-distinct i =
+      let sum : count i (append v.trees us) ≡ count i v.trees + count i us = weigh-append _ v.trees us in
+      let one = facts.distinct i in
+      let other = distinct i in
+      ⊎_elim (λ x. (let least_i = least i x.1 in ⊎_elim (λ y. (let l = own-before i y.1 in absurd (omega arith))) (λ y. (let none : count i v.trees ≡ 0 = y.1 in omega arith)) (any-tells (count i v.trees)))) (λ x. (let none : count i us ≡ 0 = x.1 in omega arith)) (any-tells (count i us))
+
+  pub planted-is : (w : ForestTerm) → w ≡ record v { trees = ranked t.content.identity us v.trees; next = max v.next (past us) } → w ≡ record v { trees = append v.trees us }
+  planted-is w e =
+      let most : past us ≤ v.next = past-most v.next us within in
+      let next : max v.next (past us) ≡ v.next = omega arith in
+      let trees : ranked t.content.identity us v.trees ≡ append v.trees us = ranked-last t.content.identity us v.trees own-before in
+      let after : Trees → ℕ → ForestTerm = λ ts n. record v { trees = ts; next = n } in
+      e ∙ ap (λ ts. after ts (max v.next (past us))) trees ∙ ap (after (append v.trees us)) next
+
+  pub planted-after : (w : ForestTerm) → ComesAfter u v → w ≡ record v { trees = ranked t.content.identity us v.trees; next = max v.next (past us) } → ComesAfter u w
+  planted-after w h e =
+      let first : u.next ≤ t.content.identity = (let P : ShelfTerm → Type 0 = λ x. x.lent.next ≤ t.content.identity in subst P (sym is) lent) in
+      after-same u (record v { trees = append v.trees us }) w
+      (record {
+        documents = h.documents;
+        later = h.later;
+        apart = λ i k. (let sum : count i (append v.trees us) ≡ count i v.trees + count i us = weigh-append _ v.trees us in
+            ⊎_elim (λ x. h.apart i x.1) (λ x. (let none : count i v.trees ≡ 0 = x.1 in let z = least i (omega arith) in omega arith)) (any-tells (count i v.trees)));
+      }) (planted-is w e)
 
 -- ---- what one look-up reads
 view-there : (v : NodeView) (o : Option Place) → Views (Some v) o → is_some o ≡ true

@@ -1,9 +1,9 @@
 //! Shelves: a lent forest and an own one, seen as one.
 
-ghost use Rattle.std.specs.Prelude.{◌≡◌, ℕ, ◌+◌, ◌<◌, ◌≤◌, ◌^◌, ◌↔◌, Option, Some, None, IfOk, OnOk, OnErr, IfSome, IsErrOf, IsSome, List, [], filter, is_some, string_bytes, option_map};
+ghost use Rattle.std.specs.Prelude.{◌≡◌, ℕ, ◌+◌, ◌<◌, ◌≤◌, ◌^◌, ◌↔◌, Option, Some, None, IfOk, OnOk, OnErr, IfSome, IsErrOf, IsSome, IsTrue, List, [], filter, is_some, string_bytes, option_map};
 ghost use Rattle.std.specs.Map.{lookup};
 ghost use Rattle.std.specs.Str.{bytes_eq};
-ghost use Rattle.data_model.specs.Trees.{no_trees, append, leaf, find, size, children_of, attributes_of, parent_of, string_value_of, text_within, IsAt};
+ghost use Rattle.data_model.specs.Trees.{no_trees, append, leaf, find, count, size, children_of, attributes_of, parent_of, string_value_of, text_within, IsAt};
 ghost use Rattle.data_model.specs.Changes.{with_content, taken_out, all_moved_below, CanAllMoveBelow, pick, renumbered};
 ghost use Rattle.data_model.specs.declared.node.Part.TheVariants.{Attributes, Children};
 ghost use Rattle.data_model.specs.Order.{identities, precedes};
@@ -96,6 +96,22 @@ impl<'a> Shelf<'a> {
         ensures { result ≡ self.now.own.next }
     {
         self.own.next()
+    }
+
+    /// How many identities own nodes have taken, or were set aside for them.
+    pub fn made(&self) -> u64
+        ensures { self.now.lent.next + result ≡ self.now.own.next }
+    {
+        self.own.next().number() - self.lent.next().number()
+    }
+
+    /// Lets the next own node take a later identity. It takes no memory.
+    pub fn raise_next(&mut self, next: NodeId)
+        requires later { self.old.own.next ≤ next }
+        requires bound { next ≤ 2 ^ 62 }
+        ensures { self.new ≡ record self.old { own = record self.old.own { next = next } } }
+    {
+        self.own.raise_next(next);
     }
 
     /// Whether a node of that identity stands in either forest.
@@ -216,6 +232,17 @@ impl<'a> Shelf<'a> {
         let home = self.home(id);
         home.facts();
         home.tree(alloc, id)
+    }
+
+    /// Whether the tree of a node has at most so many nodes. They are counted only where its forest has more.
+    pub fn is_within(&self, id: NodeId, nodes: u64) -> bool
+        requires { IsSome (find id (shelf_trees self.now)) }
+        ensures { IsTrue result ↔ (size (pick id (shelf_trees self.now)) ≤ nodes) }
+    {
+        self.facts();
+        let home = self.home(id);
+        home.facts();
+        home.is_within(id, nodes)
     }
 
     /// Whether the node `a` comes before the node `b` in document order. Nodes of the lent forest come before the own ones.
@@ -389,5 +416,30 @@ impl<'a> Shelf<'a> {
         ensures refused { OnErr result (self.new ≡ self.old) }
     {
         self.own.copy_from(alloc, self.lent, id)
+    }
+
+    /// Makes a tree of its own an own tree after all others, with no parent and with the identities that it has, which have been
+    /// set aside: they lie below the next one, and the root's comes first of them and after those of all nodes that stand here.
+    ///
+    /// Where memory is refused, all stays as it was.
+    pub fn plant(&mut self, alloc: Global, tree: &Tree) -> Result<(), AllocError>
+        requires distinct { (i : ℕ) → count i (trees_of_tree tree.now) ≤ 1 }
+        requires first { (i : ℕ) → 0 < count i (trees_of_tree tree.now) → tree.now.content.identity ≤ i }
+        requires below { (i : ℕ) → 0 < count i (trees_of_tree tree.now) → i < self.old.own.next }
+        requires after { (i : ℕ) → 0 < count i self.old.own.trees → i < tree.now.content.identity }
+        requires lent { self.old.lent.next ≤ tree.now.content.identity }
+        ensures planted { OnOk result
+            (self.new
+            ≡ record self.old {
+              own =
+                  record self.old.own {
+                    trees = append self.old.own.trees (trees_of_tree tree.now);
+                  };
+            }) }
+        ensures refused { OnErr result (self.new ≡ self.old) }
+    {
+        self.own.facts();
+        self.own.bounds();
+        self.own.plant(alloc, tree)
     }
 }

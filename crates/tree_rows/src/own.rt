@@ -1,17 +1,17 @@
 //! Steps on shelves, after the word `shelf`. Each looks first at what the calls of a shelf require.
 //!
-//! Those on forests but `child` and `plant`, among own nodes, and `copy NUMBER` of any node; `name NUMBER NAME` and `text NUMBER TEXT` give an
-//! own node another name and another text.
+//! Those on forests but `child`, `remove` and `raise`, among own nodes, and `copy NUMBER` of any node; `plant NUMBER NAME` sets the
+//! identities up to that one aside; `name NUMBER NAME` and `text NUMBER TEXT` give an own node another name and another text.
 
-ghost use Rattle.std.specs.Prelude.{◌≡◌, ◌≢◌, IsSome};
+ghost use Rattle.std.specs.Prelude.{◌≡◌, ◌≢◌, ◌<◌, ◌≤◌, ◌^◌, IsSome};
 ghost use Rattle.shelves.specs.Shelf.{shelf_trees};
 ghost use Rattle.data_model.specs.Trees.{find, parent_of};
 
-use super::parts::{Given, MOST, Made, Pieces, take_made, take_node, take_word};
+use super::parts::{Given, LIMIT, MOST, Made, Pieces, element, take_made, take_node, take_word};
 use rows::{RowFault, Words};
 use shelves::Shelf;
-use std::alloc::Global;
-use trees::{Kind, MakeFault, NodeId};
+use std::alloc::{AllocError, Global};
+use trees::{Content, Kind, MakeFault, NodeId, Tree};
 
 /// Takes the steps on a shelf, if the next word is `shelf`, and appends what they gave.
 pub(super) fn take_steps(
@@ -43,6 +43,7 @@ fn take_step(
     }
     let mut ahead = *words;
     let given = match ahead.plain()? {
+        "plant" => plant(alloc, shelf, &mut ahead)?,
         "make" => make(alloc, shelf, &mut ahead)?,
         "put" => put(alloc, shelf, &mut ahead)?,
         "take" => take_out(shelf, &mut ahead)?,
@@ -54,6 +55,27 @@ fn take_step(
     *words = ahead;
     given.push_to(alloc, out)?;
     Ok(true)
+}
+
+fn plant(alloc: Global, shelf: &mut Shelf<'_>, words: &mut Words<'_>) -> Result<Given, RowFault> {
+    let number = words.number()?;
+    let node = element(alloc, number, words.text(alloc)?);
+    if number < shelf.next().number() || number >= LIMIT {
+        return Err(RowFault::NotARow);
+    }
+    plant_leaf(alloc, shelf, node)?;
+    Ok(Given::Nothing)
+}
+
+/// Sets the identities up to a node's aside, which is the next one or a later one, and plants a tree of that node.
+fn plant_leaf(alloc: Global, shelf: &mut Shelf<'_>, node: Content) -> Result<(), AllocError>
+    requires fresh { shelf.old.own.next ≤ node.identity }
+    requires room { node.identity < 2 ^ 62 }
+{
+    shelf.facts();
+    shelf.raise_next(NodeId::new(node.identity.number() + 1));
+    let tree = Tree::new(node, Vec::new(alloc), Vec::new(alloc));
+    shelf.plant(alloc, &tree)
 }
 
 fn make(alloc: Global, shelf: &mut Shelf<'_>, words: &mut Words<'_>) -> Result<Given, RowFault> {

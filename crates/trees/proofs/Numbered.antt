@@ -1,20 +1,21 @@
 -- The numbers of a forest to which trees were added, or from which they were removed again.
 use Rattle.std.proofs.Common.{◌≡◌, ℕ, ◌+◌, ◌≤◌, ◌<◌, ap, sym, ◌∙◌, arith, ⊎_elim, None}
 use Rattle.std.proofs.lemmas.Bool.{cases_lt}
-use Rattle.std.specs.BTreeMap.{BTreeMap}
+use Rattle.std.specs.HashMap.{HashMap}
 use Rattle.data_model.specs.Trees.{Trees, append, count}
 use Rattle.data_model.specs.Changes.{renumbered, ranked}
 use Rattle.trees.specs.Forest.{ForestTerm}
-use Rattle.trees.specs.Flat.{Table, IsTableOf}
-use Rattle.trees.specs.Inside.{table_of, term_of, IsSound}
-use Rattle.trees.specs.Labels.{row_of, place_of, AreNumbered, AreRanked, HasNumbers}
-use Rattle.trees.specs.declared.table.Row.{Row}
+use Rattle.node_table.specs.Flat.{Table, IsTableOf}
+use Rattle.node_table.specs.Rows.{table_of, row_of}
+use Rattle.trees.specs.Inside.{term_of, IsSound}
+use Rattle.node_table.specs.Labels.{place_of, AreNumbered, AreRanked, HasNumbers}
+use Rattle.node_table.specs.declared.table.Row.{Row}
 use Rattle.trees.specs.declared.forest.Forest.TheInside.{Inside}
-use Rattle.trees.proofs.Rows.{no-row, own-place, place-row, table-row, table-none}
-use Rattle.trees.proofs.Labels.{numbered-trees}
-use Rattle.trees.proofs.Numbers.{AreNumbered-append, AreNumbered-ranked, AreNumbered-same, numbers-of, copies-numbered, ranks-numbered}
+use Rattle.node_table.proofs.Rows.{no-row, own-place, place-row, table-row, table-none}
+use Rattle.node_table.proofs.Labels.{numbered-trees}
+use Rattle.node_table.proofs.Numbers.{AreNumbered-append, AreNumbered-ranked, AreNumbered-same, numbers-of, copies-numbered, ranks-numbered}
 use Rattle.trees.proofs.Forests.{now-table}
-use Rattle.trees.proofs.Copies.{put-back}
+use Rattle.node_table.proofs.Copies.{put-back}
 
 module _ (a : Inside) (v : ForestTerm) (is : term_of a ≡ v) (h : IsSound a) where
   own : (i : ℕ) → a.next ≤ i → place_of a.rows i ≡ i
@@ -34,7 +35,7 @@ module _ (a : Inside) (v : ForestTerm) (is : term_of a ≡ v) (h : IsSound a) wh
       numbers-of w g n (ranked k us v.trees) whole (AreNumbered-ranked w k us v.trees (ranks-numbered w 0 us ranks) (AreNumbered-same (place_of a.rows) w v.trees (λ i there. same i (let l = d i in omega arith)) below))
 
   -- the copies that were made are removed again
-  module _ (m t : BTreeMap ℕ Row) (end : ℕ) (same : (i : ℕ) → i < a.next → table_of m i ≡ table_of a.rows i) (fresh : (i : ℕ) → end ≤ i → table_of m i ≡ None) (places : place_of m ≡ place_of a.rows)
+  module _ {S : Type 0} (m t : HashMap ℕ Row S) (end : ℕ) (same : (i : ℕ) → i < a.next → table_of m i ≡ table_of a.rows i) (fresh : (i : ℕ) → end ≤ i → table_of m i ≡ None) (places : place_of m ≡ place_of a.rows)
       (gone : (i : ℕ) → a.next ≤ i → i < end → row_of t i ≡ None) (before : (i : ℕ) → i < a.next → row_of t i ≡ row_of m i) (after : (i : ℕ) → end ≤ i → row_of t i ≡ row_of m i) where
     pub table-back : table_of t ≡ table_of a.rows
     table-back =
@@ -46,9 +47,3 @@ module _ (a : Inside) (v : ForestTerm) (is : term_of a ≡ v) (h : IsSound a) wh
         let z : place_of t i ≡ place_of a.rows i =
         ⊎_elim (λ l. kept (before i l)) (λ l. ⊎_elim (λ k. own-place t i (gone i l k) ∙ sym (own i l)) (λ k. kept (after i k)) (cases_lt i end)) (cases_lt i a.next) in
         z j)
-
-pub rows-table : (m t : BTreeMap ℕ Row) → row_of t ≡ row_of m → table_of t ≡ table_of m
-rows-table m t e = λ j i. (let z : table_of t i ≡ table_of m i = table-row m t i (ap (λ r. r i) e) in z j)
-
-pub rows-places : (m t : BTreeMap ℕ Row) → row_of t ≡ row_of m → place_of t ≡ place_of m
-rows-places m t e = λ j i. (let z : place_of t i ≡ place_of m i = place-row m t i (ap (λ r. r i) e) in z j)

@@ -3,7 +3,7 @@ use Rattle.std.proofs.Common.{◌≡◌, ap, ◌∙◌, Option, Some, None, opti
 use Rattle.data_model.specs.declared.node.NodeView.{NodeView}
 use Rattle.data_model.specs.Trees.{Place}
 use Rattle.data_model.specs.Views.{Views}
-use Rattle.trees.specs.Flat.{Entry, entry_at}
+use Rattle.node_table.specs.Flat.{Entry, entry_at}
 
 pub view-entry : (v : NodeView) (e : Entry) (o : Option Place) → option_map entry_at o ≡ Some e → v.kind ≡ e.kind → v.name.now ≡ e.name → v.text.now ≡ e.text → v.parent ≡ e.parent → v.attributes.now ≡ e.attributes → v.children.now ≡ e.children → Views (Some v) o
 view-entry v e None h kind name text parent attributes children = cc

@@ -1,4 +1,2 @@
 pub mod Forest
-pub mod Flat
 pub mod Inside
-pub mod Labels

@@ -4,7 +4,8 @@ ghost use Rattle.std.specs.Prelude.{◌≡◌, ◌≢◌, ℕ, ◌+◌, ◌<◌,
 ghost use Rattle.std.specs.Map.{lookup};
 ghost use Rattle.std.specs.Str.{bytes_eq};
 ghost use Rattle.data_model.specs.Trees.{no_trees, append, leaf, find, count, size, height, children_of, attributes_of, parent_of, string_value_of, text_within, IsAt, Content as NodeContent};
-ghost use Rattle.data_model.specs.Changes.{with_children, with_attributes, with_content, splice, taken_out, all_moved_below, CanAllMoveBelow, pick, renumbered, ranked};
+ghost use Rattle.data_model.specs.Changes.{with_children, with_attributes, with_content, splice, taken_out, all_moved_below, CanAllMoveBelow, pick, renumbered, ranked, without};
+ghost use Rattle.data_model.specs.declared.node.Kind.TheVariants.{Document};
 ghost use Rattle.data_model.specs.declared.node.Part.TheVariants.{Attributes, Children};
 ghost use Rattle.data_model.specs.Order.{identities, precedes};
 ghost use Rattle.data_model.specs.Axes.{is_in};
@@ -13,18 +14,18 @@ ghost use Rattle.data_model.specs.Views.{Views};
 ghost use Rattle.data_model.specs.Tree.{trees_of_tree};
 ghost use Rattle.data_model.specs.Planted.{past};
 ghost use Rattle.data_model.specs.Walks.{depth_of};
-ghost use Rattle.trees.specs.Labels.{IsOrdered};
+ghost use Rattle.node_table.specs.Labels.{IsOrdered};
 ghost use Rattle.data_model.specs.Paths.{path_of, shared, order_steps_of};
-ghost use Rattle.trees.specs.Flat.{entry_in};
-ghost use Rattle.trees.specs.Inside.{entry_of_row};
+ghost use Rattle.node_table.specs.Flat.{entry_in};
+ghost use Rattle.node_table.specs.Rows.{entry_of_row};
 
-use super::table::{Row, Rows};
-use super::{copy, label, order, plant, table, tree, walk};
 use data_model::{Content, Kind, NodeId, NodeView, Part, Tree};
 use document_names::Names;
 use indexmap::IndexMap;
+use node_table::table::{Row, Rows};
+use node_table::{copy, label, order, plant, table, tree, walk};
 use std::alloc::{AllocError, Global};
-use std::collections::BTreeMap;
+use std::collections::HashMap;
 use std::marker::Model;
 use std::slice;
 
@@ -72,7 +73,7 @@ impl Forest {
         ensures { result ≡ record { trees = no_trees; documents = []; next = next } }
     {
         Forest {
-            rows: BTreeMap::new(alloc),
+            rows: HashMap::new(alloc),
             documents: IndexMap::new(alloc),
             next: next.number(),
             nodes: 0,
@@ -92,12 +93,8 @@ impl Forest {
             }) }
     {
         let name = name.clone()?;
-        match self.make(
-            alloc,
-            Kind::Document,
-            String::new(alloc),
-            String::new(alloc),
-        ) {
+        let text = String::new(alloc);
+        match self.make(alloc, Kind::Document, String::new(alloc), text) {
             Ok(root) => {
                 self.documents.insert(name, root)?;
                 Ok(())
@@ -139,6 +136,15 @@ impl Forest {
         ensures { result ≡ self.now.next }
     {
         NodeId::new(self.next)
+    }
+
+    /// Lets the next node take a later identity. It takes no memory.
+    pub fn raise_next(&mut self, next: NodeId)
+        requires later { self.old.next ≤ next }
+        requires bound { next ≤ 2 ^ 62 }
+        ensures { self.new ≡ record self.old { next = next } }
+    {
+        self.next = next.number();
     }
 
     /// Whether a node of that identity stands here.
@@ -511,6 +517,15 @@ impl Forest {
         }
     }
 
+    /// Removes a tree of its own with all of its nodes. It takes no memory.
+    pub fn remove(&mut self, id: NodeId)
+        requires free { parent_of id self.old.trees ≡ None }
+        requires kind { IsAt (find id self.old.trees) (λ c. c.kind ≢ Document) }
+        ensures { self.new ≡ record self.old { trees = without id self.old.trees } }
+    {
+        self.nodes -= walk::remove(&mut self.rows, &[id], self.next);
+    }
+
     /// Puts trees of their own into a list below a node, one after the other.
     fn put_below(
         &mut self,
@@ -582,7 +597,7 @@ impl Forest {
     }
 
     /// Whether the tree of a node has at most so many nodes. They are counted only where the whole forest has more.
-    fn is_within(&self, id: NodeId, nodes: u64) -> bool
+    pub fn is_within(&self, id: NodeId, nodes: u64) -> bool
         requires { IsSome (find id self.now.trees) }
         ensures { IsTrue result ↔ (size (pick id self.now.trees) ≤ nodes) }
     {
@@ -629,15 +644,8 @@ impl Forest {
         }
         let first = self.next;
         let mut next = first;
-        match copy::copy_all(
-            &lent.rows,
-            &mut self.rows,
-            alloc,
-            &[id],
-            None,
-            first,
-            &mut next,
-        ) {
+        let rows = &mut self.rows;
+        match copy::copy_all(&lent.rows, rows, alloc, &[id], None, first, &mut next) {
             Ok(_) => {
                 self.nodes += next - first;
                 self.next = next;

@@ -1,13 +1,9 @@
-use Rattle.std.proofs.Common.{◌≡◌, ℕ, ◌<◌, ◌≤◌, ◌^◌, ap, sym, ◌∙◌, arith, subst, ⊎_elim}
-use Rattle.std.proofs.lemmas.Bool.Decides.{eqb_tells}
-use Rattle.data_model.specs.Trees.{Trees, Content, append, leaf, count}
+use Rattle.std.proofs.Common.{◌≡◌, ℕ, ◌<◌, ◌≤◌, ◌^◌, ap, sym, ◌∙◌, arith, subst}
+use Rattle.data_model.specs.Trees.{Trees, append, leaf, count}
 use Rattle.data_model.specs.Tree.{trees_of_tree}
 use Rattle.trees.proofs.CallerLemmas.{distinct-planted}
-use Rattle.shelves.proofs.Shelves.{count-leaf}
+use Rattle.shelves.proofs.Shelves.{count-leaf, one-leaf}
 use Rattle.tree_rows.proofs.forests.plant_leaf.Goals as goal
-
-one-leaf : (i : ℕ) (c : Content) → count i (leaf c) ≤ 1
-one-leaf i c = ⊎_elim (λ t. rw t.0 (omega arith)) (λ t. rw t.0 (omega arith)) (eqb_tells i c.identity)
 
 pub plant-requires : goal.plant-requires
 plant-requires c =

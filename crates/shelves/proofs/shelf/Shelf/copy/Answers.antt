@@ -1,7 +1,7 @@
 use Rattle.std.proofs.Common.{◌≡◌, ◌+◌, arith}
 use Rattle.data_model.specs.Trees.{append, size}
 use Rattle.data_model.specs.Changes.{pick, renumbered}
-use Rattle.trees.proofs.Copies.{renumbered-within}
+use Rattle.node_table.proofs.Copies.{renumbered-within}
 use Rattle.shelves.proofs.Shelves.{after-either, after-more}
 use Rattle.shelves.proofs.shelf.Shelf.copy.Goals as goal
 

@@ -1,8 +1,8 @@
 use Rattle.std.proofs.Common.{refl, string_bytes}
 use Rattle.data_model.specs.Trees.{Content}
 use Rattle.data_model.specs.Changes.{with_content}
-use Rattle.trees.specs.Flat.{with_name}
-use Rattle.trees.proofs.Contents.{SaysSame, weigh-with_content}
+use Rattle.node_table.specs.Flat.{with_name}
+use Rattle.node_table.proofs.Contents.{SaysSame, weigh-with_content}
 use Rattle.shelves.proofs.Shelves.{after-weighed}
 use Rattle.shelves.proofs.shelf.Shelf.set_name.Goals as goal
 

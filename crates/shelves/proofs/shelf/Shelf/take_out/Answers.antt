@@ -1,5 +1,5 @@
 use Rattle.data_model.specs.Changes.{taken_out}
-use Rattle.trees.proofs.Takes.{weigh-taken}
+use Rattle.node_table.proofs.Takes.{weigh-taken}
 use Rattle.shelves.proofs.Shelves.{after-weighed}
 use Rattle.shelves.proofs.shelf.Shelf.take_out.Goals as goal
 

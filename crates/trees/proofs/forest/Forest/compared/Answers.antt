@@ -4,9 +4,9 @@ use Rattle.std.proofs.lemmas.Bool.Decides.{nat_tests}
 use Rattle.data_model.specs.Order.{precedes}
 use Rattle.data_model.specs.Paths.{path_of, shared}
 use Rattle.data_model.proofs.Climbs.{there-counts}
-use Rattle.trees.proofs.Takes.{ltb-yes}
-use Rattle.trees.proofs.LabelSteps.{order-self}
-use Rattle.trees.proofs.Ups.{same-ids}
+use Rattle.node_table.proofs.Takes.{ltb-yes}
+use Rattle.node_table.proofs.LabelSteps.{order-self}
+use Rattle.node_table.proofs.Ups.{same-ids}
 use Rattle.data_model.proofs.Paths.{path-length, depth-size, shared-same, lifted-same, lifted-apart}
 use Rattle.trees.proofs.forest.Forest.compared.Goals as goal
 use Rattle.trees.proofs.forest.Forest.compared.Goals.{then-high-low, else-high-low}

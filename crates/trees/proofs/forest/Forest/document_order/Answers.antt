@@ -4,11 +4,11 @@ use Rattle.data_model.specs.Trees.{count}
 use Rattle.data_model.specs.Order.{identities}
 use Rattle.data_model.specs.Axes.{is_in}
 use Rattle.trees.specs.Forest.{ForestTerm}
-use Rattle.trees.specs.Inside.{table_of, trees_of}
-use Rattle.trees.specs.Labels.{place_of}
+use Rattle.node_table.specs.Rows.{table_of, trees_of}
+use Rattle.node_table.specs.Labels.{place_of}
 use Rattle.data_model.proofs.Climbs.{there-counts}
-use Rattle.trees.proofs.Ups.{orders-of, row-counts, row-there}
-use Rattle.trees.proofs.Ordered.{by-labels-in-order, one-in-order, one-of}
+use Rattle.node_table.proofs.Ups.{orders-of, row-counts, row-there}
+use Rattle.node_table.proofs.Ordered.{by-labels-in-order, one-in-order, one-of}
 use Rattle.trees.proofs.forest.Forest.document_order.Goals as goal
 
 pub returns-then-has : goal.returns-then-has

@@ -1,6 +1,6 @@
 use Rattle.std.proofs.Common.{◌≢◌, ℕ, ◌≤◌, ◌∙◌, sym, arith, ap}
 use Rattle.data_model.specs.Walks.{depth_of}
-use Rattle.trees.proofs.LabelSteps.{order-lift, order-parent}
+use Rattle.node_table.proofs.LabelSteps.{order-lift, order-parent}
 use Rattle.data_model.specs.Paths.{path_of, shared}
 use Rattle.data_model.proofs.Paths.{path-up, path-top, path-length, shared-last}
 use Rattle.data_model.proofs.Climbs.{there-counts}

@@ -1,8 +1,8 @@
 use Rattle.std.proofs.Common.{◌∙◌, ap, sym, refl, option_copied}
 use Rattle.data_model.specs.Trees.{find}
-use Rattle.trees.specs.Inside.{entry_of_row}
+use Rattle.node_table.specs.Rows.{entry_of_row}
 use Rattle.trees.proofs.Forests.{entry-is}
-use Rattle.trees.proofs.Rows.{row-entry, row-none}
+use Rattle.node_table.proofs.Rows.{row-entry, row-none}
 use Rattle.trees.proofs.Views.{view-entry, view-none}
 use Rattle.trees.proofs.forest.Forest.node.Goals as goal
 

@@ -1,7 +1,7 @@
-use Rattle.trees.specs.Inside.{table_of}
-use Rattle.trees.specs.Labels.{place_of}
+use Rattle.node_table.specs.Rows.{table_of}
+use Rattle.node_table.specs.Labels.{place_of}
 use Rattle.trees.proofs.Forests.{now-table}
-use Rattle.trees.proofs.Ups.{orders-of}
+use Rattle.node_table.proofs.Ups.{orders-of}
 use Rattle.trees.proofs.forest.Forest.numbered.Goals as goal
 
 pub returns : goal.returns

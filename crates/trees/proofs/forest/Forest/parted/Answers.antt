@@ -2,13 +2,13 @@ use Rattle.std.proofs.Common.{◌≡◌, ◌+◌, ◌++◌, ◌∷◌, [], lengt
 use Rattle.data_model.specs.Paths.{path_of, shared}
 use Rattle.data_model.specs.Walks.{depth_of}
 use Rattle.data_model.specs.Trees.{parent_of}
-use Rattle.trees.specs.Inside.{table_of}
-use Rattle.trees.specs.Labels.{place_of}
+use Rattle.node_table.specs.Rows.{table_of}
+use Rattle.node_table.specs.Labels.{place_of}
 use Rattle.data_model.proofs.Climbs.{there-counts}
 use Rattle.data_model.proofs.Firsts.{lt-is}
 use Rattle.trees.proofs.Forests.{now-table}
-use Rattle.trees.proofs.LabelSteps.{order-siblings, order-both}
-use Rattle.trees.proofs.Ups.{orders-of, order-roots, parent-zero, same-ids, other-ids}
+use Rattle.node_table.proofs.LabelSteps.{order-siblings, order-both}
+use Rattle.node_table.proofs.Ups.{orders-of, order-roots, parent-zero, same-ids, other-ids}
 use Rattle.data_model.proofs.Paths.{path-up, path-top, path-zero, path-length, shared-both, shared-same}
 use Rattle.trees.proofs.forest.Forest.parted.Goals as goal
 

@@ -1,0 +1,38 @@
+-- What rows say of nodes, and what room they have.
+use Rattle.std.specs.Prelude.{ℕ, ◌≤◌, ◌+◌, Option, Some, None, option_map, string_bytes, vec_len, vec_capacity, nat_eq}
+use Rattle.std.specs.HashMap.{HashMap, get}
+use Rattle.std.specs.declared.alloc.Global.{Global}
+use Rattle.std.specs.declared.vec.Vec.{Vec}
+use Rattle.data_model.specs.Trees.{Trees}
+use Rattle.node_table.specs.Flat.{Entry, Table, read_trees, parentless}
+use Rattle.data_model.specs.declared.node.Part.{Part}
+use Rattle.data_model.specs.declared.node.Part.TheVariants.{Attributes, Children}
+use Rattle.node_table.specs.declared.table.Row.{Row}
+
+abbrev pub entry_of_row : Row → Entry
+entry_of_row r =
+    record { kind = r.kind; name = string_bytes r.name; text = string_bytes r.text; parent = r.parent; attributes = r.attributes.items; children = r.children.items }
+
+-- the row of a node
+unfoldable pub row_of : {S : Type 0} → HashMap ℕ Row S → ℕ → Option Row
+row_of m i = get nat_eq m i
+
+-- what the rows say of a node
+unfoldable pub table_of : {S : Type 0} → HashMap ℕ Row S → Table
+table_of m i = option_map entry_of_row (get nat_eq m i)
+
+-- the trees of a table whose identities are below n
+unfoldable pub trees_of : Table → ℕ → Trees
+trees_of f n = read_trees n f (parentless f n)
+
+abbrev pub list_in : Part → Row → Vec ℕ Global
+list_in Attributes r = r.attributes
+list_in Children r = r.children
+
+abbrev pub HasRoomIn : Part → ℕ → Option Row → Type 0
+HasRoomIn part n None = ⊥
+HasRoomIn part n (Some r) = vec_len (list_in part r) + n ≤ vec_capacity (list_in part r)
+
+-- the node is there, and n more fit into that list of it with no allocation
+unfoldable pub HasRoom : {S : Type 0} → Part → ℕ → ℕ → HashMap ℕ Row S → Type 0
+HasRoom part i n m = HasRoomIn part n (get nat_eq m i)

@@ -1,0 +1,219 @@
+//! The flat table of nodes that a forest stands on.
+
+ghost use Rattle.std.specs.Prelude.{◌≡◌, ◌≢◌, ℕ, ◌+◌, ◌≤◌, Option, Some, None, OnOk, OnErr, IsSome, List, length, filter, not, eqb, cond, vec_len, vec_capacity, string_bytes};
+ghost use Rattle.data_model.specs.declared.node.Part.{Part};
+ghost use Rattle.data_model.specs.Walks.{held};
+ghost use Rattle.node_table.specs.Flat.{Entry, IsChangedAt, Makes, Puts, with_child, with_parent, with_text, with_name, without_child, listed, IsOnceBelow};
+ghost use Rattle.node_table.specs.Rows.{table_of, entry_of_row, list_in, HasRoom};
+ghost use Rattle.node_table.specs.Labels.{place_of};
+
+use data_model::{Content, Kind, NodeId, Part};
+use std::alloc::{AllocError, Global};
+use std::collections::HashMap;
+
+/// What the table has of a node.
+#[derive(Clone, Drop)]
+pub struct Row {
+    /// Its kind.
+    pub kind: Kind,
+    /// Its name, empty where its kind has none.
+    pub name: String,
+    /// The text of an attribute, a text, a comment or a processing instruction; empty for other kinds.
+    pub text: String,
+    /// Its parent.
+    pub parent: Option<NodeId>,
+    /// Its attributes, in their list's order.
+    pub attributes: Vec<NodeId>,
+    /// Its children, in document order.
+    pub children: Vec<NodeId>,
+    /// A number that rises among its parent's attributes and then its children. A root's counts for nothing.
+    pub place: u64,
+}
+
+/// Every node by the number of its identity.
+pub type Rows = HashMap<u64, Row>;
+
+/// Makes room for more nodes in a list of a row, which says what it said, also where memory is refused.
+fn reserve_in(row: &mut Row, part: Part, additional: usize) -> Result<(), AllocError>
+    ensures same { entry_of_row row.new ≡ entry_of_row row.old }
+    ensures place { row.new.place ≡ row.old.place }
+    ensures room { OnOk result (vec_len (list_in part row.new) + additional ≤ vec_capacity (list_in part row.new)) }
+{
+    match part {
+        Part::Attributes => row.attributes.reserve(additional),
+        Part::Children => row.children.reserve(additional),
+    }
+}
+
+/// Puts a node into a list of a row, which has room for it.
+fn add_to(row: &mut Row, part: Part, index: usize, child: NodeId)
+    requires within { index ≤ vec_len (list_in part row.old) }
+    requires room { vec_len (list_in part row.old) + 1 ≤ vec_capacity (list_in part row.old) }
+    ensures added { entry_of_row row.new ≡ with_child part index child (entry_of_row row.old) }
+    ensures place { row.new.place ≡ row.old.place }
+    ensures len { vec_len (list_in part row.new) ≡ vec_len (list_in part row.old) + 1 }
+    ensures capacity { vec_capacity (list_in part row.old) ≤ vec_capacity (list_in part row.new) }
+{
+    match part {
+        Part::Attributes => row.attributes.insert(index, child).unwrap(),
+        Part::Children => row.children.insert(index, child).unwrap(),
+    }
+}
+
+/// Makes room for more nodes in a list below a node. Where memory is refused, the table says what it said.
+pub fn reserve(
+    rows: &mut Rows,
+    part: Part,
+    parent: NodeId,
+    additional: usize,
+) -> Result<(), AllocError>
+    ensures same { table_of rows.new ≡ table_of rows.old }
+    ensures places { place_of rows.new ≡ place_of rows.old }
+    ensures room { OnOk result (IsSome (table_of rows.old parent) → HasRoom part parent additional rows.new) }
+{
+    match rows.get_mut(&parent.number()) {
+        Some(row) => reserve_in(row, part, additional),
+        None => Ok(()),
+    }
+}
+
+/// Puts a node into a list below another, in which `index` others come before it and for which room was made.
+fn add_below(rows: &mut Rows, part: Part, parent: NodeId, index: usize, child: NodeId)
+    requires within { (e : Entry) → table_of rows.old parent ≡ Some e → index ≤ length (listed part e) }
+    requires room { HasRoom part parent 1 rows.old }
+    ensures added { IsChangedAt (table_of rows.old) (table_of rows.new) parent (with_child part index child) }
+    ensures places { place_of rows.new ≡ place_of rows.old }
+    ensures room { (n : ℕ) → HasRoom part parent (n + 1) rows.old → HasRoom part parent n rows.new }
+{
+    if let Some(row) = rows.get_mut(&parent.number()) {
+        add_to(row, part, index, child);
+    }
+}
+
+/// Makes a node in a list below another, in which `index` others come before it. Where memory is refused, the table says what it said.
+pub fn make_below(
+    rows: &mut Rows,
+    alloc: Global,
+    part: Part,
+    parent: NodeId,
+    index: usize,
+    node: Content,
+) -> Result<(), AllocError>
+    requires has { IsSome (table_of rows.old parent) }
+    requires within { (e : Entry) → table_of rows.old parent ≡ Some e → index ≤ length (listed part e) }
+    requires fresh { table_of rows.old node.identity ≡ None }
+    ensures made { OnOk result (Makes (table_of rows.old) (table_of rows.new) part index parent node) }
+    ensures refused { OnErr result (table_of rows.new ≡ table_of rows.old) }
+    ensures places { place_of rows.new ≡ place_of rows.old }
+{
+    reserve(rows, part, parent, 1)?;
+    let identity = node.identity;
+    let number = identity.number();
+    let row = Row {
+        kind: node.kind,
+        name: node.name,
+        text: node.text,
+        parent: Some(parent),
+        attributes: Vec::new(alloc),
+        children: Vec::new(alloc),
+        place: number,
+    };
+    rows.insert(number, row)?;
+    add_below(rows, part, parent, index, identity);
+    Ok(())
+}
+
+/// Gives a node another parent, or none.
+pub fn set_parent(rows: &mut Rows, child: NodeId, parent: Option<NodeId>)
+    requires { IsSome (table_of rows.old child) }
+    ensures changed { IsChangedAt (table_of rows.old) (table_of rows.new) child (with_parent parent) }
+    ensures places { place_of rows.new ≡ place_of rows.old }
+    ensures room { (part : Part) (i n : ℕ) → HasRoom part i n rows.old → HasRoom part i n rows.new }
+{
+    if let Some(row) = rows.get_mut(&child.number()) {
+        row.parent = parent;
+    }
+}
+
+/// Moves a node that has no parent into a list below another, in which `index` others come before it and for which room was made.
+pub fn move_below(rows: &mut Rows, part: Part, parent: NodeId, index: usize, child: NodeId)
+    requires within { (e : Entry) → table_of rows.old parent ≡ Some e → index ≤ length (listed part e) }
+    requires there { IsSome (table_of rows.old child) }
+    requires apart { parent ≢ child }
+    requires room { HasRoom part parent 1 rows.old }
+    ensures put { Puts (table_of rows.old) (table_of rows.new) part index parent child }
+    ensures places { place_of rows.new ≡ place_of rows.old }
+    ensures room { (n : ℕ) → HasRoom part parent (n + 1) rows.old → HasRoom part parent n rows.new }
+{
+    add_below(rows, part, parent, index, child);
+    set_parent(rows, child, Some(parent));
+}
+
+/// Gives a node another text.
+pub fn set_text(rows: &mut Rows, id: NodeId, text: String)
+    requires { IsSome (table_of rows.old id) }
+    ensures changed { IsChangedAt (table_of rows.old) (table_of rows.new) id (with_text (string_bytes text)) }
+    ensures places { place_of rows.new ≡ place_of rows.old }
+{
+    if let Some(row) = rows.get_mut(&id.number()) {
+        row.text = text;
+    }
+}
+
+/// Gives a node another name.
+pub fn set_name(rows: &mut Rows, id: NodeId, name: String)
+    requires { IsSome (table_of rows.old id) }
+    ensures changed { IsChangedAt (table_of rows.old) (table_of rows.new) id (with_name (string_bytes name)) }
+    ensures places { place_of rows.new ≡ place_of rows.old }
+{
+    if let Some(row) = rows.get_mut(&id.number()) {
+        row.name = name;
+    }
+}
+
+/// Takes a node out of the list below another in which it stands: that of `part`, or else the other.
+pub fn drop_child(rows: &mut Rows, part: Part, parent: NodeId, child: NodeId)
+    requires there { IsSome (table_of rows.old parent) }
+    requires once { (e : Entry) → table_of rows.old parent ≡ Some e → IsOnceBelow child e }
+    ensures changed { IsChangedAt (table_of rows.old) (table_of rows.new) parent (without_child child) }
+    ensures places { place_of rows.new ≡ place_of rows.old }
+{
+    if let Some(row) = rows.get_mut(&parent.number()) {
+        remove_below(row, part, child);
+    }
+}
+
+/// Takes a node out of the list of a row in which it stands: that of `part`, or else the other.
+fn remove_below(row: &mut Row, part: Part, child: NodeId)
+    requires { IsOnceBelow child (entry_of_row row.old) }
+    ensures lists { entry_of_row row.new ≡ without_child child (entry_of_row row.old) }
+    ensures place { row.new.place ≡ row.old.place }
+{
+    match part {
+        Part::Attributes => {
+            if !remove_from(&mut row.attributes, child) {
+                remove_from(&mut row.children, child);
+            }
+        }
+        Part::Children => {
+            if !remove_from(&mut row.children, child) {
+                remove_from(&mut row.attributes, child);
+            }
+        }
+    }
+}
+
+/// Takes a node out of a list that has it at most once, and says whether it had it.
+fn remove_from(ids: &mut Vec<NodeId>, id: NodeId) -> bool
+    requires { held id ids.old.items ≤ 1 }
+    ensures removed { ids.new.items ≡ filter (λ i. not (eqb id i)) ids.old.items }
+    ensures had { held id ids.old.items ≡ cond result 1 0 }
+{
+    for at in 0..ids.len() {
+        if ids[at] == id {
+            ids.remove(at);
+            return true;
+        }
+    }
+    false
+}

@@ -1,0 +1,40 @@
+//! Trees of their own, read off the flat table.
+
+ghost use Rattle.std.specs.Prelude.{◌≡◌, IfOk};
+ghost use Rattle.data_model.specs.Tree.{all_of};
+ghost use Rattle.node_table.specs.Flat.{read_trees};
+ghost use Rattle.node_table.specs.Rows.{table_of};
+
+use super::table::Rows;
+use data_model::{Content, NodeId, Tree};
+use std::alloc::{AllocError, Global};
+
+/// The trees of some nodes, each with what is below it, at most so many levels down.
+pub fn trees_of(
+    rows: &Rows,
+    alloc: Global,
+    ids: &[NodeId],
+    levels: u64,
+) -> Result<Vec<Tree>, AllocError>
+    ensures { IfOk result (λ v. all_of v.items ≡ read_trees levels (table_of rows.now) ids.now) }
+{
+    let mut trees = Vec::new(alloc);
+    if levels == 0 {
+        return Ok(trees);
+    }
+    for id in ids {
+        let Some(row) = rows.get(&id.number()) else {
+            return Ok(trees);
+        };
+        let content = Content {
+            identity: *id,
+            kind: row.kind,
+            name: row.name.clone()?,
+            text: row.text.clone()?,
+        };
+        let attributes = trees_of(rows, alloc, &row.attributes, levels - 1)?;
+        let children = trees_of(rows, alloc, &row.children, levels - 1)?;
+        trees.push(Tree::new(content, attributes, children))?;
+    }
+    Ok(trees)
+}

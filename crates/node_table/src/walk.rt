@@ -1,0 +1,99 @@
+//! Walks below nodes, over the flat table.
+
+ghost use Rattle.std.specs.Prelude.{◌≡◌, ℕ, ◌++◌, ◌<◌, ◌≤◌, ◌^◌, Some, None, IfOk, cond, length, string_bytes};
+ghost use Rattle.data_model.specs.Trees.{count, size, text_of, text_within};
+ghost use Rattle.node_table.specs.Flat.{AreThere, read_trees};
+ghost use Rattle.node_table.specs.Rows.{table_of, row_of};
+
+use super::table::Rows;
+use data_model::NodeId;
+use std::alloc::AllocError;
+
+/// Appends a text where at most `most` bytes stand there then, and says whether they do; where not, nothing is appended.
+pub fn push_within(out: &mut String, text: &str, most: usize) -> Result<bool, AllocError>
+    requires { length (string_bytes out.old) ≤ most }
+    ensures value { IfOk result (λ fits. text_within most (string_bytes out.old ++ text.now) ≡ cond fits (Some (string_bytes out.new)) None) }
+    ensures most { length (string_bytes out.new) ≤ most }
+{
+    if text.len() > most - out.len() {
+        return Ok(false);
+    }
+    out.push_str(text)?;
+    Ok(true)
+}
+
+/// Appends the texts below some nodes, at most so many levels down, where at most `most` bytes stand there then, and says whether
+/// they do; where not, it stops before the text that would pass them.
+pub fn add_text_within(
+    rows: &Rows,
+    ids: &[NodeId],
+    levels: u64,
+    most: usize,
+    out: &mut String,
+) -> Result<bool, AllocError>
+    requires { length (string_bytes out.old) ≤ most }
+    ensures value { IfOk result
+        (λ fits. text_within most (string_bytes out.old ++ text_of (read_trees levels (table_of rows.now) ids.now)) ≡ cond fits (Some (string_bytes out.new)) None) }
+    ensures most { length (string_bytes out.new) ≤ most }
+{
+    if levels == 0 {
+        return Ok(true);
+    }
+    for id in ids {
+        let Some(row) = rows.get(&id.number()) else {
+            return Ok(true);
+        };
+        let fits = if row.kind.is_inner() {
+            add_text_within(rows, &row.children, levels - 1, most, out)?
+        } else if row.kind.is_text() {
+            push_within(out, &row.text, most)?
+        } else {
+            true
+        };
+        if !fits {
+            return Ok(false);
+        }
+    }
+    Ok(true)
+}
+
+/// How many nodes stand below a list of nodes, they themselves counted, at most so many levels down.
+pub fn count(rows: &Rows, ids: &[NodeId], levels: u64) -> u64
+    requires { size (read_trees levels (table_of rows.now) ids.now) < 2 ^ 64 }
+    ensures { result ≡ size (read_trees levels (table_of rows.now) ids.now) }
+{
+    let mut nodes = 0;
+    if levels == 0 {
+        return nodes;
+    }
+    for id in ids {
+        let Some(row) = rows.get(&id.number()) else {
+            return nodes;
+        };
+        nodes += 1 + count(rows, &row.attributes, levels - 1);
+        nodes += count(rows, &row.children, levels - 1);
+    }
+    nodes
+}
+
+/// Removes a list of nodes and what stands below them, at most so many levels down, and says how many they were.
+pub fn remove(rows: &mut Rows, ids: &[NodeId], levels: u64) -> u64
+    requires there { AreThere (table_of rows.old) levels (2 ^ 62) ids.now }
+    requires distinct { (i : ℕ) → count i (read_trees levels (table_of rows.old) ids.now) ≤ 1 }
+    ensures nodes { result ≡ size (read_trees levels (table_of rows.old) ids.now) }
+    ensures removed { (i : ℕ) → 0 < count i (read_trees levels (table_of rows.old) ids.now) → row_of rows.new i ≡ None }
+    ensures same { (i : ℕ) → count i (read_trees levels (table_of rows.old) ids.now) ≡ 0 → row_of rows.new i ≡ row_of rows.old i }
+{
+    let mut nodes = 0;
+    if levels == 0 {
+        return nodes;
+    }
+    for id in ids {
+        let Some(row) = rows.remove(&id.number()) else {
+            return nodes;
+        };
+        nodes += 1 + remove(rows, &row.attributes, levels - 1);
+        nodes += remove(rows, &row.children, levels - 1);
+    }
+    nodes
+}

@@ -1,0 +1,59 @@
+-- A forest with a copy of a tree.
+use Rattle.std.proofs.Common.{◌≡◌, ℕ, ◌+◌, ◌≤◌, ◌<◌, [], ◌∷◌, refl, sym, arith, ⊎_elim, Option, Some, None, IsSome, subst, leb, IsTrue, ◌-◌}
+use Rattle.std.proofs.lemmas.Bool.{cases_lt}
+use Rattle.std.proofs.lemmas.Bool.Decides.{nat_tests}
+use Rattle.data_model.specs.Trees.{Trees, no_trees, tree, append, roots, count, size, find}
+use Rattle.data_model.specs.Changes.{renumbered, pick}
+use Rattle.node_table.specs.Flat.{Entry, Table, Holds, read_trees, IsTableOf, IsDocumentEntry}
+use Rattle.trees.specs.Forest.{ForestTerm}
+use Rattle.node_table.specs.Rows.{table_of}
+use Rattle.trees.specs.Inside.{term_of, AreStanding, IsSound}
+use Rattle.trees.specs.declared.forest.Forest.TheInside.{Inside}
+use Rattle.data_model.proofs.Weights.{weigh-pick}
+use Rattle.trees.proofs.Forests.{now-entry, now-table, now-nodes, standing-kept}
+use Rattle.node_table.proofs.Copies.{Copies, IsTableOf-copied, one-tree, picked-copies}
+
+-- ---- the tree of a node of a forest
+module _ (a : Inside) (v : ForestTerm) (is : term_of a ≡ v) (h : IsSound a) (k : ℕ) (stands : IsSome (find k v.trees)) where
+  entry-k : (e : Entry) × (table_of a.rows k ≡ Some e)
+  entry-k = now-entry a v is h k stands
+
+  pub forest-copies : (b : Table) (m : ℕ) → a.next ≤ m → ((i : ℕ) → 0 < count i v.trees → b i ≡ table_of a.rows i) → Copies b m k (pick k v.trees)
+  forest-copies b m le same = picked-copies (table_of a.rows) a.next v.trees k entry-k.0 (now-table a v is h) entry-k.1 b m le same
+
+  pub own-read : read_trees a.next (table_of a.rows) (k ∷ []) ≡ pick k v.trees
+  own-read = (forest-copies (table_of a.rows) a.next (omega arith) (λ i l. refl)).read
+
+  pub own-root : roots (pick k v.trees) ≡ k ∷ []
+  own-root = (forest-copies (table_of a.rows) a.next (omega arith) (λ i l. refl)).root
+
+  pub copy-size : size (pick k v.trees) ≤ a.nodes
+  copy-size = let s = weigh-pick (λ _. 1) k v.trees in let n = now-nodes a v is h in omega arith
+
+-- ---- the forest with the copy
+module _ (a : Inside) (v : ForestTerm) (is : term_of a ≡ v) (h : IsSound a) where
+  pub copy-table : (k : ℕ) (us : Trees) → roots us ≡ k ∷ [] → (g : Table) → ((j : ℕ) → j < a.next → g j ≡ table_of a.rows j) → ((j : ℕ) → a.next + size us ≤ j → g j ≡ None) → Holds g None (renumbered a.next us)
+      → IsTableOf g (a.next + size us) (append v.trees (renumbered a.next us))
+  copy-table k us root g same fresh holds =
+      let one = one-tree us k root in
+      let vs = tree one.content one.attributes one.children no_trees in
+      let P : Trees → Type 0 = λ t. ((j : ℕ) → a.next + size t ≤ j → g j ≡ None) × Holds g None (renumbered a.next t) in
+      let Q : Trees → Type 0 = λ t. IsTableOf g (a.next + size t) (append v.trees (renumbered a.next t)) in
+      let z : P vs = subst P one.is (fresh, holds) in
+      subst Q (sym one.is) (IsTableOf-copied (table_of a.rows) g a.next v.trees one.content one.attributes one.children (now-table a v is h) same z.0 z.1)
+
+  pub copy-standing : (g : Table) → ((j : ℕ) → j < a.next → g j ≡ table_of a.rows j) → AreStanding g a.documents.entries
+  copy-standing g same =
+      let P : Option Entry → Type 0 = IsDocumentEntry in
+      standing-kept (table_of a.rows) g a.documents.entries
+      (λ i d. subst P (sym (same i (⊎_elim (λ l. l) (λ l. absurd (let z : P None = subst P (h.table.above i l) d in z)) (cases_lt i a.next)))) d) h.standing
+
+-- the tests of the numbers that are left
+pub leb-test : (m k : ℕ) → (IsTrue (leb m k) → m ≤ k) × (m ≤ k → IsTrue (leb m k))
+leb-test m k = (λ t. grind (arith, nat_tests), λ l. grind (arith, nat_tests))
+
+pub room-test : (P : Type 0) (m n k : ℕ) → n ≤ k → (P → m ≤ k - n) × (m ≤ k - n → P) → (P → n + m ≤ k) × (n + m ≤ k → P)
+room-test P m n k h t = (λ x. (let y = t.0 x in omega arith), λ l. t.1 (omega arith))
+
+pub leb-yes : (m n : ℕ) → m ≤ n → IsTrue (leb m n)
+leb-yes m n h = grind (arith, nat_tests)
