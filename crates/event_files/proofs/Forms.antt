@@ -1,6 +1,6 @@
 -- What lines are whose parts are known.
 use Rattle.std.proofs.Common.{◌≡◌, ℕ, ◌^◌, List, Some}
-use Rattle.paxq_files.specs.Script.{number_below}
+use Rattle.line_parts.specs.Parts.{number_below}
 use Rattle.event_files.specs.Forms.{after_part, number_of, part, request_of, request_with}
 
 -- the request of a line whose numbers are known

@@ -7,7 +7,7 @@ ghost use Rattle.event_files.specs.Within.{IsCommandOf, IsStepOf};
 use super::lines::utf8_of;
 use super::parts::{read_kept, read_member};
 use ballots::{Members, Request};
-use paxq_files::{cut_at, has_text_length, new_request, read_client, read_number};
+use line_parts::{cut_at, has_text_length, new_request, read_client, read_number};
 use std::alloc::{AllocError, Global};
 use world::{Event, Step, Tick};
 

@@ -8,7 +8,7 @@ use super::lines::utf8_of;
 use super::parts::{read_count, read_kept, read_member, read_number_to};
 use ballots::Members;
 use document_names::{Names, NamesFault};
-use paxq_files::{cut_at, read_names};
+use line_parts::{cut_at, read_names};
 use std::alloc::{AllocError, Global};
 
 /// How many members there are, and the names of the documents that each of them has.

@@ -5,7 +5,7 @@ ghost use Rattle.event_files.specs.Forms.{kept_of, number_to};
 ghost use Rattle.event_files.specs.Within.{IsMember};
 
 use ballots::Members;
-use paxq_files::read_number;
+use line_parts::read_number;
 
 /// The most members that there may be.
 const MAX_MEMBERS: u64 = 63;

@@ -7,8 +7,9 @@ ghost use Rattle.std.specs.Prelude.{◌≡◌, ◌≢◌};
 ghost use Rattle.std.specs.IoError.{error_kind};
 ghost use Rattle.std.specs.declared.io.ErrorKind.TheVariants.{OutOfMemory};
 
-use paxq_run::{cannot_read, run_script};
+use paxq_run::run_script;
 use paxq_sim::run_events;
+use program_reports::cannot_read;
 use std::io::{BufWriter, Write};
 use std::process::ExitCode;
 use std::{fs, io};

@@ -3,7 +3,8 @@ use Rattle.std.proofs.Common.{◌≡◌, ℕ, ◌^◌, Bool, true, false, ◌&&�
 use Rattle.std.specs.Option.{option_and_then, option_map_or}
 use Rattle.std.specs.List.{before_first, after_first}
 use Rattle.query_forms.specs.Forms.{insertion_of, path_of, text_after}
-use Rattle.paxq_files.specs.Script.{Command, number_below, has_text_length, is_space, submit_with, submit_of, ask_of, command_of}
+use Rattle.line_parts.specs.Parts.{number_below, has_text_length, is_space}
+use Rattle.paxq_files.specs.Script.{Command, submit_with, submit_of, ask_of, command_of}
 use Rattle.paxq_files.specs.Commands.{IsFormed, AreFormed}
 
 -- what a line gives is formed, where it gives something

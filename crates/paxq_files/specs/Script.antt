@@ -2,8 +2,8 @@
 use Rattle.std.specs.Prelude.{ℕ, ◌+◌, ◌*◌, ◌^◌, ◌-◌, Bool, ◌&&◌, not, nat_lt, nat_le, ◌==◌, if◌then◌else◌, List, [], ◌∷◌, ◌++◌, length, filter, fold, codes, Option, Some, None, is_some}
 use Rattle.std.specs.Option.{option_map, option_map_or}
 use Rattle.std.specs.List.{list_all, slice_split, before_first, after_first, enumerate_from, starts_with}
-use Rattle.document_names.specs.Characters.{is_digit}
 use Rattle.document_names.specs.Names.{are_document_names}
+use Rattle.line_parts.specs.Parts.{number_below, is_space, has_text_length}
 use Rattle.query_forms.specs.Forms.{insertion_of, path_of, text_after, ◌>>=◌}
 use Rattle.ballots.specs.Terms.{Request as RequestTerm}
 
@@ -21,21 +21,6 @@ pub record ScriptTerm : Type 0 where
 pub data ScriptRead : Type 0 where
   script : ScriptTerm → ScriptRead
   wrong : ℕ → ScriptRead
-
--- the number that digits stand for
-abbrev pub digits_value : List ℕ → ℕ
-digits_value = fold (λ n b. 10 * n + (b - 48)) 0
-
--- a number below a limit, in decimal and without a sign
-abbrev pub number_below : ℕ → List ℕ → Option ℕ
-number_below limit bs = if nat_lt 0 (length bs) && list_all is_digit bs && nat_lt (digits_value bs) limit then Some (digits_value bs) else None
-
-abbrev pub is_space : ℕ → Bool
-is_space b = b == 32
-
--- 1 to 4,096 bytes
-abbrev pub has_text_length : List ℕ → Bool
-has_text_length text = nat_lt 0 (length text) && nat_le (length text) 4096
 
 -- a request at level 1, whose text is an insertion
 abbrev pub submit_with : ℕ → ℕ → List ℕ → Option Command

@@ -1,9 +1,10 @@
 // The lines of a text that say something, one after the other.
 
 ghost use Rattle.std.specs.Prelude.{◌≡◌, ◌==◌, ◌+◌, ◌^◌, ◌≤◌, ◌<◌, [], ◌∷◌, length, IfSome, MatchOption};
-ghost use Rattle.std.specs.List.{after_first, before_first};
 ghost use Rattle.paxq_files.specs.Lines.{lines_after};
 ghost use Rattle.paxq_files.specs.Script.{says_something};
+
+use line_parts::cut_at;
 
 /// A line that says something, and what stands after it.
 #[derive(Clone, Copy, Debug, PartialEq, Eq)]
@@ -40,19 +41,6 @@ pub(crate) fn first_line(text: &str, before: u64) -> Option<Line<'_>>
         }
     }
     None
-}
-
-/// What stands before the first `mark`, an ASCII character, and what stands after it: the whole
-/// text and nothing where there is none.
-pub fn cut_at(mark: char, text: &str) -> (&str, &str)
-    requires { mark < 128 }
-    ensures before { result.0.now ≡ before_first (λ b. b == mark) text.now }
-    ensures after { result.1.now ≡ after_first (λ b. b == mark) text.now }
-{
-    match text.split_once(mark) {
-        Some(parts) => parts,
-        None => (text, ""),
-    }
 }
 
 // Whether the line is neither empty nor a comment.

@@ -2,15 +2,16 @@
 
 ghost use Rattle.std.specs.Prelude.{◌≡◌, ◌+◌, ◌^◌, ◌<◌, [], ◌∷◌, false, true, codes, length, map, string_bytes, IfErr, IfOk, IfSome, IsErrOf, MatchOption, OnOk};
 ghost use Rattle.std.specs.List.{slice_split};
-ghost use Rattle.document_names.specs.Names.{are_document_names};
 ghost use Rattle.paxq_files.specs.Commands.{IsFaultOf};
 ghost use Rattle.paxq_files.specs.Lines.{lines_after};
-ghost use Rattle.paxq_files.specs.Script.{after_docs, commands_from, is_space, script, script_of};
+ghost use Rattle.line_parts.specs.Parts.{is_space};
+ghost use Rattle.paxq_files.specs.Script.{after_docs, commands_from, script, script_of};
 
 use crate::line::{read_command, text_after};
 use crate::lines::{Line, first_line};
 use ballots::Request;
 use document_names::{Names, NamesFault};
+use line_parts::read_names;
 use std::alloc::{AllocError, Global};
 use std::collections::VecDeque;
 use std::marker::Model;
@@ -138,29 +139,6 @@ fn default_names(alloc: Global) -> Result<Names, AllocError>
         Err(NamesFault::Memory) => Err(AllocError),
         Err(NamesFault::Wrong) => unreachable!(),
     }
-}
-
-/// The names of a list with single spaces between them, unless they are wrong (`Wrong`) or memory is refused (`Memory`).
-pub fn read_names(alloc: Global, list: &str) -> Result<Names, NamesFault>
-    ensures read { IfOk result (λ names. names ≡ slice_split is_space list.now) }
-    ensures good { OnOk result (are_document_names (slice_split is_space list.now) ≡ true) }
-    ensures wrong { IsErrOf result NamesFault.Wrong → are_document_names (slice_split is_space list.now) ≡ false }
-{
-    match words_of(alloc, list) {
-        Ok(words) => Names::new(alloc, &words),
-        Err(_) => Err(NamesFault::Memory),
-    }
-}
-
-// The words of a list with single spaces between them.
-fn words_of(alloc: Global, list: &str) -> Result<Vec<String>, AllocError>
-    ensures { IfOk result (λ words. map string_bytes words.items ≡ slice_split is_space list.now) }
-{
-    let mut words = Vec::new(alloc);
-    for word in list.split(' ') {
-        words.push(String::from_str(alloc, word)?)?;
-    }
-    Ok(words)
 }
 
 // The script of those names whose commands are the lines of a text before which `before` lines stand.

@@ -4,8 +4,9 @@ use Rattle.std.specs.Fmt.{decimal}
 use Rattle.std.specs.Io.KnownBytes.{Appends}
 use Rattle.ballots.specs.declared.value.Value.{Value}
 use Rattle.paxq_files.specs.Script.{Command, ScriptRead, script_of, wrong}
-use Rattle.paxq_run.specs.Play.{Run, turn_of, after, commands_run, read_run, text_run, unreadable_run, line_feed, IsPlayed, IsCut, Ran}
-use Rattle.paxq_run.proofs.Plays.{Appends-none}
+use Rattle.program_reports.specs.Reports.{Run, line_feed, Ran}
+use Rattle.program_reports.proofs.Reported.{Appends-none, ran-nothing}
+use Rattle.paxq_run.specs.Play.{turn_of, after, commands_run, read_run, text_run, IsPlayed, IsCut}
 
 -- commands report nothing
 errors-none : (names : List (List ℕ)) (values : List Value) (commands : List Command) → (commands_run names values commands).errors ≡ []
@@ -24,9 +25,6 @@ module _ (out out' err err' : Option (List ℕ)) (run : Run) (status : ℕ) wher
   pub ran-cut : IsCut run out out' → status ≡ 4 → Appends err err' (codes "paxq: no memory" ++ line_feed) → Ran (out, out') (err, err') run status
   ran-cut cut four reported = inr (record { written = cut.written; left = cut.left; beginning = cut.beginning; ended = four; printed = cut.printed; reported = reported })
 
-  pub ran-nothing : status ≡ 4 → Appends err err' (codes "paxq: no memory" ++ line_feed) → Ran (out, out) (err, err') run status
-  ran-nothing four reported = inr (record { written = []; left = run.output; beginning = refl; ended = four; printed = Appends-none out; reported = reported })
-
 -- the run of the commands of a script
 pub ran-commands : (out out' err : Option (List ℕ)) (names : List (List ℕ)) (commands : List Command) (status : ℕ) → IsPlayed (commands_run names [] commands) status out out' → Ran (out, out') (err, err) (commands_run names [] commands) status
 ran-commands out out' err names commands status played = ran-played out out' err err (commands_run names [] commands) status played (errors-none names [] commands)
@@ -41,8 +39,4 @@ pub ran-wrong : (text : List ℕ) (number : ℕ) (out err err' : Option (List �
     → ((status ≡ 1) × Appends err err' (codes "paxq: line " ++ decimal number ++ line_feed)) ⊎ ((status ≡ 4) × Appends err err' (codes "paxq: no memory" ++ line_feed)) → Ran (out, out) (err, err') (text_run text) status
 ran-wrong text number out err err' status e (inl h) =
     (let P : Run → Type 0 = λ r. Ran (out, out) (err, err') r status in subst P (sym (text_run-read text (wrong number) e)) (inl (record { ended = h.0; printed = Appends-none out; reported = h.1 })))
-ran-wrong text number out err err' status e (inr h) = ran-nothing out out err err' (text_run text) status h.0 h.1
-
--- a file that cannot be read was reported
-pub ran-unreadable : (file : List ℕ) (out err err' : Option (List ℕ)) → Appends err err' (codes "paxq: cannot read " ++ file ++ line_feed) → Ran (out, out) (err, err') (unreadable_run file) 1
-ran-unreadable file out err err' reported = inl (record { ended = refl; printed = Appends-none out; reported = reported })
+ran-wrong text number out err err' status e (inr h) = ran-nothing out err err' (text_run text) status h.0 h.1

@@ -4,11 +4,9 @@ use Rattle.std.specs.Io.KnownBytes.{Appends}
 use Rattle.ballots.specs.declared.value.Value.{Value}
 use Rattle.sessions.specs.Session.{SessionTerm, Means}
 use Rattle.paxq_files.specs.Script.{Command}
-use Rattle.paxq_run.specs.Play.{Turn, Run, turn_of, after, commands_run, IsTurn, IsPlayed, IsCut}
-
-pub Appends-none : (old : Option (List ℕ)) → Appends old old []
-Appends-none None = tt
-Appends-none (Some xs) = sym (append-nil xs)
+use Rattle.program_reports.specs.Reports.{Run}
+use Rattle.program_reports.proofs.Reported.{Appends-none}
+use Rattle.paxq_run.specs.Play.{Turn, turn_of, after, commands_run, IsTurn, IsPlayed, IsCut}
 
 pub Appends-both : (a b c : Option (List ℕ)) (p q : List ℕ) → Appends a b p → Appends b c q → Appends a c (p ++ q)
 Appends-both None b c p q h k = tt

@@ -15,11 +15,6 @@ use Rattle.sessions.proofs.Meanings.{reply-new}
 use Rattle.paxq_files.specs.Script.{submit}
 use Rattle.paxq_run.specs.Play.{Turn, reply_text, turn_of, IsTurn}
 
--- what holds of an Ok, with what it was made of
-pub ok-gives : {A E : Type 0} {P Q : A → Type 0} (r : Result A E) → IfOk r P → ((x : A) → P x → Q x) → IfOk r Q
-ok-gives (Ok x) h f = f x h
-ok-gives (Err e) h f = tt
-
 -- the text of a turn that was made of a text
 pub ok-text : {E : Type 0} (r : Result (String Global) E) (t : String Global) (bs : List ℕ) → r ≡ Ok t → IfOk r (λ s. string_bytes s ≡ bs) → string_bytes t ≡ bs
 ok-text (Ok s) t bs e h = let same : s ≡ t = cc in ap string_bytes (sym same) ∙ h

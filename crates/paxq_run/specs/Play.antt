@@ -9,7 +9,7 @@ use Rattle.ballots.specs.declared.reply.Reply.{Reply}
 use Rattle.ballots.specs.declared.reply.Reply.TheVariants.{Done, Fault}
 use Rattle.ballots.specs.declared.value.Value.{Value}
 use Rattle.ballots.specs.declared.value.Value.TheVariants.{Request}
-use Rattle.values.specs.Codes.{code_name}
+use Rattle.fault_codes.specs.Codes.{code_name}
 use Rattle.ballots.specs.Terms.{Request as RequestTerm}
 use Rattle.sessions.specs.Terms.{id_of}
 use Rattle.sessions.specs.Run.{run}
@@ -19,12 +19,10 @@ use Rattle.ballots.specs.Replies.{Answered, text, fault}
 use Rattle.sessions.specs.Answers.{answer}
 use Rattle.paxq_run.specs.declared.run.Stop.{Stop}
 use Rattle.paxq_run.specs.declared.run.Stop.TheVariants.{Memory, Output}
+use Rattle.program_reports.specs.Reports.{line_feed, Run, Ran, unreadable_run}
 use Rattle.paxq_files.specs.Script.{Command, submit, ask, ScriptRead, script, wrong, script_of}
 
 -- ---- lines
-abbrev pub line_feed : List ℕ
-line_feed = 10 ∷ []
-
 -- `done P` or `fault CODE P`
 abbrev pub reply_text : Reply → List ℕ
 reply_text (Done position) = codes "done " ++ decimal position ++ line_feed
@@ -60,12 +58,6 @@ turn_of names values (submit r) = option_map_or (λ reply. record { printed = re
 turn_of names values (ask question) = record { printed = answer_text (length values) (answer (store_of names values) question); values = values; goes_on = true }
 
 -- ---- a run
--- the exit status, and what is written to standard output and to standard error
-pub record Run : Type 0 where
-  pub status : ℕ
-  pub output : List ℕ
-  pub errors : List ℕ
-
 abbrev pub after : List ℕ → Run → Run
 after printed r = record r { output = printed ++ r.output }
 
@@ -82,28 +74,6 @@ read_run (wrong number) = record { status = 1; output = []; errors = codes "paxq
 -- a run of the script that a text is
 unfoldable pub text_run : List ℕ → Run
 text_run bytes = read_run (script_of bytes)
-
--- a file that cannot be read, or is no text in UTF-8
-abbrev pub unreadable_run : List ℕ → Run
-unreadable_run file = record { status = 1; output = []; errors = codes "paxq: cannot read " ++ file ++ line_feed }
-
--- a run wrote what it should, and ended with its status; the pairs are what the writers held before and after
-pub record Wrote (output errors : Option (List ℕ) × Option (List ℕ)) (status : ℕ) (run : Run) : Type 0 where
-  pub ended : status ≡ run.status
-  pub printed : Appends output.0 output.1 run.output
-  pub reported : Appends errors.0 errors.1 run.errors
-
--- a run stopped for want of memory, after a beginning of what it should write
-pub record Stopped (output errors : Option (List ℕ) × Option (List ℕ)) (status : ℕ) (run : Run) : Type 0 where
-  pub written : List ℕ
-  pub left : List ℕ
-  pub beginning : written ++ left ≡ run.output
-  pub ended : status ≡ 4
-  pub printed : Appends output.0 output.1 written
-  pub reported : Appends errors.0 errors.1 (codes "paxq: no memory" ++ line_feed)
-
-abbrev pub Ran : Option (List ℕ) × Option (List ℕ) → Option (List ℕ) × Option (List ℕ) → Run → ℕ → Type 0
-Ran output errors run status = Wrote output errors status run ⊎ Stopped output errors status run
 
 -- a turn printed what it should, told whether the run goes on, and left the state that the values mean
 pub record IsTurn (names : List (List ℕ)) (turn : Turn) (printed : List ℕ) (goes_on : Bool) (state : SessionTerm) : Type 0 where

@@ -6,4 +6,4 @@
 mod print;
 mod run;
 
-pub use run::{ReadFault, cannot_read, no_memory, read_all, run_script, wrong_line};
+pub use run::run_script;

@@ -6,8 +6,8 @@ ghost use Rattle.ballots.specs.Replies.{answered, fault};
 ghost use Rattle.paxq_run.specs.Play.{reply_text, answer_text, indented};
 
 use ballots::{Answer, Reply};
+use fault_codes::Code;
 use std::alloc::{AllocError, Global};
-use values::Code;
 
 /// `done P` or `fault CODE P`, with its line feed.
 pub(crate) fn reply_text(alloc: Global, reply: Reply) -> Result<String, AllocError>

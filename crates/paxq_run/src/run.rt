@@ -9,12 +9,14 @@ ghost use Rattle.ballots.specs.Terms.{Request as RequestTerm};
 ghost use Rattle.sessions.specs.Session.{Means};
 ghost use Rattle.paxq_files.specs.Commands.{command_term, IsFormed};
 ghost use Rattle.paxq_files.specs.Script.{submit, ask};
-ghost use Rattle.paxq_run.specs.Play.{turn_of, commands_run, text_run, unreadable_run, Ran, Wrote, line_feed, IsTurn, IsPlayed, IsCut, IfMemory, FileRan, BytesRan};
+ghost use Rattle.program_reports.specs.Reports.{Ran, line_feed};
+ghost use Rattle.paxq_run.specs.Play.{turn_of, commands_run, text_run, IsTurn, IsPlayed, IsCut, IfMemory, FileRan, BytesRan};
 
 use super::print::{answer_text, reply_text};
 use ballots::limits::POSITIONS;
 use ballots::{Request, Value};
 use paxq_files::{Command, Script, ScriptFault, read_script};
+use program_reports::{ReadFault, cannot_read, no_memory, read_all, wrong_line};
 use sessions::{NoMemory, State};
 use std::alloc::{AllocError, Global};
 use std::io;
@@ -43,41 +45,6 @@ pub fn run_script<R: Read, W: Write, E: Write>(
         Ok(bytes) => run_bytes(alloc, file, &bytes, output, errors),
         Err(ReadFault::Failed) => cannot_read(alloc, file, errors),
         Err(ReadFault::Memory) => no_memory(errors),
-    }
-}
-
-/// Reports a file that cannot be read: status 1.
-pub fn cannot_read<E: Write>(alloc: Global, file: &str, errors: &mut E) -> io::Result<u8>
-    ensures { IfOk result (λ status. (known : Option (List ℕ)) →
-        Ran (known, known) (E.contents errors.old, E.contents errors.new) (unreadable_run file.now) status) }
-{
-    match format!(in alloc; "paxq: cannot read {file}\n") {
-        Ok(report) => {
-            errors.write_all(report.as_bytes())?;
-            Ok(1)
-        }
-        Err(_) => no_memory(errors),
-    }
-}
-
-/// Why a file was not read.
-#[derive(Clone, Copy, PartialEq, Eq, Debug)]
-pub enum ReadFault {
-    /// Memory was refused.
-    Memory,
-    /// The reader failed.
-    Failed,
-}
-
-/// Reads all that a reader gives.
-pub fn read_all<R: Read>(alloc: Global, reader: &mut R) -> Result<Vec<u8>, ReadFault>
-    ensures { IfOk result (λ bytes. IfSome (R.remaining reader.old) (λ known. bytes.items ≡ known)) }
-{
-    let mut bytes = Vec::new(alloc);
-    match reader.read_to_end(&mut bytes) {
-        Ok(_) => Ok(bytes),
-        Err(error) if error.kind() == io::ErrorKind::OutOfMemory => Err(ReadFault::Memory),
-        Err(_) => Err(ReadFault::Failed),
     }
 }
 
@@ -241,28 +208,4 @@ fn run_commands<W: Write, E: Write>(
         Err(Stop::Memory) => no_memory(errors),
         Err(Stop::Output(error)) => Err(error),
     }
-}
-
-/// Reports a wrong line: status 1.
-pub fn wrong_line<E: Write>(alloc: Global, number: u64, errors: &mut E) -> io::Result<u8>
-    ensures { IfOk result (λ status.
-        ((status ≡ 1) × Appends (E.contents errors.old) (E.contents errors.new) (codes "paxq: line " ++ decimal number ++ line_feed))
-        ⊎ ((status ≡ 4) × Appends (E.contents errors.old) (E.contents errors.new) (codes "paxq: no memory" ++ line_feed))) }
-{
-    match format!(in alloc; "paxq: line {number}\n") {
-        Ok(report) => {
-            errors.write_all(report.as_bytes())?;
-            Ok(1)
-        }
-        Err(_) => no_memory(errors),
-    }
-}
-
-/// Reports that memory was refused: status 4.
-pub fn no_memory<E: Write>(errors: &mut E) -> io::Result<u8>
-    ensures { IfOk result (λ status.
-        (status ≡ 4) × Appends (E.contents errors.old) (E.contents errors.new) (codes "paxq: no memory" ++ line_feed)) }
-{
-    errors.write_all(b"paxq: no memory\n")?;
-    Ok(4)
 }

@@ -3,8 +3,8 @@ use Rattle.std.proofs.Common.{◌≡◌, ℕ, List, ◌++◌, codes, Option, ref
 use Rattle.std.specs.Fmt.{decimal}
 use Rattle.std.specs.Io.KnownBytes.{Appends}
 use Rattle.event_files.specs.EventFiles.{EventFileRead, EventFileTerm, event_file, wrong, file_of}
-use Rattle.paxq_run.specs.Play.{line_feed}
-use Rattle.paxq_run.proofs.Plays.{Appends-none}
+use Rattle.program_reports.specs.Reports.{line_feed}
+use Rattle.program_reports.proofs.Reported.{Appends-none}
 use Rattle.paxq_sim.specs.Play.{IsSimulated}
 use Rattle.paxq_sim.specs.Ran.{FileRan, ReadRan, WroteMemory}
 

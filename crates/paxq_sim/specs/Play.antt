@@ -20,7 +20,7 @@ use Rattle.paxos.specs.Lists.{at}
 use Rattle.paxos.specs.Records.{writes}
 use Rattle.paxos.specs.Step.{Running}
 use Rattle.paxos.specs.World.{World as Whole, Member, Told, Choice, Event as Happening, Deliver, happens, start}
-use Rattle.paxq_run.specs.Play.{line_feed}
+use Rattle.program_reports.specs.Reports.{line_feed}
 use Rattle.paxq_sim.specs.Stores.{plan_of}
 use Rattle.world.specs.Reached.{actor, event_of, is_cut, write_in}
 use Rattle.world.specs.Seats.{later}

@@ -3,7 +3,7 @@ use Rattle.std.specs.Prelude.{◌≡◌, ℕ, ◌⊎◌, IfSome, List, [], ◌++
 use Rattle.std.specs.Str.{IsUtf8}
 use Rattle.std.specs.Fmt.{decimal}
 use Rattle.event_files.specs.EventFiles.{EventFileRead, EventFileTerm, event_file, wrong, file_of}
-use Rattle.paxq_run.specs.Play.{Ran, Run, Wrote, line_feed, unreadable_run}
+use Rattle.program_reports.specs.Reports.{Ran, Run, Wrote, line_feed, unreadable_run}
 use Rattle.paxq_sim.specs.Play.{IsSimulated}
 
 -- a text is written, and nothing is reported

@@ -9,7 +9,7 @@ ghost use Rattle.paxq_sim.specs.Ran.{BytesRan, EventsRan, FileRan, ReadRan};
 use super::report::report;
 use super::simulation::Simulation;
 use event_files::{EventFile, EventFileFault, read_event_file};
-use paxq_run::{ReadFault, cannot_read, no_memory, read_all, wrong_line};
+use program_reports::{ReadFault, cannot_read, no_memory, read_all, wrong_line};
 use std::alloc::{AllocError, Global};
 use std::io;
 use std::io::{Read, Write};

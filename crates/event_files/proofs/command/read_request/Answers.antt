@@ -1,5 +1,5 @@
 use Rattle.std.proofs.Common.{◌≡◌, ◌^◌, Some}
-use Rattle.paxq_files.specs.Script.{number_below}
+use Rattle.line_parts.specs.Parts.{number_below}
 use Rattle.event_files.specs.Forms.{after_part, number_of, part}
 use Rattle.event_files.proofs.Forms.{request_of-numbers}
 use Rattle.event_files.proofs.command.read_request.Goals as goal

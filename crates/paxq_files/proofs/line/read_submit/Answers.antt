@@ -1,6 +1,6 @@
 use Rattle.std.proofs.Common.{◌≡◌, ◌^◌, Some}
 use Rattle.std.specs.List.{after_first, before_first}
-use Rattle.paxq_files.specs.Script.{is_space, number_below}
+use Rattle.line_parts.specs.Parts.{is_space, number_below}
 use Rattle.paxq_files.proofs.Numbers.{submit_of-numbers}
 use Rattle.paxq_files.proofs.line.read_submit.Goals as goal
 

@@ -2,7 +2,7 @@ use Rattle.std.proofs.Common.{◌++◌, codes, string_bytes, ap, ◌∙◌, lit<
 use Rattle.std.specs.List.{flat_map}
 use Rattle.std.proofs.lemmas.Iterator.Consumers.{YieldsList-end}
 use Rattle.std.proofs.lemmas.Iterator.Splits.{YieldsList-from_str_split}
-use Rattle.paxq_run.specs.Play.{line_feed}
+use Rattle.program_reports.specs.Reports.{line_feed}
 use Rattle.paxq_run.proofs.print.push_indented.Goals as goal
 
 pub returns : goal.returns

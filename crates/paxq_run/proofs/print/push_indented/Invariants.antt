@@ -1,6 +1,6 @@
 use Rattle.std.proofs.Common.{◌≡◌, ◌++◌, codes, map, string_bytes}
 use Rattle.std.specs.List.{flat_map}
-use Rattle.paxq_run.specs.Play.{line_feed}
+use Rattle.program_reports.specs.Reports.{line_feed}
 use Rattle.paxq_run.proofs.print.push_indented.Given as goal
 
 abbrev pub invariant-loop-line : goal.invariant-loop-line

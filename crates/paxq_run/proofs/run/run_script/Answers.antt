@@ -1,5 +1,5 @@
 use Rattle.std.proofs.Common.{inr}
-use Rattle.paxq_run.proofs.Turns.{ok-gives}
+use Rattle.program_reports.proofs.Reported.{ok-gives}
 use Rattle.paxq_run.proofs.run.run_script.Goals as goal
 
 pub returns-in-Err-Failed : goal.returns-in-Err-Failed

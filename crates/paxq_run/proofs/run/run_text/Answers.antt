@@ -1,5 +1,5 @@
 use Rattle.paxq_files.specs.Script.{script}
-use Rattle.paxq_run.proofs.Turns.{ok-gives}
+use Rattle.program_reports.proofs.Reported.{ok-gives}
 use Rattle.paxq_run.proofs.Endings.{text_run-read, ran-wrong}
 use Rattle.paxq_run.proofs.run.run_text.Goals as goal
 

@@ -3,7 +3,8 @@ use Rattle.ballots.specs.declared.value.Value.TheVariants.{Request}
 use Rattle.sessions.specs.Terms.{id_of}
 use Rattle.sessions.specs.Session.{reply_in}
 use Rattle.paxq_run.specs.Play.{reply_text}
-use Rattle.paxq_run.proofs.Turns.{ok-gives, ok-text, turn-new, turn-is}
+use Rattle.program_reports.proofs.Reported.{ok-gives}
+use Rattle.paxq_run.proofs.Turns.{ok-text, turn-new, turn-is}
 use Rattle.paxq_run.proofs.run.submit.Goals as goal
 
 pub returns : goal.returns

@@ -1,6 +1,6 @@
 use Rattle.std.proofs.Common.{sym, ap, ◌∙◌, string_bytes}
 use Rattle.std.specs.Option.{option_copied}
-use Rattle.paxq_run.proofs.Turns.{ok-gives}
+use Rattle.program_reports.proofs.Reported.{ok-gives}
 use Rattle.paxq_sim.proofs.Reports.{applied_there, stopped_line_there}
 use Rattle.paxq_sim.proofs.report.member_text.Goals as goal
 

@@ -1,5 +1,5 @@
 use Rattle.std.proofs.Common.{string_bytes}
-use Rattle.paxq_run.proofs.Turns.{ok-gives}
+use Rattle.program_reports.proofs.Reported.{ok-gives}
 use Rattle.paxq_sim.proofs.Reports.{words_of}
 use Rattle.paxq_sim.proofs.report.value_words.Goals as goal
 

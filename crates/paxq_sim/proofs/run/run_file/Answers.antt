@@ -1,7 +1,7 @@
 use Rattle.std.proofs.Common.{ℕ, List, inr, subst, string_bytes}
 use Rattle.std.specs.Io.KnownBytes.{Appends}
 use Rattle.event_files.specs.EventFiles.{file_term}
-use Rattle.paxq_run.proofs.Turns.{ok-gives}
+use Rattle.program_reports.proofs.Reported.{ok-gives}
 use Rattle.paxq_sim.proofs.Endings.{wrote_memory, wrote_text}
 use Rattle.paxq_sim.proofs.run.run_file.Goals as goal
 

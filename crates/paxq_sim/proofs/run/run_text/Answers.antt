@@ -1,6 +1,6 @@
 use Rattle.std.proofs.Common.{subst, sym}
 use Rattle.event_files.specs.EventFiles.{EventFileRead, file_of}
-use Rattle.paxq_run.proofs.Turns.{ok-gives}
+use Rattle.program_reports.proofs.Reported.{ok-gives}
 use Rattle.paxq_sim.specs.Ran.{ReadRan}
 use Rattle.paxq_sim.proofs.Endings.{wrote_none, wrote_wrong}
 use Rattle.paxq_sim.proofs.run.run_text.Goals as goal

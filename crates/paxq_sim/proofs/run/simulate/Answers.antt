@@ -1,5 +1,5 @@
 use Rattle.std.proofs.Common.{◌∙◌, [], ap, subst, sym}
-use Rattle.paxq_run.proofs.Turns.{ok-gives}
+use Rattle.program_reports.proofs.Reported.{ok-gives}
 use Rattle.paxq_sim.specs.Going.{Comes, HasCome}
 use Rattle.paxq_sim.specs.Play.{Plays, opening, report}
 use Rattle.paxq_sim.proofs.Leading.{one_of}

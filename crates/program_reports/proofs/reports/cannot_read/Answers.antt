@@ -1,9 +1,8 @@
 use Rattle.std.proofs.Common.{◌≡◌, ◌++◌, List, ℕ, codes, ◌∙◌, subst}
 use Rattle.std.specs.Io.KnownBytes.{Appends}
-use Rattle.paxq_run.specs.Play.{unreadable_run, line_feed}
-use Rattle.paxq_run.proofs.Turns.{ok-gives}
-use Rattle.paxq_run.proofs.Endings.{ran-unreadable, ran-nothing}
-use Rattle.paxq_run.proofs.run.cannot_read.Goals as goal
+use Rattle.program_reports.specs.Reports.{unreadable_run, line_feed}
+use Rattle.program_reports.proofs.Reported.{ok-gives, ran-unreadable, ran-nothing}
+use Rattle.program_reports.proofs.reports.cannot_read.Goals as goal
 
 pub returns-in_ok-write_all-in-Ok : goal.returns-in_ok-write_all-in-Ok
 returns-in_ok-write_all-in-Ok g c = λ known.
@@ -14,4 +13,4 @@ returns-in_ok-write_all-in-Ok g c = λ known.
 pub returns-in-Err : goal.returns-in-Err
 returns-in-Err g c =
     ok-gives c.no_memory.result c.no_memory.ensures
-    (λ status h known. ran-nothing known known (g.E.Write.contents c.args.errors.now) (g.E.Write.contents c.no_memory.new.errors) (unreadable_run c.args.file.now) status h.0 h.1)
+    (λ status h known. ran-nothing known (g.E.Write.contents c.args.errors.now) (g.E.Write.contents c.no_memory.new.errors) (unreadable_run c.args.file.now) status h.0 h.1)

@@ -1,7 +1,7 @@
 use Rattle.std.proofs.Common.{◌∙◌, lit<}
 use Rattle.std.proofs.lemmas.Iterator.Consumers.{YieldsList-end}
 use Rattle.std.proofs.lemmas.Iterator.Splits.{YieldsList-from_str_split}
-use Rattle.paxq_files.proofs.script.words_of.Goals as goal
+use Rattle.line_parts.proofs.parts.words_of.Goals as goal
 
 pub returns : goal.returns
 returns c =

@@ -1,6 +1,6 @@
 use Rattle.std.proofs.Common.{◌∙◌}
-use Rattle.paxq_files.proofs.Numbers.{number_below-from_parse}
-use Rattle.paxq_files.proofs.line.read_number.Goals as goal
+use Rattle.line_parts.proofs.Numbers.{number_below-from_parse}
+use Rattle.line_parts.proofs.parts.read_number.Goals as goal
 
 pub returns-then-are_digits : goal.returns-then-are_digits
 returns-then-are_digits c =

@@ -1,0 +1,104 @@
+//! What a part of a line says.
+
+ghost use Rattle.std.specs.Prelude.{◌≡◌, ◌==◌, ◌≤◌, ◌<◌, ◌^◌, false, true, length, map, string_bytes, IfOk, IsErrOf, OnOk};
+ghost use Rattle.std.specs.List.{after_first, before_first, list_all, slice_split};
+ghost use Rattle.document_names.specs.Characters.{is_digit};
+ghost use Rattle.document_names.specs.Names.{are_document_names};
+ghost use Rattle.line_parts.specs.Parts.{has_text_length, is_space, number_below};
+
+use ballots::limits::MOST_BYTES;
+use ballots::{Request, RequestFault};
+use document_names::{Names, NamesFault};
+use std::alloc::{AllocError, Global};
+
+/// The language level of every request of a line.
+const LEVEL: u8 = 1;
+
+/// What stands before the first `mark`, an ASCII character, and what stands after it: the whole
+/// text and nothing where there is none.
+pub fn cut_at(mark: char, text: &str) -> (&str, &str)
+    requires { mark < 128 }
+    ensures before { result.0.now ≡ before_first (λ b. b == mark) text.now }
+    ensures after { result.1.now ≡ after_first (λ b. b == mark) text.now }
+{
+    match text.split_once(mark) {
+        Some(parts) => parts,
+        None => (text, ""),
+    }
+}
+
+/// A request of a text that is not too long, at the language level 1. It fails where memory is refused.
+pub fn new_request(
+    alloc: Global,
+    client: u32,
+    number: u64,
+    text: &str,
+) -> Result<Request, AllocError>
+    requires { length text.now ≤ 4096 }
+    ensures { IfOk result (λ r. r ≡ record { client = client; number = number; level = 1; text = text.now }) }
+{
+    match Request::new(alloc, client, number, LEVEL, text) {
+        Ok(request) => Ok(request),
+        Err(RequestFault::Memory) => Err(AllocError),
+        Err(RequestFault::Level | RequestFault::TextTooLong) => unreachable!(),
+    }
+}
+
+/// Whether a text has 1 to 4,096 bytes.
+pub fn has_text_length(text: &str) -> bool
+    ensures { result ≡ has_text_length text.now }
+{
+    !text.is_empty() && text.len() <= MOST_BYTES
+}
+
+/// A client's number, up to 2^32 - 1, in decimal and without a sign; leading zeros are taken.
+pub fn read_client(digits: &str) -> Option<u32>
+    ensures { result ≡ number_below (2 ^ 32) digits.now }
+{
+    if are_digits(digits.as_bytes()) {
+        digits.parse::<u32>().ok()
+    } else {
+        None
+    }
+}
+
+/// A request's number, up to 2^64 - 1, in decimal and without a sign; leading zeros are taken.
+pub fn read_number(digits: &str) -> Option<u64>
+    ensures { result ≡ number_below (2 ^ 64) digits.now }
+{
+    if are_digits(digits.as_bytes()) {
+        digits.parse::<u64>().ok()
+    } else {
+        None
+    }
+}
+
+// Whether each byte is a digit: `parse` would also take a sign.
+fn are_digits(bytes: &[u8]) -> bool
+    ensures { result ≡ list_all is_digit bytes.now }
+{
+    bytes.iter().all(|byte| byte.is_ascii_digit())
+}
+
+/// The names of a list with single spaces between them, unless they are wrong (`Wrong`) or memory is refused (`Memory`).
+pub fn read_names(alloc: Global, list: &str) -> Result<Names, NamesFault>
+    ensures read { IfOk result (λ names. names ≡ slice_split is_space list.now) }
+    ensures good { OnOk result (are_document_names (slice_split is_space list.now) ≡ true) }
+    ensures wrong { IsErrOf result NamesFault.Wrong → are_document_names (slice_split is_space list.now) ≡ false }
+{
+    match words_of(alloc, list) {
+        Ok(words) => Names::new(alloc, &words),
+        Err(_) => Err(NamesFault::Memory),
+    }
+}
+
+// The words of a list with single spaces between them.
+fn words_of(alloc: Global, list: &str) -> Result<Vec<String>, AllocError>
+    ensures { IfOk result (λ words. map string_bytes words.items ≡ slice_split is_space list.now) }
+{
+    let mut words = Vec::new(alloc);
+    for word in list.split(' ') {
+        words.push(String::from_str(alloc, word)?)?;
+    }
+    Ok(words)
+}
