@@ -1,5 +1,5 @@
 -- What the fields of an environment stand for.
-use Rattle.std.specs.Prelude.{option_map}
+use Rattle.std.specs.Prelude.{ℕ, option_map}
 use Rattle.values.specs.declared.atom.Item.{Item}
 use Rattle.query_meaning.specs.Environment.{Environment, Focus}
 use Rattle.evaluation.specs.declared.environment.Focus.{Focus as Lent}
@@ -18,3 +18,11 @@ kept_environment_of a = record { focus = option_map focus_of a.focus; variables 
 -- the context item
 abbrev pub item_in : Focus → Item
 item_in f = f.item
+
+-- its position
+abbrev pub position_in : Focus → ℕ
+position_in f = f.position
+
+-- the context size
+abbrev pub size_in : Focus → ℕ
+size_in f = f.size

@@ -3,8 +3,8 @@ use Rattle.std.specs.Prelude.{◌≡◌, ◌==◌, ◌-◌, true, false, ℕ, Li
 use Rattle.std.specs.Option.{ForSome}
 use Rattle.std.specs.List.{All}
 use Rattle.data_model.specs.Trees.{find}
-use Rattle.values.specs.declared.code.Code.{Code}
-use Rattle.values.specs.declared.code.Code.TheVariants.{PXQ0002}
+use Rattle.fault_codes.specs.declared.code.Code.{Code}
+use Rattle.fault_codes.specs.declared.code.Code.TheVariants.{PXQ0002}
 use Rattle.values.specs.declared.fault.ValueFault.{ValueFault}
 use Rattle.values.specs.declared.fault.ValueFault.TheVariants as fault
 use Rattle.values.specs.declared.atom.Item.{Item}

@@ -1,4 +1,5 @@
 pub mod Around
+pub mod Evaluates
 pub mod Gives
 pub mod Linked
 pub mod Within

@@ -3,7 +3,7 @@
 ghost use Rattle.std.specs.Prelude.{◌≡◌, [], ◌∷◌, None, option_map, IfOk};
 ghost use Rattle.std.specs.Option.{option_copied};
 ghost use Rattle.query_meaning.specs.Environment.{value_in, with_focus};
-ghost use Rattle.evaluation.specs.Around.{item_in};
+ghost use Rattle.evaluation.specs.Around.{item_in, position_in, size_in};
 
 use crate::sequence::Sequence;
 use std::alloc::{AllocError, Global};
@@ -162,6 +162,26 @@ impl<'f, 'v> Environment<'f, 'v> {
     {
         match &self.focus {
             Some(focus) => Some(focus.item),
+            None => None,
+        }
+    }
+
+    /// The position of the context item, counted from 1, where there is one.
+    pub fn position(&self) -> Option<usize>
+        ensures { result ≡ option_map position_in self.now.focus }
+    {
+        match &self.focus {
+            Some(focus) => Some(focus.position),
+            None => None,
+        }
+    }
+
+    /// The context size, where there is a context item.
+    pub fn size(&self) -> Option<usize>
+        ensures { result ≡ option_map size_in self.now.focus }
+    {
+        match &self.focus {
+            Some(focus) => Some(focus.size),
             None => None,
         }
     }

@@ -1,29 +1,36 @@
 //! What an evaluation has come to.
 
-ghost use Rattle.std.specs.Prelude.{◌≡◌, ◌-◌, Ok, Err, IfOk, IfErr, OnOk, map};
+ghost use Rattle.std.specs.Prelude.{◌≡◌, ◌≤◌, ◌<◌, ◌^◌, ◌-◌, ℕ, Ok, Err, IfOk, IfErr, OnOk, OnErr, map};
+ghost use Rattle.data_model.specs.Tree.{trees_of_tree};
+ghost use Rattle.data_model.specs.Trees.{count};
 ghost use Rattle.pending.specs.Primitives.{primitive_term};
 ghost use Rattle.values.specs.Atoms.{atomized};
 ghost use Rattle.values.specs.Comparisons.{general_compared, pairs_compared, tried};
 ghost use Rattle.query_meaning.specs.Meaning.{start};
-ghost use Rattle.query_meaning.specs.Running.{trees_of, adding};
+ghost use Rattle.query_meaning.specs.Running.{trees_of, adding, new_nodes, standing};
 ghost use Rattle.evaluation.specs.Gives.{Any, Fails, GivesIn, Says, Stand, Turns};
 
 use crate::sequence::Sequence;
 use pending::{ListFault, PendingList, Primitive};
 use shelves::Shelf;
-use std::alloc::Global;
+use std::alloc::{AllocError, Global};
 use std::marker::Model;
-use trees::Forest;
+use trees::{Forest, NodeId, Tree};
 use values::{Atom, Code, Comparison, ValueFault, atomize, compare_general};
 
 /// The most turns in an evaluation (our own limit).
 const MOST_TURNS: u64 = 1_000_000;
+
+/// The most new nodes in an evaluation (our own limit).
+const MOST_NODES: u64 = 100_000;
 
 /// The trees, lent and made, the turns that are left, and the update primitives so far.
 #[derive(Drop)]
 pub struct Evaluation<'a> {
     alloc: Global,
     shelf: Shelf<'a>,
+    /// The next identity may rise to it.
+    most_next: u64,
     turns: u64,
     primitives: PendingList,
 }
@@ -35,20 +42,24 @@ impl<'a> Model for Evaluation<'a> {
 
     ghost coded = { run_code };
 
-    ghost use Rattle.evaluation.specs.Within.{run_of};
+    ghost use Rattle.evaluation.specs.Within.{run_of, IsLimited};
 
     ghost view = { run_of };
+
+    ghost invariant = { IsLimited };
 }
 
 impl<'a> Evaluation<'a> {
     /// Before anything is evaluated: a lent forest, with no tree beside it, and 1,000,000 turns. It takes no memory.
-    #[tactic(auto, unfolding(query_meaning::specs::Running::most_turns))]
+    #[tactic(auto, unfolding(query_meaning::specs::Running::most_turns, query_meaning::specs::Running::most_nodes))]
     pub fn new(alloc: Global, lent: &'a Forest) -> Evaluation<'a>
+        requires { lent.now.next ≤ 2 ^ 61 }
         ensures { result ≡ start lent.now }
     {
         Evaluation {
             alloc,
             shelf: Shelf::new(alloc, lent),
+            most_next: lent.next().number() + MOST_NODES,
             turns: MOST_TURNS,
             primitives: PendingList::new(alloc),
         }
@@ -111,5 +122,42 @@ impl<'a> Evaluation<'a> {
             Err(ListFault::Memory) => Err(ValueFault::Memory),
             Err(ListFault::TooMany) => Err(ValueFault::Code(Code::PXQ0002)),
         }
+    }
+
+    /// The update primitives, in the order in which they were added; nothing else is left of the evaluation.
+    pub fn into_primitives(self) -> PendingList
+        ensures { map primitive_term result ≡ self.entry.primitives }
+    {
+        let Evaluation { primitives, .. } = self;
+        primitives
+    }
+
+    /// So many new nodes: they take the next identities, of which it gives the first. Code: PXQ0003 where the evaluation would have
+    /// made more than 100,000; then nothing changes.
+    pub fn new_nodes(&mut self, count: u64) -> Result<NodeId, ValueFault>
+        ensures { GivesIn Any (new_nodes count) self.old result self.new }
+    {
+        let first = self.shelf.next();
+        match first.number().checked_add(count) {
+            Some(next) if next <= self.most_next => {
+                self.shelf.raise_next(NodeId::new(next));
+                Ok(first)
+            }
+            _ => Err(ValueFault::Code(Code::PXQ0003)),
+        }
+    }
+
+    /// Lets a new tree stand among the others, whose nodes have been numbered from a first one on, its root's, since the last tree
+    /// was. Where memory is refused, nothing changes.
+    pub fn stand(&mut self, tree: &Tree) -> Result<(), AllocError>
+        requires distinct { (i : ℕ) → count i (trees_of_tree tree.now) ≤ 1 }
+        requires first { (i : ℕ) → 0 < count i (trees_of_tree tree.now) → tree.now.content.identity ≤ i }
+        requires below { (i : ℕ) → 0 < count i (trees_of_tree tree.now) → i < self.old.shelf.own.next }
+        requires after { (i : ℕ) → 0 < count i self.old.shelf.own.trees → i < tree.now.content.identity }
+        requires lent { self.old.shelf.lent.next ≤ tree.now.content.identity }
+        ensures stood { OnOk result (standing (trees_of_tree tree.now) self.old ≡ Ok (tt, self.new)) }
+        ensures refused { OnErr result (self.new ≡ self.old) }
+    {
+        self.shelf.plant(self.alloc, tree)
     }
 }

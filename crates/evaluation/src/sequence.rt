@@ -5,7 +5,7 @@ ghost use Rattle.std.specs.Int.{w64};
 ghost use Rattle.std.specs.List.{range_with_len};
 ghost use Rattle.values.specs.declared.atom.Atom.TheVariants as atom;
 ghost use Rattle.values.specs.declared.atom.Item.TheVariants as item;
-ghost use Rattle.values.specs.declared.code.Code.{Code};
+ghost use Rattle.fault_codes.specs.declared.code.Code.{Code};
 ghost use Rattle.values.specs.declared.fault.ValueFault.{ValueFault};
 ghost use Rattle.query_meaning.specs.Running.{most_items, within};
 ghost use Rattle.evaluation.specs.Gives.{Says};
@@ -57,6 +57,17 @@ impl Sequence {
     {
         let mut items = Vec::new(alloc);
         items.push(item)?;
+        Ok(Sequence { items })
+    }
+
+    /// These items. It takes no memory. Code: PXQ0002 where they are more than 10,000.
+    #[tactic(auto, unfolding(query_meaning::specs::Running::most_items))]
+    pub fn of(items: Vec<Item>) -> Result<Sequence, Code>
+        ensures { result ≡ within items.items }
+    {
+        if items.len() > MOST_ITEMS {
+            return Err(Code::PXQ0002);
+        }
         Ok(Sequence { items })
     }
 

@@ -1,0 +1,14 @@
+-- The meaning of an expression, by its form.
+use Rattle.std.proofs.Common.{◌≡◌, ◌∙◌, ap}
+use Rattle.query_grammar.specs.declared.ast.Expr.{Expr, map-Expr, out-Expr}
+use Rattle.query_grammar.specs.declared.ast.Expr.TheOpen.{Expr-F}
+use Rattle.query_grammar.specs.declared.ast.Expr.TheFolds.{fold_out-Expr}
+use Rattle.query_meaning.specs.Meaning.{mean, meaning_of}
+use Rattle.query_meaning.specs.Sequences.{Meaning}
+
+mean_out : (x : Expr) → mean x ≡ meaning_of (map-Expr Expr Meaning mean (out-Expr x))
+unfolding mean
+mean_out x = fold_out-Expr Meaning meaning_of x
+
+pub by_form : (x : Expr) (f : Expr-F Expr) → out-Expr x ≡ f → mean x ≡ meaning_of (map-Expr Expr Meaning mean f)
+by_form x f is = mean_out x ∙ ap (λ g. meaning_of (map-Expr Expr Meaning mean g)) is
