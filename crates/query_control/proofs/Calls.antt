@@ -4,7 +4,8 @@ use Rattle.query_grammar.specs.declared.ast.Binding.{Binding}
 use Rattle.query_grammar.specs.declared.ast.Clause.{Clause}
 use Rattle.query_grammar.specs.declared.ast.Expr.{Expr}
 use Rattle.query_grammar.specs.declared.ast.SortKey.{SortKey}
-use Rattle.query_control.specs.Evaluates.{Pre, Post, IsCallable, Evaluates, EvaluatesEach, EvaluatesFlwor, EvaluatesKept, EvaluatesQuantified}
+use Rattle.evaluation.specs.Evaluates.{Pre, Post, IsCallable, Evaluates, EvaluatesEach}
+use Rattle.query_control.specs.Evaluates.{EvaluatesFlwor, EvaluatesKept, EvaluatesQuantified}
 use Rattle.query_control.specs.Parts.{source_of, bound_source}
 
 -- the expression of one part

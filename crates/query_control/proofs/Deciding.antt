@@ -1,6 +1,6 @@
 -- Items that are tried until one decides.
 use Rattle.std.proofs.Common.{◌≡◌, ℕ, suc, ◌<◌, ◌≤◌, ◌+◌, Bool, true, false, List, length, drop, slice_index_or, refl, sym, ap, ◌∙◌, Result, Ok, Err, add-one}
-use Rattle.values.specs.declared.code.Code.{Code}
+use Rattle.fault_codes.specs.declared.code.Code.{Code}
 use Rattle.values.specs.declared.fault.ValueFault.{ValueFault}
 use Rattle.values.specs.declared.fault.ValueFault.TheVariants as fault
 use Rattle.values.specs.declared.atom.Item.{Item}

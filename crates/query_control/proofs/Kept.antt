@@ -6,8 +6,8 @@ use Rattle.values.specs.Items.{IsThere}
 use Rattle.values.specs.declared.atom.Atom.{Atom}
 use Rattle.values.specs.declared.atom.Item.{Item}
 use Rattle.values.specs.declared.atom.Item.TheVariants as item
-use Rattle.values.specs.declared.code.Code.{Code}
-use Rattle.values.specs.declared.code.Code.TheVariants.{PXQ0002, XPTY0004}
+use Rattle.fault_codes.specs.declared.code.Code.{Code}
+use Rattle.fault_codes.specs.declared.code.Code.TheVariants.{PXQ0002, XPTY0004}
 use Rattle.values.specs.declared.fault.ValueFault.{ValueFault}
 use Rattle.values.specs.declared.fault.ValueFault.TheVariants as fault
 use Rattle.query_grammar.specs.declared.ast.Clause.{Clause}
@@ -16,10 +16,11 @@ use Rattle.query_meaning.specs.Environment.{Environment, Focus}
 use Rattle.query_meaning.specs.Running.{M, Run, and_then, come_to, ◌>>=◌, trees_of, most_items}
 use Rattle.query_meaning.specs.Sequences.{Meaning, Tuple, tuples, kept_tuple, keys_in, and_tuple, all_comparable, sorted, in_sorted_order, ordered, flwor, returned}
 use Rattle.evaluation.specs.Gives.{Any, Grows, GivesIn, Gives, Says, IsReady, Stand}
-use Rattle.query_control.specs.Keys.{Each, IsWide, AreKept, AreReady}
-use Rattle.query_control.specs.Parts.{sort_key_of, and_tuple_of, in_order, returned_in_order}
+use Rattle.sorted_tuples.specs.Keys.{Each, IsWide, AreKept, AreReady}
+use Rattle.sorted_tuples.specs.Keys.{sort_key_of}
+use Rattle.query_control.specs.Parts.{and_tuple_of, in_order, returned_in_order}
 use Rattle.evaluation.proofs.Each.{then_gives}
-use Rattle.query_control.proofs.Sorting.{each_of_all, tuples_inserted}
+use Rattle.sorted_tuples.proofs.Sorting.{each_of_all, tuples_inserted}
 
 -- nodes stand on
 there_on : (x : Item) (old new : Run) → Grows old new → IsThere (trees_of old) x → IsThere (trees_of new) x

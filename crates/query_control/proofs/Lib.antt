@@ -2,10 +2,6 @@ pub mod Calls
 pub mod Clauses
 pub mod Deciding
 pub mod Kept
-pub mod Ranging
-pub mod Ranking
 pub mod Signing
-pub mod Sorting
-pub mod Types
 pub mod Unfolded
 pub mod Values

@@ -1,11 +1,11 @@
 -- Signs before an operand.
 use Rattle.std.proofs.Common.{◌≡◌, ℕ, suc, ℤ, neg_ℤ, List, [], ◌∷◌, ◌++◌, length, reverse, refl, sym, ap, subst, ◌∙◌, Result, Ok, Err, Option, Some, None, arith}
 use Rattle.std.proofs.lemmas.List.{reverse-append}
-use Rattle.values.specs.declared.code.Code.{Code}
+use Rattle.fault_codes.specs.declared.code.Code.{Code}
 use Rattle.values.specs.declared.atom.Atom.{Atom}
 use Rattle.values.specs.declared.atom.Atom.TheVariants as atom
 use Rattle.values.specs.declared.atom.Item.{Item}
-use Rattle.values.specs.declared.code.Code.TheVariants.{FORG0001}
+use Rattle.fault_codes.specs.declared.code.Code.TheVariants.{FORG0001}
 use Rattle.values.specs.Arithmetic.{operands, in_range}
 use Rattle.values.specs.Atoms.{or_fault, ◌>>=◌ as both}
 use Rattle.values.specs.Readings.{integer_of}

@@ -1,12 +1,12 @@
 -- Values of variables, and nodes among items.
-use Rattle.std.proofs.Common.{◌≡◌, ℕ, zero, suc, List, [], ◌∷◌, map, Option, Some, IsSome, Bool, true, false, cond, sym, ap, Ok, Err, ◌∙◌, arith, subst}
+use Rattle.std.proofs.Common.{◌≡◌, ℕ, zero, suc, List, [], ◌∷◌, Some, Bool, true, false, cond, sym, ap, Ok, Err, ◌∙◌, arith, subst}
 use Rattle.std.specs.List.{All}
 use Rattle.std.specs.Str.{bytes_eq}
-use Rattle.values.specs.declared.code.Code.{Code}
+use Rattle.fault_codes.specs.declared.code.Code.{Code}
 use Rattle.values.specs.declared.atom.Atom.{Atom}
 use Rattle.values.specs.declared.atom.Item.{Item}
 use Rattle.query_meaning.specs.Environment.{Bound, value_in}
-use Rattle.query_meaning.specs.Running.{Run, come_to, trees_of}
+use Rattle.query_meaning.specs.Running.{Run, come_to}
 use Rattle.evaluation.specs.Gives.{Any, Stand, GivesIn, IsReady}
 use Rattle.query_meaning.specs.Sequences.{tested, variable}
 use Rattle.query_meaning.specs.Meaning.{mean}
@@ -16,12 +16,9 @@ use Rattle.query_control.proofs.Unfolded.{of_variable}
 use Rattle.query_meaning.specs.Environment.{Environment, with_variable}
 use Rattle.evaluation.proofs.Each.{grows_refl}
 use Rattle.values.specs.Atoms.{or_fault}
-use Rattle.values.specs.declared.code.Code.TheVariants.{XPST0008}
+use Rattle.fault_codes.specs.declared.code.Code.TheVariants.{XPST0008}
 use Rattle.std.proofs.lemmas.Option.{none-some, same_Some}
-use Rattle.data_model.specs.Trees.{find}
-use Rattle.shelves.specs.Shelf.{ShelfTerm, shelf_trees}
 use Rattle.values.specs.declared.atom.Item.TheVariants as item
-use Rattle.query_meaning.specs.Operators.{one_node}
 
 -- the value of a variable stands where all of them do
 pub of_value : (name : List ℕ) (bs : List Bound) (run : Run) (items : List Item) → All (λ b. Stand b.items run) bs → value_in name bs ≡ Some items → Stand items run
@@ -58,25 +55,7 @@ ready_with x items env run ready stand = record { focus = ready.focus; variables
     all zero d below = stand
     all (suc k) d below = ready.variables k d (omega (arith, below))
 
--- the node of a sequence of one stands
-pub node_there : (xs seen : List Item) (o : Option ℕ) (i : ℕ) (s : ShelfTerm) (run : Run)
-    → Ok o ≡ one_node seen → o ≡ Some i → seen ≡ xs → s ≡ run.shelf → Stand xs run → IsSome (find i (shelf_trees s))
-node_there xs seen o i s run found is same shelf stand =
-    let P : ShelfTerm → Type 0 = λ s. IsSome (find i (shelf_trees s)) in
-    subst P (sym shelf) (at xs (sym (ap (λ o. Ok o) (sym is) ∙ found ∙ ap one_node same)) stand)
-  where
-    at : (ys : List Item) → one_node ys ≡ Ok (Some i) → Stand ys run → IsSome (find i (trees_of run))
-    at [] e stand = cc
-    at (item.Atomic a ∷ ys) e stand = cc
-    at (item.Node j ∷ []) e stand = let P : ℕ → Type 0 = λ i. IsSome (find i (trees_of run)) in let same : i ≡ j = cc in subst P (sym same) (stand zero (item.Node j) (omega arith))
-    at (item.Node j ∷ y ∷ ys) e stand = cc
-
--- atomic values stand anywhere
+-- an atomic value stands anywhere
 pub one_stands : (a : Atom) (run : Run) → Stand (item.Atomic a ∷ []) run
 one_stands a run zero d below = tt
 one_stands a run (suc k) d below = absurd (omega (arith, below))
-
-pub atomic_stand : {A : Type 0} (f : A → Atom) (xs : List A) (run : Run) → Stand (map (λ x. item.Atomic (f x)) xs) run
-atomic_stand f [] run k d below = absurd (omega (arith, below))
-atomic_stand f (x ∷ xs) run zero d below = tt
-atomic_stand f (x ∷ xs) run (suc k) d below = atomic_stand f xs run k d (omega (arith, below))

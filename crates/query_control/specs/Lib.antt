@@ -1,5 +1,4 @@
 pub mod Evaluates
-pub mod Keys
 pub mod Operations
 pub mod Parts
 pub mod Sets

@@ -21,9 +21,6 @@ clause_of f (clause.For b) = clause.For (binding_of f b)
 clause_of f (clause.ForAt b at) = clause.ForAt (binding_of f b) at
 clause_of f (clause.Let b) = clause.Let (binding_of f b)
 
-abbrev pub sort_key_of : {A B : Type 0} → (A → B) → SortKey A → SortKey B
-sort_key_of f k = record { key = f k.key; is_descending = k.is_descending }
-
 -- the expression in it
 abbrev pub source_of : {A : Type 0} → Clause A → A
 source_of (clause.For b) = b.source

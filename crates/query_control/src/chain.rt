@@ -3,17 +3,17 @@
 ghost use Rattle.std.specs.Prelude.{◌≡◌, ◌∷◌, [], map, None};
 ghost use Rattle.query_meaning.specs.Meaning.{mean};
 ghost use Rattle.query_meaning.specs.Operators as meaning;
-ghost use Rattle.query_control.specs.Evaluates.{Evaluates, EvaluatesEach};
+ghost use Rattle.evaluation.specs.Evaluates.{Evaluates, EvaluatesEach};
 ghost use Rattle.evaluation.specs.Gives.{Gives, IsReady, Stand};
 ghost use Rattle.query_control.specs.Operations as part;
 ghost use Rattle.query_control.specs.Sets.{ComputesSets};
 
 use crate::forms::Forms;
-use crate::nodes::{follows, is_same, precedes};
-use crate::operators::{calculated, compared_by_pairs, compared_by_value};
-use crate::ranges::ranged;
 use evaluation::{Environment, Evaluation, Sequence};
 use query_grammar::{Binary, Expr, Operation};
+use query_operators::{
+    calculated, compared_by_pairs, compared_by_value, follows, is_same, precedes, ranged,
+};
 use sqlite_items::{Boxed, Items};
 use values::ValueFault;
 

@@ -8,8 +8,10 @@ ghost use Rattle.query_meaning.specs.Environment.{with_variable};
 ghost use Rattle.query_meaning.specs.Meaning.{mean};
 ghost use Rattle.query_meaning.specs.Running.{trees_of, most_items};
 ghost use Rattle.query_meaning.specs.Sequences as meaning;
-ghost use Rattle.query_control.specs.Evaluates.{Evaluates, EvaluatesEach, EvaluatesFlwor};
+ghost use Rattle.evaluation.specs.Evaluates.{Evaluates, EvaluatesEach};
+ghost use Rattle.query_control.specs.Evaluates.{EvaluatesFlwor};
 ghost use Rattle.evaluation.specs.Gives.{Any, Gives, GivesIn, IsReady, Stand};
+ghost use Rattle.sorted_tuples.specs.Keys.{sort_key_of};
 ghost use Rattle.query_control.specs.Parts as part;
 
 use crate::forms::Forms;
@@ -36,7 +38,7 @@ impl<F: Fn(&mut Evaluation, &Expr, &Environment) -> Result<Sequence, ValueFault>
         requires flwor { EvaluatesFlwor (F.pre self.now.value_of) (F.post self.now.value_of) clauses.now condition.now body.now }
         requires keys { EvaluatesEach (F.pre self.now.value_of) (F.post self.now.value_of) part.key_in keys.now }
         requires ready { IsReady env.now run.old }
-        ensures { Gives (meaning.flwor (map (part.clause_of mean) clauses.now) (option_map mean condition.now) (map (part.sort_key_of mean) keys.now) (mean body.now) env.now) run.old result run.new }
+        ensures { Gives (meaning.flwor (map (part.clause_of mean) clauses.now) (option_map mean condition.now) (map (sort_key_of mean) keys.now) (mean body.now) env.now) run.old result run.new }
     {
         if keys.is_empty() {
             let given = Sequence::new(run.alloc());

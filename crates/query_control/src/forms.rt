@@ -2,12 +2,12 @@
 //! and `if`.
 
 ghost use Rattle.std.specs.Prelude.{◌≡◌, ◌∷◌, [], map, Some, None, IfOk, IfErr};
-ghost use Rattle.values.specs.declared.code.Code.TheVariants.{XPST0008};
+ghost use Rattle.fault_codes.specs.declared.code.Code.TheVariants.{XPST0008};
 ghost use Rattle.query_meaning.specs.Environment.{value_in};
 ghost use Rattle.query_meaning.specs.Running.{Run, come_to};
 ghost use Rattle.query_meaning.specs.Meaning.{mean};
 ghost use Rattle.query_meaning.specs.Sequences as meaning;
-ghost use Rattle.query_control.specs.Evaluates.{Evaluates};
+ghost use Rattle.evaluation.specs.Evaluates.{Evaluates};
 ghost use Rattle.evaluation.specs.Gives.{Any, Gives, GivesIn, IsReady, Stand};
 
 use evaluation::{Environment, Evaluation, Sequence};

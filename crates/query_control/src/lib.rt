@@ -6,16 +6,10 @@
 mod chain;
 mod flwor;
 mod forms;
-mod nodes;
-mod operators;
+mod logic;
 mod order;
 mod quantified;
-mod ranges;
 mod signs;
-mod tuples;
 
 pub use chain::SetOperator;
 pub use forms::{Forms, context_item, lent, number, string, variable};
-pub use nodes::{follows, is_same, precedes};
-pub use operators::{calculated, compared_by_pairs, compared_by_value};
-pub use ranges::ranged;

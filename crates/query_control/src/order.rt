@@ -9,15 +9,16 @@ ghost use Rattle.query_meaning.specs.Environment.{with_variable};
 ghost use Rattle.query_meaning.specs.Meaning.{mean};
 ghost use Rattle.query_meaning.specs.Running.{trees_of, most_items};
 ghost use Rattle.query_meaning.specs.Sequences as meaning;
-ghost use Rattle.query_control.specs.Evaluates.{Evaluates, EvaluatesEach, EvaluatesKept};
-ghost use Rattle.query_control.specs.Keys.{AreKept, AreReady};
+ghost use Rattle.evaluation.specs.Evaluates.{Evaluates, EvaluatesEach};
+ghost use Rattle.query_control.specs.Evaluates.{EvaluatesKept};
+ghost use Rattle.sorted_tuples.specs.Keys.{AreKept, AreReady, sort_key_of};
 ghost use Rattle.query_control.specs.Parts as part;
 
 use crate::flwor::{and_item, and_item_at, source_of};
 use crate::forms::Forms;
-use crate::tuples::{Keys, Tuple, Tuples};
 use evaluation::{Environment, Evaluation, Sequence, Variables};
 use query_grammar::{Clause, Expr, SortKey};
+use sorted_tuples::{Keys, Tuple, Tuples};
 use sqlite_items::Boxed;
 use std::alloc::AllocError;
 use values::{Atom, Code, Item, Text, ValueFault};
@@ -36,7 +37,7 @@ impl<F: Fn(&mut Evaluation, &Expr, &Environment) -> Result<Sequence, ValueFault>
         requires parts { EvaluatesKept (F.pre self.now.value_of) (F.post self.now.value_of) clauses.now condition.now keys.now }
         requires body { Evaluates (F.pre self.now.value_of) (F.post self.now.value_of) (body.now ∷ []) }
         requires ready { IsReady env.now run.old }
-        ensures { Gives (meaning.ordered (map (part.clause_of mean) clauses.now) (option_map mean condition.now) (map (part.sort_key_of mean) keys.now) (mean body.now) env.now) run.old result run.new }
+        ensures { Gives (meaning.ordered (map (part.clause_of mean) clauses.now) (option_map mean condition.now) (map (sort_key_of mean) keys.now) (mean body.now) env.now) run.old result run.new }
     {
         let tuples = self.in_order(run, clauses, condition, keys, env)?;
         self.returned_in_order(run, tuples.as_slice(), body)
@@ -53,7 +54,7 @@ impl<F: Fn(&mut Evaluation, &Expr, &Environment) -> Result<Sequence, ValueFault>
     ) -> Result<Tuples<'f>, ValueFault>
         requires parts { EvaluatesKept (F.pre self.now.value_of) (F.post self.now.value_of) clauses.now condition.now keys.now }
         requires ready { IsReady env.now run.old }
-        ensures { GivesIn AreReady (part.in_order (map (part.clause_of mean) clauses.now) (option_map mean condition.now) (map (part.sort_key_of mean) keys.now) env.now) run.old result run.new }
+        ensures { GivesIn AreReady (part.in_order (map (part.clause_of mean) clauses.now) (option_map mean condition.now) (map (sort_key_of mean) keys.now) env.now) run.old result run.new }
     {
         let found = Tuples::new(run.alloc());
         let found = self.kept_tuples(run, clauses, condition, keys, env, found)?;
@@ -107,7 +108,7 @@ impl<F: Fn(&mut Evaluation, &Expr, &Environment) -> Result<Sequence, ValueFault>
         requires parts { EvaluatesKept (F.pre self.now.value_of) (F.post self.now.value_of) clauses.now condition.now keys.now }
         requires ready { IsReady env.now run.old }
         requires kept { AreKept (length keys.now) given run.old }
-        ensures { GivesIn (AreKept (length keys.now)) (meaning.tuples (map (part.clause_of mean) clauses.now) (meaning.kept_tuple (option_map mean condition.now) (map (part.sort_key_of mean) keys.now)) env.now given.entry) run.old result run.new }
+        ensures { GivesIn (AreKept (length keys.now)) (meaning.tuples (map (part.clause_of mean) clauses.now) (meaning.kept_tuple (option_map mean condition.now) (map (sort_key_of mean) keys.now)) env.now given.entry) run.old result run.new }
     {
         let Some((clause, rest)) = clauses.split_first() else {
             return self.kept_tuple(run, condition, keys, env, given);
@@ -165,7 +166,7 @@ impl<F: Fn(&mut Evaluation, &Expr, &Environment) -> Result<Sequence, ValueFault>
         requires ready { IsReady env.now run.old }
         requires items { Stand items run.old }
         requires kept { AreKept (length keys.now) given run.old }
-        ensures { GivesIn (AreKept (length keys.now)) (meaning.tuples (map (part.clause_of mean) clauses.now) (meaning.kept_tuple (option_map mean condition.now) (map (part.sort_key_of mean) keys.now)) (with_variable variable.now items env.now) given.entry) run.old result run.new }
+        ensures { GivesIn (AreKept (length keys.now)) (meaning.tuples (map (part.clause_of mean) clauses.now) (meaning.kept_tuple (option_map mean condition.now) (map (sort_key_of mean) keys.now)) (with_variable variable.now items env.now) given.entry) run.old result run.new }
     {
         let variables = Variables::and(run.alloc(), variable, items, env.variables())?;
         self.kept_tuples(run, clauses, condition, keys, &env.with(&variables), given)
@@ -188,7 +189,7 @@ impl<F: Fn(&mut Evaluation, &Expr, &Environment) -> Result<Sequence, ValueFault>
         requires ready { IsReady env.now run.old }
         requires items { Stand items.now run.old }
         requires kept { AreKept (length keys.now) given run.old }
-        ensures { GivesIn (AreKept (length keys.now)) (part.for_each variable.now (map (part.clause_of mean) clauses.now) (meaning.kept_tuple (option_map mean condition.now) (map (part.sort_key_of mean) keys.now)) env.now items.now given.entry) run.old result run.new }
+        ensures { GivesIn (AreKept (length keys.now)) (part.for_each variable.now (map (part.clause_of mean) clauses.now) (meaning.kept_tuple (option_map mean condition.now) (map (sort_key_of mean) keys.now)) env.now items.now given.entry) run.old result run.new }
     {
         let mut found = given;
         for item in items {
@@ -214,7 +215,7 @@ impl<F: Fn(&mut Evaluation, &Expr, &Environment) -> Result<Sequence, ValueFault>
         requires ready { IsReady env.now run.old }
         requires item { IsThere (trees_of run.old) item.now }
         requires kept { AreKept (length keys.now) given run.old }
-        ensures { GivesIn (AreKept (length keys.now)) (part.for_one variable.now (map (part.clause_of mean) clauses.now) (meaning.kept_tuple (option_map mean condition.now) (map (part.sort_key_of mean) keys.now)) env.now given.entry item.now) run.old result run.new }
+        ensures { GivesIn (AreKept (length keys.now)) (part.for_one variable.now (map (part.clause_of mean) clauses.now) (meaning.kept_tuple (option_map mean condition.now) (map (sort_key_of mean) keys.now)) env.now given.entry item.now) run.old result run.new }
     {
         run.turn()?;
         let variables = and_item(run, variable, item, env.variables())?;
@@ -240,7 +241,7 @@ impl<F: Fn(&mut Evaluation, &Expr, &Environment) -> Result<Sequence, ValueFault>
         requires ready { IsReady env.now run.old }
         requires items { Stand items.now run.old }
         requires kept { AreKept (length keys.now) given run.old }
-        ensures { GivesIn (AreKept (length keys.now)) (part.for_each_at variable.now at.now (map (part.clause_of mean) clauses.now) (meaning.kept_tuple (option_map mean condition.now) (map (part.sort_key_of mean) keys.now)) env.now items.now given.entry) run.old result run.new }
+        ensures { GivesIn (AreKept (length keys.now)) (part.for_each_at variable.now at.now (map (part.clause_of mean) clauses.now) (meaning.kept_tuple (option_map mean condition.now) (map (sort_key_of mean) keys.now)) env.now items.now given.entry) run.old result run.new }
     {
         let mut found = given;
         let mut index = 0;
@@ -273,7 +274,7 @@ impl<F: Fn(&mut Evaluation, &Expr, &Environment) -> Result<Sequence, ValueFault>
         requires ready { IsReady env.now run.old }
         requires item { IsThere (trees_of run.old) item.now }
         requires kept { AreKept (length keys.now) given run.old }
-        ensures { GivesIn (AreKept (length keys.now)) (part.for_one_at variable.now at.now (map (part.clause_of mean) clauses.now) (meaning.kept_tuple (option_map mean condition.now) (map (part.sort_key_of mean) keys.now)) env.now index given.entry item.now) run.old result run.new }
+        ensures { GivesIn (AreKept (length keys.now)) (part.for_one_at variable.now at.now (map (part.clause_of mean) clauses.now) (meaning.kept_tuple (option_map mean condition.now) (map (sort_key_of mean) keys.now)) env.now index given.entry item.now) run.old result run.new }
     {
         run.turn()?;
         let variables = and_item_at(run, variable, at, index, item, env.variables())?;
@@ -294,7 +295,7 @@ impl<F: Fn(&mut Evaluation, &Expr, &Environment) -> Result<Sequence, ValueFault>
         requires keys { EvaluatesEach (F.pre self.now.value_of) (F.post self.now.value_of) part.key_in keys.now }
         requires ready { IsReady env.now run.old }
         requires kept { AreKept (length keys.now) given run.old }
-        ensures { GivesIn (AreKept (length keys.now)) (meaning.kept_tuple (option_map mean condition.now) (map (part.sort_key_of mean) keys.now) env.now given.entry) run.old result run.new }
+        ensures { GivesIn (AreKept (length keys.now)) (meaning.kept_tuple (option_map mean condition.now) (map (sort_key_of mean) keys.now) env.now given.entry) run.old result run.new }
     {
         if self.tested(run, condition, env)? {
             self.and_tuple(run, keys, env, given)
@@ -314,7 +315,7 @@ impl<F: Fn(&mut Evaluation, &Expr, &Environment) -> Result<Sequence, ValueFault>
         requires keys { EvaluatesEach (F.pre self.now.value_of) (F.post self.now.value_of) part.key_in keys.now }
         requires ready { IsReady env.now run.old }
         requires kept { AreKept (length keys.now) given run.old }
-        ensures { GivesIn (AreKept (length keys.now)) (part.and_tuple_of (map (part.sort_key_of mean) keys.now) env.now given.entry) run.old result run.new }
+        ensures { GivesIn (AreKept (length keys.now)) (part.and_tuple_of (map (sort_key_of mean) keys.now) env.now given.entry) run.old result run.new }
     {
         let keys = self.keys_in(run, keys, env)?;
         given.and(env.keep()?, keys)
@@ -330,7 +331,7 @@ impl<F: Fn(&mut Evaluation, &Expr, &Environment) -> Result<Sequence, ValueFault>
     ) -> Result<Keys, ValueFault>
         requires keys { EvaluatesEach (F.pre self.now.value_of) (F.post self.now.value_of) part.key_in keys.now }
         requires ready { IsReady env.now run.old }
-        ensures keys { GivesIn Any (meaning.keys_in (map (part.sort_key_of mean) keys.now) env.now) run.old result run.new }
+        ensures keys { GivesIn Any (meaning.keys_in (map (sort_key_of mean) keys.now) env.now) run.old result run.new }
         ensures width { IfOk result (λ found. length found ≡ length keys.now) }
     {
         let mut found = Keys::new(run.alloc());

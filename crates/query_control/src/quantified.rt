@@ -12,9 +12,9 @@ ghost use Rattle.query_control.specs.Parts as part;
 
 use crate::flwor::and_item;
 use crate::forms::Forms;
-use crate::operators::boolean;
 use evaluation::{Environment, Evaluation, Sequence};
 use query_grammar::{Binding, Expr, Quantifier};
+use query_operators::boolean;
 use sqlite_items::{Boxed, Items};
 use values::{Item, Text, ValueFault};
 

@@ -4,7 +4,7 @@ ghost use Rattle.std.specs.Prelude.{◌≡◌, ◌∷◌, [], ℕ, reverse};
 ghost use Rattle.query_meaning.specs.Meaning.{mean};
 ghost use Rattle.query_meaning.specs.Operators as meaning;
 ghost use Rattle.query_meaning.specs.Running.{Run, come_to, each};
-ghost use Rattle.query_control.specs.Evaluates.{Evaluates};
+ghost use Rattle.evaluation.specs.Evaluates.{Evaluates};
 ghost use Rattle.evaluation.specs.Gives.{Gives, IsReady};
 
 use crate::forms::Forms;

@@ -2,7 +2,7 @@ use Rattle.std.proofs.Common.{length, arith, rules}
 use Rattle.query_control.proofs.Calls.{kept_rest}
 use Rattle.query_control.proofs.Kept.{kept_grows}
 use Rattle.query_control.proofs.Clauses.{tuples_for_at}
-use Rattle.query_control.specs.Keys.{AreKept}
+use Rattle.sorted_tuples.specs.Keys.{AreKept}
 use Rattle.query_control.proofs.forms.Forms.+kept_tuples.Goals as goal
 
 pub kept_tuples-kept_let-requires : goal.kept_tuples-kept_let-requires

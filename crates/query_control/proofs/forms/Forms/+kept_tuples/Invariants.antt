@@ -1,8 +1,9 @@
 use Rattle.std.proofs.Common.{◌≡◌, ◌+◌, ◌*◌, length, map, option_map}
 use Rattle.query_meaning.specs.Meaning.{mean}
 use Rattle.query_meaning.specs.Sequences.{kept_tuple}
-use Rattle.query_control.specs.Keys.{AreKept}
-use Rattle.query_control.specs.Parts.{clause_of, for_one, for_one_at, sort_key_of}
+use Rattle.sorted_tuples.specs.Keys.{AreKept}
+use Rattle.sorted_tuples.specs.Keys.{sort_key_of}
+use Rattle.query_control.specs.Parts.{clause_of, for_one, for_one_at}
 use Rattle.evaluation.proofs.Each.{Goes}
 use Rattle.query_control.proofs.forms.Forms.+kept_tuples.Given as goal
 

@@ -1,6 +1,7 @@
 use Rattle.std.proofs.Common.{map, option_map}
 use Rattle.query_meaning.specs.Meaning.{mean}
-use Rattle.query_control.specs.Parts.{clause_of, sort_key_of}
+use Rattle.sorted_tuples.specs.Keys.{sort_key_of}
+use Rattle.query_control.specs.Parts.{clause_of}
 use Rattle.query_control.proofs.Kept.{order_gives}
 use Rattle.query_control.proofs.forms.Forms.in_order.Goals as goal
 

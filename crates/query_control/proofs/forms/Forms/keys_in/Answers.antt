@@ -4,7 +4,7 @@ use Rattle.query_meaning.specs.Meaning.{mean}
 use Rattle.query_meaning.specs.Sequences.{key_in}
 use Rattle.evaluation.specs.Gives.{Any}
 use Rattle.evaluation.proofs.Each.{goes_on, stops_mapped, ends_mapped}
-use Rattle.query_control.specs.Parts.{sort_key_of}
+use Rattle.sorted_tuples.specs.Keys.{sort_key_of}
 use Rattle.query_control.proofs.forms.Forms.keys_in.Goals as goal
 
 pub loop-key-preserved : goal.loop-key-preserved

@@ -3,7 +3,7 @@ use Rattle.query_meaning.specs.Meaning.{mean}
 use Rattle.query_meaning.specs.Sequences.{key_in}
 use Rattle.evaluation.specs.Gives.{Any}
 use Rattle.evaluation.proofs.Each.{Goes}
-use Rattle.query_control.specs.Parts.{sort_key_of}
+use Rattle.sorted_tuples.specs.Keys.{sort_key_of}
 use Rattle.query_control.proofs.forms.Forms.keys_in.Given as goal
 
 abbrev pub invariant-loop-key : goal.invariant-loop-key

@@ -1,6 +1,0 @@
-use Rattle.std.proofs.Common.{◌≡◌, ℕ, ◌<◌, None, true}
-use Rattle.query_control.specs.Keys.{column, is_of_one_type}
-use Rattle.query_control.proofs.tuples.are_comparable.Given as goal
-
-abbrev pub invariant-loop-position : goal.invariant-loop-position
-invariant-loop-position l = (k : ℕ) → k < l.position → is_of_one_type None (column k l.tuples) ≡ true

@@ -1,0 +1,107 @@
+//! Operators between atomic values (XQuery 1.0, sections 3.4 and 3.5).
+
+ghost use Rattle.std.specs.Prelude.{◌≡◌, IfOk, Some};
+ghost use Rattle.query_meaning.specs.Operators as meaning;
+ghost use Rattle.evaluation.specs.Gives.{Gives, Stand};
+
+use evaluation::{Evaluation, Sequence};
+use std::alloc::AllocError;
+use values::{Atom, Comparison, Item, Operator, ValueFault, arithmetic, compare_value};
+
+/// One boolean. It fails where memory is refused.
+pub fn boolean(run: &Evaluation, value: bool) -> Result<Sequence, AllocError>
+    ensures { IfOk result (λ s. s ≡ meaning.booleans (Some value)) }
+{
+    Sequence::one(run.alloc(), Item::Atomic(Atom::Boolean(value)))
+}
+
+/// `+`, `-`, `*`, `idiv` and `mod` (XQuery 1.0, section 3.4). Codes: PXQ0002 where a string value is too long, and those of the operands
+/// and the result.
+pub fn calculated(
+    run: &mut Evaluation,
+    op: Operator,
+    left: &Sequence,
+    right: &Sequence,
+) -> Result<Sequence, ValueFault>
+    requires left { Stand left.now run.old }
+    requires right { Stand right.now run.old }
+    ensures { Gives (meaning.between_atoms (meaning.calculated op) left.now right.now) run.old result run.new }
+{
+    let xs = run.atoms(left)?;
+    let ys = run.atoms(right)?;
+    calculated_of(run, op, &xs, &ys)
+}
+
+fn calculated_of(
+    run: &mut Evaluation,
+    op: Operator,
+    xs: &[Atom],
+    ys: &[Atom],
+) -> Result<Sequence, ValueFault>
+    ensures { Gives (meaning.calculated op xs.now ys.now) run.old result run.new }
+{
+    match arithmetic(op, xs, ys)? {
+        None => Ok(Sequence::new(run.alloc())),
+        Some(value) => Ok(Sequence::one(run.alloc(), Item::Atomic(Atom::Integer(value)))?),
+    }
+}
+
+/// `eq`, `ne`, `lt`, `le`, `gt` and `ge` (XQuery 1.0, section 3.5.1). Codes: PXQ0002 where a string value is too long; XPTY0004 where
+/// there is more than one value on a side, or the two are of different types.
+pub fn compared_by_value(
+    run: &mut Evaluation,
+    op: Comparison,
+    left: &Sequence,
+    right: &Sequence,
+) -> Result<Sequence, ValueFault>
+    requires left { Stand left.now run.old }
+    requires right { Stand right.now run.old }
+    ensures { Gives (meaning.between_atoms (meaning.compared_by_value op) left.now right.now) run.old result run.new }
+{
+    let xs = run.atoms(left)?;
+    let ys = run.atoms(right)?;
+    compared_of(run, op, &xs, &ys)
+}
+
+fn compared_of(
+    run: &mut Evaluation,
+    op: Comparison,
+    xs: &[Atom],
+    ys: &[Atom],
+) -> Result<Sequence, ValueFault>
+    ensures { Gives (meaning.compared_by_value op xs.now ys.now) run.old result run.new }
+{
+    match compare_value(op, xs, ys)? {
+        None => Ok(Sequence::new(run.alloc())),
+        Some(value) => Ok(boolean(run, value)?),
+    }
+}
+
+/// `=`, `!=`, `<`, `<=`, `>` and `>=` (XQuery 1.0, section 3.5.2). Each pair that is tried takes a turn. Codes: PXQ0002 where a string
+/// value is too long or no turn is left; that of the first pair that has one.
+pub fn compared_by_pairs(
+    run: &mut Evaluation,
+    op: Comparison,
+    left: &Sequence,
+    right: &Sequence,
+) -> Result<Sequence, ValueFault>
+    requires left { Stand left.now run.old }
+    requires right { Stand right.now run.old }
+    ensures { Gives (meaning.between_atoms (meaning.compared_by_pairs op) left.now right.now) run.old result run.new }
+{
+    let xs = run.atoms(left)?;
+    let ys = run.atoms(right)?;
+    pairs_of(run, op, &xs, &ys)
+}
+
+fn pairs_of(
+    run: &mut Evaluation,
+    op: Comparison,
+    xs: &[Atom],
+    ys: &[Atom],
+) -> Result<Sequence, ValueFault>
+    ensures { Gives (meaning.compared_by_pairs op xs.now ys.now) run.old result run.new }
+{
+    let holds = run.compare(op, xs, ys)?;
+    Ok(boolean(run, holds)?)
+}

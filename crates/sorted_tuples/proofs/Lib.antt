@@ -1,0 +1,3 @@
+pub mod Ranking
+pub mod Sorting
+pub mod Types

@@ -1,0 +1,6 @@
+//! Tuples of a FLWOR expression with their keys, and their stable sort by these.
+#![tactic(auto)]
+
+mod tuples;
+
+pub use tuples::{Keys, Tuple, Tuples};

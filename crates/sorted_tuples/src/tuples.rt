@@ -1,0 +1,278 @@
+//! Tuples of a FLWOR expression with `order by`, with their keys (XQuery 1.0, section 3.8.3).
+
+ghost use Rattle.std.specs.Prelude.{◌≡◌, ◌++◌, ◌∷◌, [], length, map, Some, None, IfOk, OnOk};
+ghost use Rattle.std.specs.Option.{option_copied};
+ghost use Rattle.evaluation.specs.Gives.{Says};
+ghost use Rattle.values.specs.Comparisons.{string_cmp};
+ghost use Rattle.query_meaning.specs.Meaning.{mean};
+ghost use Rattle.query_meaning.specs.Sequences.{all_comparable, and_tuple, in_sorted_order};
+ghost use Rattle.sorted_tuples.specs.Keys.{Each, IsWide, column, comes_first, has_order, inserted_each, is_of_one_type, key_at, rank, ranked, ranked_cmp, turned};
+ghost use Rattle.sorted_tuples.specs.Keys.{sort_key_of};
+
+use evaluation::{Environment, KeptEnvironment, MOST_ITEMS};
+use query_grammar::{Expr, SortKey};
+use std::alloc::{AllocError, Global};
+use std::cmp::Ordering;
+use std::marker::Model;
+use values::{Atom, Code, ValueFault};
+
+/// The keys of a tuple, each one atomic value or empty.
+#[derive(Drop)]
+pub struct Keys {
+    keys: Vec<Option<Atom>>,
+}
+
+impl Model for Keys {
+    ghost use Rattle.std.specs.Prelude.{List, Option};
+    ghost use Rattle.std.specs.Coded.{coded_list, coded_option};
+    ghost use Rattle.values.specs.declared.atom.Atom.{Atom};
+    ghost use Rattle.values.specs.contracts.atom.Atom as of_atom;
+
+    ghost Value = { List (Option Atom) };
+
+    ghost coded = { coded_list (coded_option of_atom.the_row.coded) };
+
+    ghost view = { λ k. k.keys.items };
+}
+
+impl Keys {
+    /// No keys. It takes no memory.
+    pub fn new(alloc: Global) -> Keys
+        ensures { result ≡ [] }
+    {
+        Keys {
+            keys: Vec::new(alloc),
+        }
+    }
+
+    /// One key more. It fails where memory is refused.
+    pub fn and(self, key: Option<Atom>) -> Result<Keys, AllocError>
+        ensures { IfOk result (λ keys. keys ≡ self ++ key ∷ []) }
+    {
+        let Keys { mut keys } = self;
+        keys.push(key)?;
+        Ok(Keys { keys })
+    }
+
+    /// The key at a position; `None` where it is empty.
+    #[tactic(auto, using(crate::proofs::Types::key_there, crate::proofs::Types::key_past))]
+    fn at(&self, position: usize) -> Option<&Atom>
+        ensures { option_copied result ≡ key_at position self.now }
+    {
+        if position < self.keys.len() {
+            self.keys[position].as_ref()
+        } else {
+            None
+        }
+    }
+}
+
+/// An environment and its keys.
+#[derive(Drop)]
+pub struct Tuple<'f> {
+    environment: KeptEnvironment<'f>,
+    keys: Keys,
+}
+
+impl<'f> Model for Tuple<'f> {
+    ghost use Rattle.query_meaning.specs.Sequences.{Tuple as Term};
+    ghost use Rattle.sorted_tuples.specs.Keys.{tuple_code};
+
+    ghost Value = { Term };
+
+    ghost coded = { tuple_code };
+
+    ghost view = { λ t. record { environment = t.environment; keys = t.keys } };
+}
+
+impl<'f> Tuple<'f> {
+    /// The environment.
+    pub fn environment<'v>(&'v self) -> Environment<'f, 'v>
+        ensures { result ≡ self.now.environment }
+    {
+        self.environment.get()
+    }
+
+    /// The key at a position; `None` where it is empty.
+    fn key_at(&self, position: usize) -> Option<&Atom>
+        ensures { option_copied result ≡ key_at position self.now.keys }
+    {
+        self.keys.at(position)
+    }
+}
+
+/// Tuples, at most 10,000.
+#[derive(Drop)]
+pub struct Tuples<'f> {
+    tuples: Vec<Tuple<'f>>,
+}
+
+impl<'f> Model for Tuples<'f> {
+    ghost use Rattle.std.specs.Prelude.{List};
+    ghost use Rattle.std.specs.Coded.{coded_list};
+    ghost use Rattle.query_meaning.specs.Sequences.{Tuple as Term};
+    ghost use Rattle.sorted_tuples.specs.Keys.{tuple_code};
+
+    ghost Value = { List Term };
+
+    ghost coded = { coded_list tuple_code };
+
+    ghost view = { λ t. t.tuples.items };
+}
+
+impl<'f> Tuples<'f> {
+    /// No tuples. It takes no memory.
+    pub fn new(alloc: Global) -> Tuples<'f>
+        ensures { result ≡ [] }
+    {
+        Tuples {
+            tuples: Vec::new(alloc),
+        }
+    }
+
+    /// The tuples.
+    pub fn as_slice(&self) -> &[Tuple<'f>]
+        ensures { result.now ≡ self.now }
+    {
+        &self.tuples
+    }
+
+    /// One tuple more. Faults: `Memory`; `Code` with PXQ0002 where there are 10,000.
+    #[tactic(auto, unfolding(query_meaning::specs::Running::most_items))]
+    pub fn and(self, environment: KeptEnvironment<'f>, keys: Keys) -> Result<Tuples<'f>, ValueFault>
+        ensures { Says (and_tuple environment.entry self.entry keys) result }
+    {
+        let Tuples { mut tuples } = self;
+        if tuples.len() >= MOST_ITEMS {
+            return Err(ValueFault::Code(Code::PXQ0002));
+        }
+        tuples.push(Tuple { environment, keys })?;
+        Ok(Tuples { tuples })
+    }
+
+    /// The tuples by their keys, equal ones in their order. Faults: `Memory`; `Code` with XPTY0004 where two keys at one position are of
+    /// different types.
+    #[tactic(auto, using(crate::proofs::Ranking::sorted_of))]
+    pub fn sorted(self, keys: &[SortKey<Expr>]) -> Result<Tuples<'f>, ValueFault>
+        requires widths { Each (IsWide (length keys.now)) self }
+        ensures { Says (in_sorted_order (map (sort_key_of mean) keys.now) self.entry) result }
+    {
+        let Tuples { mut tuples } = self;
+        if !are_comparable(&tuples, keys.len()) {
+            return Err(ValueFault::Code(Code::XPTY0004));
+        }
+        sort(&mut tuples, keys)?;
+        Ok(Tuples { tuples })
+    }
+}
+
+/// Whether the keys of so many positions are of one type at each.
+fn are_comparable(tuples: &[Tuple], count: usize) -> bool
+    requires widths { Each (IsWide count) tuples.now }
+    ensures { result ≡ all_comparable tuples.now }
+{
+    for position in 0..count {
+        if !is_of_one_type(tuples, position) {
+            return false;
+        }
+    }
+    true
+}
+
+/// Whether the first key at a position that isn't empty can be compared with each that comes after it.
+fn is_of_one_type(tuples: &[Tuple], position: usize) -> bool
+    ensures { result ≡ is_of_one_type None (column position tuples.now) }
+{
+    let mut first = None;
+    for tuple in tuples {
+        let key = tuple.key_at(position);
+        if !has_order(first, key) {
+            return false;
+        }
+        if first.is_none() {
+            first = key;
+        }
+    }
+    true
+}
+
+/// Whether two keys can be compared.
+fn has_order(left: Option<&Atom>, right: Option<&Atom>) -> bool
+    ensures { result ≡ has_order (option_copied left.entry) (option_copied right.entry) }
+{
+    match (left, right) {
+        (Some(Atom::Boolean(_)), Some(Atom::Boolean(_))) => true,
+        (Some(Atom::Integer(_)), Some(Atom::Integer(_))) => true,
+        (Some(Atom::String(_)), Some(Atom::String(_))) => true,
+        (Some(_), Some(_)) => false,
+        _ => true,
+    }
+}
+
+/// A stable sort by the keys. It fails where memory is refused, and then nothing changes.
+fn sort(tuples: &mut Vec<Tuple>, keys: &[SortKey<Expr>]) -> Result<(), AllocError>
+    ensures { OnOk result (tuples.new.items ≡ inserted_each (comes_first keys.now) tuples.old.items) }
+{
+    tuples.sort_by(|left, right| compare(keys, left, right))
+}
+
+/// The order of two tuples: that of the first keys that differ, turned where the key is descending.
+fn compare(keys: &[SortKey<Expr>], left: &Tuple, right: &Tuple) -> Ordering
+    ensures { result ≡ ranked 0 keys.now left.now.keys right.now.keys }
+{
+    let mut position = 0;
+    for key in keys {
+        let order = compare_keys(left.key_at(position), right.key_at(position));
+        if !order.is_eq() {
+            return turned(key.is_descending, order);
+        }
+        position += 1;
+    }
+    Ordering::Equal
+}
+
+/// An order, the other way round where that is wanted.
+fn turned(is_descending: bool, order: Ordering) -> Ordering
+    ensures { result ≡ turned is_descending order }
+{
+    if is_descending {
+        order.reverse()
+    } else {
+        order
+    }
+}
+
+/// The order of two keys, whatever their types: the empty key first, then by type, then by value.
+fn compare_keys(left: Option<&Atom>, right: Option<&Atom>) -> Ordering
+    ensures { result ≡ ranked_cmp (option_copied left.entry) (option_copied right.entry) }
+{
+    match (left, right) {
+        (Some(Atom::Boolean(left)), Some(Atom::Boolean(right))) => left.cmp(right),
+        (Some(Atom::Integer(left)), Some(Atom::Integer(right))) => left.cmp(right),
+        (Some(Atom::String(left)), Some(Atom::String(right)))
+        | (Some(Atom::Untyped(left)), Some(Atom::Untyped(right))) => {
+            compare_text(left.as_str(), right.as_str())
+        }
+        _ => rank(left).cmp(&rank(right)),
+    }
+}
+
+/// The order of two texts by code points (Functions and Operators, section 7.3.1).
+fn compare_text(left: &str, right: &str) -> Ordering
+    ensures { result ≡ string_cmp left.now right.now }
+{
+    left.chars().cmp(right.chars())
+}
+
+/// The place of a key's type among the types.
+fn rank(key: Option<&Atom>) -> u8
+    ensures { result ≡ rank (option_copied key.entry) }
+{
+    match key {
+        None => 0,
+        Some(Atom::Boolean(_)) => 1,
+        Some(Atom::Integer(_)) => 2,
+        Some(Atom::String(_)) => 3,
+        Some(Atom::Untyped(_)) => 4,
+    }
+}
