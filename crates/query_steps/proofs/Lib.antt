@@ -1,0 +1,6 @@
+pub mod Lists
+pub mod Ancestors
+pub mod Descendants
+pub mod Besides
+pub mod Turns
+pub mod Members

@@ -1,0 +1,17 @@
+use Rattle.std.proofs.Common.{◌∙◌, ◌++◌, ℕ, Bool, List, filter, sym, ap}
+use Rattle.data_model.specs.Trees.{find, size, attributes_of, children_of}
+use Rattle.data_model.specs.declared.axis.Axis.TheVariants.{Descendant}
+use Rattle.shelves.specs.Shelf.{shelf_trees}
+use Rattle.query_meaning.specs.Paths.{passes_at}
+use Rattle.std.proofs.Common.{true, false}
+use Rattle.query_steps.specs.Below.{levels_below}
+use Rattle.query_steps.proofs.Descendants.{descendants-walked}
+use Rattle.query_steps.proofs.axes.descendants.Goals as goal
+
+pub returns : goal.returns
+returns c =
+    let ts = shelf_trees c.args.shelf.now in
+    let d = c.facts.ensures.distinct in
+    let test : ℕ → Bool = λ j. passes_at Descendant c.args.test.now (find j ts) in
+    let walked : List ℕ = levels_below (size ts) ts false (attributes_of c.args.node ts) ++ levels_below (size ts) ts true (children_of c.args.node ts) in
+    c.in_ok-add_descendants.ensures ∙ ap (λ xs. xs ++ filter test walked) c.new-nodes.ensures.items ∙ ap (filter test) (sym (descendants-walked ts d c.args.node c.requires))

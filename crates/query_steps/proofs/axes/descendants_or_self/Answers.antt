@@ -1,0 +1,20 @@
+use Rattle.std.proofs.Common.{◌∙◌, ◌++◌, ℕ, Bool, List, [], ◌∷◌, filter, sym, ap}
+use Rattle.data_model.specs.Trees.{find, size, attributes_of, children_of}
+use Rattle.data_model.specs.declared.axis.Axis.TheVariants.{DescendantOrSelf}
+use Rattle.shelves.specs.Shelf.{shelf_trees}
+use Rattle.query_meaning.specs.Paths.{passes_at}
+use Rattle.std.proofs.Common.{true, false}
+use Rattle.std.proofs.lemmas.List.Elements.{filter-append}
+use Rattle.query_steps.specs.Below.{levels_below}
+use Rattle.query_steps.proofs.Descendants.{descendants-or-self-walked}
+use Rattle.query_steps.proofs.axes.descendants_or_self.Goals as goal
+
+pub returns : goal.returns
+returns c =
+    let ts = shelf_trees c.args.shelf.now in
+    let d = c.facts.ensures.distinct in
+    let test : ℕ → Bool = λ j. passes_at DescendantOrSelf c.args.test.now (find j ts) in
+    let own : List ℕ = c.args.node ∷ [] in
+    let walked : List ℕ = levels_below (size ts) ts false (attributes_of c.args.node ts) ++ levels_below (size ts) ts true (children_of c.args.node ts) in
+    c.in_ok-add_descendants.ensures ∙ ap (λ xs. xs ++ filter test walked) (c.in_ok-add_passing.ensures ∙ ap (λ xs. xs ++ filter test own) c.new-nodes.ensures.items)
+    ∙ sym (filter-append test own walked) ∙ ap (filter test) (sym (descendants-or-self-walked ts d c.args.node c.requires))

@@ -1,0 +1,152 @@
+//! The axes of a step (XQuery 1.0, section 3.2.1.1).
+
+ghost use Rattle.std.specs.Prelude.{◌≡◌, IfOk, IsSome};
+ghost use Rattle.data_model.specs.Trees.{find};
+ghost use Rattle.shelves.specs.Shelf.{shelf_trees};
+ghost use Rattle.query_meaning.specs.Paths.{tested_nodes};
+ghost use Rattle.query_meaning.specs.Running.{trees_of};
+
+use crate::below::add_descendants;
+use crate::node_tests::{add_passing, passing};
+use crate::siblings::{following, preceding};
+use evaluation::Evaluation;
+use query_grammar::NodeTest;
+use shelves::Shelf;
+use std::alloc::{AllocError, Global};
+use trees::{Axis, NodeId};
+
+/// The nodes on an axis from a node that pass the test, in document order (XQuery 1.0, section 3.2.1). No other nodes than those of the axis
+/// are looked at, but for the attributes below a node whose descendants are wanted. It fails where memory is refused.
+pub fn nodes_of_step(
+    run: &Evaluation,
+    axis: Axis,
+    test: &NodeTest,
+    node: NodeId,
+) -> Result<Vec<NodeId>, AllocError>
+    requires stands { IsSome (find node (trees_of run.now)) }
+    ensures { IfOk result (λ v. v.items ≡ tested_nodes axis test.now node (trees_of run.now)) }
+{
+    let alloc = run.alloc();
+    let shelf = run.shelf();
+    match axis {
+        Axis::Child => children(alloc, shelf, test, node),
+        Axis::Descendant => descendants(alloc, shelf, test, node),
+        Axis::DescendantOrSelf => descendants_or_self(alloc, shelf, test, node),
+        Axis::SelfAxis => itself(alloc, shelf, test, node),
+        Axis::Attribute => attributes(alloc, shelf, test, node),
+        Axis::Parent => parent(alloc, shelf, test, node),
+        Axis::Ancestor => ancestors(alloc, shelf, test, node),
+        Axis::FollowingSibling => passing(alloc, shelf, axis, test, following(shelf, node)),
+        Axis::PrecedingSibling => passing(alloc, shelf, axis, test, preceding(shelf, node)),
+    }
+}
+
+fn children(
+    alloc: Global,
+    shelf: &Shelf,
+    test: &NodeTest,
+    node: NodeId,
+) -> Result<Vec<NodeId>, AllocError>
+    requires { IsSome (find node (shelf_trees shelf.now)) }
+    ensures { IfOk result (λ v. v.items ≡ tested_nodes Axis.Child test.now node (shelf_trees shelf.now)) }
+{
+    shelf.facts();
+    passing(alloc, shelf, Axis::Child, test, shelf.children(node))
+}
+
+fn attributes(
+    alloc: Global,
+    shelf: &Shelf,
+    test: &NodeTest,
+    node: NodeId,
+) -> Result<Vec<NodeId>, AllocError>
+    requires { IsSome (find node (shelf_trees shelf.now)) }
+    ensures { IfOk result (λ v. v.items ≡ tested_nodes Axis.Attribute test.now node (shelf_trees shelf.now)) }
+{
+    shelf.facts();
+    passing(alloc, shelf, Axis::Attribute, test, shelf.attributes(node))
+}
+
+fn itself(
+    alloc: Global,
+    shelf: &Shelf,
+    test: &NodeTest,
+    node: NodeId,
+) -> Result<Vec<NodeId>, AllocError>
+    requires { IsSome (find node (shelf_trees shelf.now)) }
+    ensures { IfOk result (λ v. v.items ≡ tested_nodes Axis.SelfAxis test.now node (shelf_trees shelf.now)) }
+{
+    shelf.facts();
+    let mut nodes = Vec::new(alloc);
+    add_passing(shelf, Axis::SelfAxis, test, node, &mut nodes)?;
+    Ok(nodes)
+}
+
+fn parent(
+    alloc: Global,
+    shelf: &Shelf,
+    test: &NodeTest,
+    node: NodeId,
+) -> Result<Vec<NodeId>, AllocError>
+    requires { IsSome (find node (shelf_trees shelf.now)) }
+    ensures { IfOk result (λ v. v.items ≡ tested_nodes Axis.Parent test.now node (shelf_trees shelf.now)) }
+{
+    shelf.facts();
+    let mut nodes = Vec::new(alloc);
+    if let Some(parent) = shelf.parent(node) {
+        add_passing(shelf, Axis::Parent, test, parent, &mut nodes)?;
+    }
+    Ok(nodes)
+}
+
+/// What stands above a node: found on the way up, and then turned.
+fn ancestors(
+    alloc: Global,
+    shelf: &Shelf,
+    test: &NodeTest,
+    node: NodeId,
+) -> Result<Vec<NodeId>, AllocError>
+    requires { IsSome (find node (shelf_trees shelf.now)) }
+    ensures { IfOk result (λ v. v.items ≡ tested_nodes Axis.Ancestor test.now node (shelf_trees shelf.now)) }
+{
+    shelf.facts();
+    let mut nodes = Vec::new(alloc);
+    let mut at = node;
+    while let Some(parent) = shelf.parent(at) {
+        add_passing(shelf, Axis::Ancestor, test, parent, &mut nodes)?;
+        at = parent;
+    }
+    nodes.reverse();
+    Ok(nodes)
+}
+
+fn descendants(
+    alloc: Global,
+    shelf: &Shelf,
+    test: &NodeTest,
+    node: NodeId,
+) -> Result<Vec<NodeId>, AllocError>
+    requires { IsSome (find node (shelf_trees shelf.now)) }
+    ensures { IfOk result (λ v. v.items ≡ tested_nodes Axis.Descendant test.now node (shelf_trees shelf.now)) }
+{
+    shelf.facts();
+    let mut nodes = Vec::new(alloc);
+    add_descendants(shelf, Axis::Descendant, test, node, &mut nodes)?;
+    Ok(nodes)
+}
+
+fn descendants_or_self(
+    alloc: Global,
+    shelf: &Shelf,
+    test: &NodeTest,
+    node: NodeId,
+) -> Result<Vec<NodeId>, AllocError>
+    requires { IsSome (find node (shelf_trees shelf.now)) }
+    ensures { IfOk result (λ v. v.items ≡ tested_nodes Axis.DescendantOrSelf test.now node (shelf_trees shelf.now)) }
+{
+    shelf.facts();
+    let mut nodes = Vec::new(alloc);
+    add_passing(shelf, Axis::DescendantOrSelf, test, node, &mut nodes)?;
+    add_descendants(shelf, Axis::DescendantOrSelf, test, node, &mut nodes)?;
+    Ok(nodes)
+}

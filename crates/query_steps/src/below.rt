@@ -1,0 +1,115 @@
+//! The nodes below a node.
+
+ghost use Rattle.std.specs.Prelude.{◌≡◌, ◌++◌, ◌∷◌, [], OnOk, IfOk, IsSome, filter, cond, false, true};
+ghost use Rattle.data_model.specs.Trees.{attributes_of, children_of, find, size};
+ghost use Rattle.shelves.specs.Shelf.{shelf_trees};
+ghost use Rattle.query_meaning.specs.Paths.{passes_at};
+ghost use Rattle.query_steps.specs.Below.{levels_below};
+
+use crate::node_tests::passes;
+use query_grammar::NodeTest;
+use shelves::Shelf;
+use std::alloc::{AllocError, Global};
+use trees::{Axis, NodeId};
+
+/// The lists of nodes that stand below a node.
+#[derive(Clone, Copy)]
+struct Lists<'s> {
+    attributes: &'s [NodeId],
+    children: &'s [NodeId],
+}
+
+/// Adds a node, if it is listed and passes the test, and gives what stands below it, by one look-up.
+fn add_node<'s>(
+    shelf: &'s Shelf,
+    axis: Axis,
+    test: &NodeTest,
+    node: NodeId,
+    is_listed: bool,
+    nodes: &mut Vec<NodeId>,
+) -> Result<Lists<'s>, AllocError>
+    ensures nodes { OnOk result
+        (nodes.new.items
+        ≡ nodes.old.items ++ filter (λ i. passes_at axis test.now (find i (shelf_trees shelf.now))) (cond is_listed (node ∷ []) [])) }
+    ensures attributes { IfOk result (λ lists. lists.attributes.now ≡ attributes_of node (shelf_trees shelf.now)) }
+    ensures children { IfOk result (λ lists. lists.children.now ≡ children_of node (shelf_trees shelf.now)) }
+{
+    let Some(view) = shelf.node(node) else {
+        return Ok(Lists {
+            attributes: &[],
+            children: &[],
+        });
+    };
+    if is_listed && passes(axis, test, view.kind, view.name) {
+        nodes.push(node)?;
+    }
+    Ok(Lists {
+        attributes: view.attributes,
+        children: view.children,
+    })
+}
+
+/// Adds those of a list of nodes and of what stands below them, down to so many levels, that pass the test: the nodes themselves only
+/// if they are listed, and no attributes below them. It goes through attributes too, since something might stand below one.
+fn add_below(
+    shelf: &Shelf,
+    axis: Axis,
+    test: &NodeTest,
+    ids: &[NodeId],
+    is_listed: bool,
+    levels: u64,
+    nodes: &mut Vec<NodeId>,
+) -> Result<(), AllocError>
+    ensures { OnOk result
+        (nodes.new.items
+        ≡ nodes.old.items
+        ++ filter (λ i. passes_at axis test.now (find i (shelf_trees shelf.now))) (levels_below levels (shelf_trees shelf.now) is_listed ids.now)) }
+{
+    if levels == 0 {
+        return Ok(());
+    }
+    for id in ids {
+        let lists = add_node(shelf, axis, test, *id, is_listed, nodes)?;
+        add_below(
+            shelf,
+            axis,
+            test,
+            lists.attributes,
+            false,
+            levels - 1,
+            nodes,
+        )?;
+        add_below(shelf, axis, test, lists.children, true, levels - 1, nodes)?;
+    }
+    Ok(())
+}
+
+/// Adds what stands below a node but attributes, as far as it passes the test.
+pub(crate) fn add_descendants(
+    shelf: &Shelf,
+    axis: Axis,
+    test: &NodeTest,
+    node: NodeId,
+    nodes: &mut Vec<NodeId>,
+) -> Result<(), AllocError>
+    requires { IsSome (find node (shelf_trees shelf.now)) }
+    ensures { OnOk result
+        (nodes.new.items
+        ≡ nodes.old.items
+        ++ filter
+        (λ i. passes_at axis test.now (find i (shelf_trees shelf.now)))
+        (levels_below (size (shelf_trees shelf.now)) (shelf_trees shelf.now) false (attributes_of node (shelf_trees shelf.now))
+        ++ levels_below (size (shelf_trees shelf.now)) (shelf_trees shelf.now) true (children_of node (shelf_trees shelf.now)))) }
+{
+    let levels = shelf.len();
+    add_below(
+        shelf,
+        axis,
+        test,
+        shelf.attributes(node),
+        false,
+        levels,
+        nodes,
+    )?;
+    add_below(shelf, axis, test, shelf.children(node), true, levels, nodes)
+}

@@ -1,0 +1,93 @@
+//! Node tests (XQuery 1.0, section 3.2.1.2).
+
+ghost use Rattle.std.specs.Prelude.{◌≡◌, ◌++◌, ◌∷◌, [], IfOk, OnOk, filter};
+ghost use Rattle.data_model.specs.Trees.{Content, find};
+ghost use Rattle.shelves.specs.Shelf.{shelf_trees};
+ghost use Rattle.query_meaning.specs.Paths.{is_of_kind, is_principal, passes, passes_at};
+
+use query_grammar::{KindTest, NodeTest};
+use shelves::Shelf;
+use std::alloc::{AllocError, Global};
+use trees::{Axis, Kind, NodeId};
+
+/// Whether nodes of that kind are those that a name stands for on the axis: attributes on the attribute axis, elements on the others.
+fn is_principal(axis: Axis, kind: Kind) -> bool
+    ensures { result ≡ is_principal axis kind }
+{
+    match (axis, kind) {
+        (Axis::Attribute, Kind::Attribute) => true,
+        (Axis::Attribute, _) => false,
+        (_, Kind::Element) => true,
+        _ => false,
+    }
+}
+
+/// Whether the test of a kind lets that one pass.
+fn is_of_kind(test: KindTest, kind: Kind) -> bool
+    ensures { result ≡ is_of_kind test kind }
+{
+    match (test, kind) {
+        (KindTest::AnyNode, _) => true,
+        (KindTest::Document, Kind::Document) => true,
+        (KindTest::Element, Kind::Element) => true,
+        (KindTest::Text, Kind::Text) => true,
+        (KindTest::Comment, Kind::Comment) => true,
+        (KindTest::Instruction, Kind::Instruction) => true,
+        _ => false,
+    }
+}
+
+/// Whether a node of that kind and name passes the test of a step along that axis.
+pub(crate) fn passes(axis: Axis, test: &NodeTest, kind: Kind, name: &str) -> bool
+    ensures { (c : Content) → kind ≡ c.kind → name.now ≡ c.name → result ≡ passes axis test.now c }
+{
+    match test {
+        NodeTest::Name(wanted) => is_principal(axis, kind) && wanted.as_str() == name,
+        NodeTest::AnyName => is_principal(axis, kind),
+        NodeTest::Kind(test) => is_of_kind(*test, kind),
+    }
+}
+
+/// Whether a node passes the test of a step along that axis.
+fn passes_at(shelf: &Shelf, axis: Axis, test: &NodeTest, node: NodeId) -> bool
+    ensures { result ≡ passes_at axis test.now (find node (shelf_trees shelf.now)) }
+{
+    match shelf.node(node) {
+        Some(view) => passes(axis, test, view.kind, view.name),
+        None => false,
+    }
+}
+
+/// Adds a node where it passes the test.
+pub(crate) fn add_passing(
+    shelf: &Shelf,
+    axis: Axis,
+    test: &NodeTest,
+    node: NodeId,
+    nodes: &mut Vec<NodeId>,
+) -> Result<(), AllocError>
+    ensures { OnOk result
+        (nodes.new.items ≡ nodes.old.items ++ filter (λ i. passes_at axis test.now (find i (shelf_trees shelf.now))) (node ∷ [])) }
+{
+    if passes_at(shelf, axis, test, node) {
+        nodes.push(node)?;
+    }
+    Ok(())
+}
+
+/// Those of some nodes that pass the test, in their order. It fails where memory is refused.
+pub(crate) fn passing(
+    alloc: Global,
+    shelf: &Shelf,
+    axis: Axis,
+    test: &NodeTest,
+    nodes: &[NodeId],
+) -> Result<Vec<NodeId>, AllocError>
+    ensures { IfOk result (λ v. v.items ≡ filter (λ i. passes_at axis test.now (find i (shelf_trees shelf.now))) nodes.now) }
+{
+    let mut passing = Vec::new(alloc);
+    for node in nodes {
+        add_passing(shelf, axis, test, *node, &mut passing)?;
+    }
+    Ok(passing)
+}
