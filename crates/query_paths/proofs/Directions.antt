@@ -1,0 +1,78 @@
+-- What a step gives, by what its predicates keep.
+use Rattle.std.proofs.Common.{◌≡◌, ℕ, zero, suc, List, [], ◌∷◌, reverse, Bool, true, false, ◌&&◌, cond, refl, ap, sym, ◌∙◌, subst, arith, Result, Ok, Err}
+use Rattle.std.proofs.lemmas.List.{reverse-append}
+use Rattle.std.proofs.lemmas.List.Elements.{All-append}
+use Rattle.data_model.specs.Axes.{is_on}
+use Rattle.data_model.specs.Order.{identities}
+use Rattle.data_model.specs.Trees.{Trees, find}
+use Rattle.data_model.specs.declared.axis.Axis.{Axis}
+use Rattle.values.specs.Items.{IsThere, AreThere}
+use Rattle.values.specs.declared.atom.Item.{Item}
+use Rattle.values.specs.declared.fault.ValueFault.{ValueFault}
+use Rattle.values.specs.declared.fault.ValueFault.TheVariants as fault
+use Rattle.query_grammar.specs.declared.ast.NodeTest.{NodeTest}
+use Rattle.query_meaning.specs.Environment.{Environment}
+use Rattle.query_meaning.specs.Operators.{nodes}
+use Rattle.query_meaning.specs.Paths.{tested_nodes, passes_at, predicates, in_direction, is_reverse}
+use Rattle.query_meaning.specs.Running.{Run, ◌>>=◌, come_to, trees_of, within}
+use Rattle.query_meaning.specs.Sequences.{Meaning}
+use Rattle.evaluation.specs.Gives.{Gives, Says, Stand}
+use Rattle.evaluation.proofs.Each.{grows_refl, then_gives}
+use Rattle.query_steps.proofs.Lists.{filter-both}
+use Rattle.query_steps.proofs.Members.{filtered-stand, within-is}
+use Rattle.query_paths.specs.Steps.{step_at}
+
+-- the items of a list stand in any order
+single_there : (ts : Trees) (x : Item) → IsThere ts x → AreThere ts (x ∷ [])
+single_there ts x there zero d h = there
+single_there ts x there (suc k) d h = absurd (omega (arith, h))
+
+reversed_there : (ts : Trees) (xs : List Item) → AreThere ts xs → AreThere ts (reverse xs)
+reversed_there ts [] all = all
+reversed_there ts (x ∷ xs) all =
+    let P : List Item → Type 0 = λ ys. AreThere ts ys in
+    subst P (sym (reverse-append (x ∷ []) xs)) (All-append (IsThere ts) (reverse xs) (x ∷ []) (reversed_there ts xs (λ k d h. all (suc k) d (omega (arith, h)))) (single_there ts x (all zero x (omega arith))))
+
+pub directed_stand : (a : Axis) (xs : List Item) (run : Run) → Stand xs run → Stand (in_direction a xs) run
+directed_stand a xs run stand = at (is_reverse a)
+  where
+    at : (b : Bool) → Stand (cond b (reverse xs) xs) run
+    at true = reversed_there (trees_of run) xs stand
+    at false = stand
+
+-- the nodes that a step finds stand
+pub tested_stand : (a : Axis) (t : NodeTest) (i : ℕ) (run : Run) → Stand (nodes (tested_nodes a t i (trees_of run))) run
+tested_stand a t i run =
+    let ts = trees_of run in
+    let P : List ℕ → Type 0 = λ is. Stand (nodes is) run in
+    subst P (sym (filter-both (λ j. passes_at a t (find j ts)) (is_on a ts i) (identities ts))) (filtered-stand (λ j. is_on a ts i j && passes_at a t (find j ts)) run)
+
+pub found_stand : (a : Axis) (t : NodeTest) (i : ℕ) (run : Run) (is seen : List ℕ) (xs : List Item) → is ≡ tested_nodes a t i (trees_of run) → seen ≡ is → xs ≡ in_direction a (nodes seen) → Stand xs run
+found_stand a t i run is seen xs found same directed =
+    let P : List Item → Type 0 = λ ys. Stand ys run in
+    subst P (sym (directed ∙ ap (λ js. in_direction a (nodes js)) (same ∙ found))) (directed_stand a (nodes (tested_nodes a t i (trees_of run))) run (tested_stand a t i run))
+
+-- what is left is given, if it is not too much
+within_gives : (xs : List Item) (run : Run) (r : Result (List Item) ValueFault) → Stand xs run → Says (within xs) r → Gives (come_to (within xs)) run r run
+within_gives xs run (Ok ys) stand says = let P : List Item → Type 0 = λ zs. Stand zs run in (ap (λ o. come_to o run) says, (grows_refl run, subst P (sym (within-is xs ys says)) stand))
+within_gives xs run (Err fault.Memory) stand says = tt
+within_gives xs run (Err (fault.Code code)) stand says = ap (λ o. come_to o run) says
+
+pub step_gives : (a : Axis) (t : NodeTest) (ms : List Meaning) (i : ℕ) (env : Environment) (old mid : Run) (is seen : List ℕ) (xs left turned : List Item) (r : Result (List Item) ValueFault)
+    → is ≡ tested_nodes a t i (trees_of old) → seen ≡ is → xs ≡ in_direction a (nodes seen) → Gives (predicates ms env xs) old (Ok left) mid → turned ≡ in_direction a left → Says (within turned) r
+    → Gives (step_at a t ms i env) old r mid
+step_gives a t ms i env old mid is seen xs left turned r found same directed kept back says =
+    let P : List Item → Type 0 = λ ys. Gives (predicates ms env ys) old (Ok left) mid in
+    let Q : List Item → Type 0 = λ ys. Says (within ys) r in
+    then_gives Stand Stand (predicates ms env (in_direction a (nodes (tested_nodes a t i (trees_of old))))) (λ ys. come_to (within (in_direction a ys))) old mid mid left r
+    (subst P (directed ∙ ap (λ js. in_direction a (nodes js)) (same ∙ found)) kept)
+    (within_gives (in_direction a left) mid r (directed_stand a left mid kept.1.1) (subst Q back says))
+
+pub step_fails : (a : Axis) (t : NodeTest) (ms : List Meaning) (i : ℕ) (env : Environment) (old mid : Run) (is seen : List ℕ) (xs : List Item) (e : ValueFault)
+    → is ≡ tested_nodes a t i (trees_of old) → seen ≡ is → xs ≡ in_direction a (nodes seen) → Gives (predicates ms env xs) old (Err e) mid → Gives (step_at a t ms i env) old (Err e) mid
+step_fails a t ms i env old mid is seen xs fault.Memory found same directed failed = tt
+step_fails a t ms i env old mid is seen xs (fault.Code code) found same directed failed =
+    ap (λ ys. (predicates ms env ys >>= (λ zs. come_to (within (in_direction a zs)))) old) (sym (directed ∙ ap (λ js. in_direction a (nodes js)) (same ∙ found))) ∙ fails
+  where
+    fails : (predicates ms env xs >>= (λ zs. come_to (within (in_direction a zs)))) old ≡ Err code
+    fails = rw failed refl

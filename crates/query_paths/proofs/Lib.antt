@@ -1,0 +1,5 @@
+pub mod Calls
+pub mod Counts
+pub mod Directions
+pub mod Finds
+pub mod Numbers

@@ -1,0 +1,38 @@
+-- A segment of a path in parts: what its right side gives for each item of its left side, and all that is found.
+use Rattle.std.specs.Prelude.{ℕ, ◌+◌, ◌≤◌, List, [], length, refl}
+use Rattle.std.specs.Coded.{Coded, code_by, coded×, coded_ℕ, coded_list}
+use Rattle.values.specs.contracts.atom.Atom as atom
+use Rattle.values.specs.declared.atom.Atom.{Atom}
+use Rattle.values.specs.declared.atom.Item.{Item}
+use Rattle.query_meaning.specs.Environment.{Environment, with_focus}
+use Rattle.query_meaning.specs.Paths.{Found, all_found, and_found, found_within, segment}
+use Rattle.query_meaning.specs.Running.{M, Run, ◌>>=◌, come_to, each, turn, most_items}
+use Rattle.query_meaning.specs.Sequences.{Meaning}
+
+-- how a proof tells what is found apart
+abbrev pub found_code : Coded Found
+found_code = code_by (List ℕ × List Atom) (coded× (coded_list coded_ℕ) (coded_list atom.the_row.coded)) (λ f. (f.nodes, f.atoms)) (λ p. record { nodes = p.0; atoms = p.1 }) (λ _. refl)
+
+-- not more is found than there may be
+abbrev pub IsFew : Found → Type 0
+IsFew f = length f.nodes + length f.atoms ≤ most_items
+
+-- the same, in any run
+abbrev pub IsFewIn : Found → Run → Type 0
+IsFewIn f run = IsFew f
+
+-- one item more
+abbrev pub one_found : Found → Item → M Found
+one_found f x = come_to (found_within (and_found f x))
+
+-- what the right side gives for one item, which takes a turn
+abbrev pub found_in : Meaning → Environment → (size : ℕ) → ℕ → Found → Item → M Found
+found_in m env n i f x = turn (m (with_focus x (i + 1) n env) >>= all_found f)
+
+-- what it gives for all of them
+abbrev pub gathered : Environment → List Item → Meaning → M Found
+gathered env items m = each (found_in m env (length items)) 0 items (record { nodes = []; atoms = [] })
+
+-- one segment after the other
+abbrev pub followed : Environment → List Item → List Meaning → M (List Item)
+followed env items ms = each (λ _. segment env) 0 ms items

@@ -1,0 +1,218 @@
+//! Predicates, and the filter expressions that have them (XQuery 1.0, sections 3.2.2 and 3.3.2).
+
+ghost use Rattle.std.specs.Prelude.{◌≡◌, ◌≤◌, ◌<◌, ◌+◌, ◌∷◌, [], length, map, IfOk};
+ghost use Rattle.values.specs.Items.{IsThere};
+ghost use Rattle.query_meaning.specs.Environment.{with_focus};
+ghost use Rattle.query_meaning.specs.Meaning.{mean};
+ghost use Rattle.query_meaning.specs.Paths as meaning;
+ghost use Rattle.query_meaning.specs.Running.{trees_of};
+ghost use Rattle.evaluation.specs.Evaluates.{Evaluates};
+ghost use Rattle.evaluation.specs.Gives.{Any, Gives, GivesIn, IsReady, Says, Stand};
+ghost use Rattle.query_paths.specs.Predicates.{selected, selected_by_number};
+
+use crate::kept::Kept;
+use evaluation::{Environment, Evaluation, Sequence};
+use query_grammar::Expr;
+use sqlite_items::{Boxed, Items};
+use values::{Atom, Code, Item, ValueFault, truth};
+
+/// Steps, filters and paths, over a function that evaluates their parts.
+#[derive(Clone, Copy)]
+pub struct Paths<F> {
+    /// The function.
+    pub value_of: F,
+}
+
+impl<F: Fn(&mut Evaluation, &Expr, &Environment) -> Result<Sequence, ValueFault>> Paths<F> {
+    /// The value of a part.
+    pub(crate) fn value_of(
+        &self,
+        run: &mut Evaluation,
+        x: &Expr,
+        env: &Environment,
+    ) -> Result<Sequence, ValueFault>
+        requires evaluates { Evaluates (F.pre self.now.value_of) (F.post self.now.value_of) (x.now ∷ []) }
+        requires ready { IsReady env.now run.old }
+        ensures { Gives (mean x.now env.now) run.old result run.new }
+    {
+        (self.value_of)(run, x, env)
+    }
+
+    /// `a[b][c]`: the items of `a` that each predicate keeps, whose positions count forward (XQuery 1.0, section 3.3.2). Codes: that of the
+    /// first part that has one; FORG0006 where a predicate's value is no single number and has no effective boolean value; PXQ0002 where
+    /// no turn is left.
+    pub fn filter(
+        &self,
+        run: &mut Evaluation,
+        base: &Boxed<Expr>,
+        predicates: &Items<Expr>,
+        env: &Environment,
+    ) -> Result<Sequence, ValueFault>
+        requires evaluates { Evaluates (F.pre self.now.value_of) (F.post self.now.value_of) (base.now ∷ predicates.now) }
+        requires ready { IsReady env.now run.old }
+        ensures { Gives (meaning.filter_of (mean base.now) (map mean predicates.now) env.now) run.old result run.new }
+    {
+        let items = self.value_of(run, base.get(), env)?;
+        self.filtered_items(run, items, predicates.as_slice(), env)
+    }
+
+    /// The items of a sequence that each predicate keeps.
+    fn filtered_items(
+        &self,
+        run: &mut Evaluation,
+        items: Sequence,
+        predicates: &[Expr],
+        env: &Environment,
+    ) -> Result<Sequence, ValueFault>
+        requires evaluates { Evaluates (F.pre self.now.value_of) (F.post self.now.value_of) predicates.now }
+        requires ready { IsReady env.now run.old }
+        requires stand { Stand items run.old }
+        ensures { Gives (meaning.predicates (map mean predicates.now) env.now items) run.old result run.new }
+    {
+        let mut left = items;
+        for predicate in predicates {
+            left = self.filtered_sequence(run, left, predicate, env)?;
+        }
+        Ok(left)
+    }
+
+    /// The items of a sequence that a predicate keeps.
+    fn filtered_sequence(
+        &self,
+        run: &mut Evaluation,
+        items: Sequence,
+        predicate: &Expr,
+        env: &Environment,
+    ) -> Result<Sequence, ValueFault>
+        requires evaluates { Evaluates (F.pre self.now.value_of) (F.post self.now.value_of) (predicate.now ∷ []) }
+        requires ready { IsReady env.now run.old }
+        requires stand { Stand items run.old }
+        ensures { Gives (meaning.filtered env.now items (mean predicate.now)) run.old result run.new }
+    {
+        let kept = self.filtered(run, items.as_slice(), predicate, env)?;
+        kept.into_sequence()
+    }
+
+    /// The items, however many, that each predicate keeps.
+    pub(crate) fn filtered_by_all(
+        &self,
+        run: &mut Evaluation,
+        items: Kept,
+        predicates: &[Expr],
+        env: &Environment,
+    ) -> Result<Kept, ValueFault>
+        requires evaluates { Evaluates (F.pre self.now.value_of) (F.post self.now.value_of) predicates.now }
+        requires ready { IsReady env.now run.old }
+        requires stand { Stand items run.old }
+        ensures { Gives (meaning.predicates (map mean predicates.now) env.now items) run.old result run.new }
+    {
+        let mut left = items;
+        for predicate in predicates {
+            left = self.filtered_again(run, left, predicate, env)?;
+        }
+        Ok(left)
+    }
+
+    /// Those of items, however many, that a predicate keeps.
+    fn filtered_again(
+        &self,
+        run: &mut Evaluation,
+        items: Kept,
+        predicate: &Expr,
+        env: &Environment,
+    ) -> Result<Kept, ValueFault>
+        requires evaluates { Evaluates (F.pre self.now.value_of) (F.post self.now.value_of) (predicate.now ∷ []) }
+        requires ready { IsReady env.now run.old }
+        requires stand { Stand items run.old }
+        ensures { Gives (meaning.filtered env.now items (mean predicate.now)) run.old result run.new }
+    {
+        self.filtered(run, items.as_slice(), predicate, env)
+    }
+
+    /// The items that a predicate keeps; each takes a turn.
+    fn filtered(
+        &self,
+        run: &mut Evaluation,
+        items: &[Item],
+        predicate: &Expr,
+        env: &Environment,
+    ) -> Result<Kept, ValueFault>
+        requires evaluates { Evaluates (F.pre self.now.value_of) (F.post self.now.value_of) (predicate.now ∷ []) }
+        requires ready { IsReady env.now run.old }
+        requires stand { Stand items.now run.old }
+        ensures kept { Gives (meaning.filtered env.now items.now (mean predicate.now)) run.old result run.new }
+        ensures few { IfOk result (λ kept. length kept ≤ length items.now) }
+    {
+        let mut kept = Kept::new(run.alloc());
+        let mut index = 0;
+        for item in items {
+            kept = self.kept(run, kept, item, index, items.len(), predicate, env)?;
+            index += 1;
+        }
+        Ok(kept)
+    }
+
+    /// One item more, if a predicate keeps it at that place among so many. It takes a turn.
+    fn kept(
+        &self,
+        run: &mut Evaluation,
+        given: Kept,
+        item: &Item,
+        index: usize,
+        size: usize,
+        predicate: &Expr,
+        env: &Environment,
+    ) -> Result<Kept, ValueFault>
+        requires evaluates { Evaluates (F.pre self.now.value_of) (F.post self.now.value_of) (predicate.now ∷ []) }
+        requires within { index < size }
+        requires ready { IsReady env.now run.old }
+        requires item { IsThere (trees_of run.old) item.now }
+        requires stand { Stand given run.old }
+        ensures kept { Gives (meaning.kept (mean predicate.now) env.now size index given item.now) run.old result run.new }
+        ensures few { IfOk result (λ kept. length kept ≤ length given + 1) }
+    {
+        run.turn()?;
+        let focus = env.with_focus(item, index + 1, size);
+        let is_kept = self.selects(run, predicate, index + 1, &focus)?;
+        Ok(given.and_if(is_kept, item)?)
+    }
+
+    /// Whether a predicate selects a position (XQuery 1.0, section 3.2.2). A number that is written is not evaluated.
+    fn selects(
+        &self,
+        run: &mut Evaluation,
+        predicate: &Expr,
+        position: usize,
+        env: &Environment,
+    ) -> Result<bool, ValueFault>
+        requires evaluates { Evaluates (F.pre self.now.value_of) (F.post self.now.value_of) (predicate.now ∷ []) }
+        requires ready { IsReady env.now run.old }
+        ensures { GivesIn Any (selected position (mean predicate.now) env.now) run.old result run.new }
+    {
+        if let Expr::Integer(value) = predicate {
+            return Ok(is_position(*value, position)?);
+        }
+        let items = self.value_of(run, predicate, env)?;
+        Ok(selects(position, items.as_slice())?)
+    }
+}
+
+/// Whether a written number is that position. Code: FOAR0002 from 2^63 on.
+fn is_position(value: u64, position: usize) -> Result<bool, Code>
+    ensures { result ≡ selected_by_number value position }
+{
+    match i64::try_from(value) {
+        Ok(number) => Ok(u64::try_from(number) == Ok(position as u64)),
+        Err(_) => Err(Code::FOAR0002),
+    }
+}
+
+/// Whether a predicate's value selects a position. Code: FORG0006 where it has no effective boolean value.
+fn selects(position: usize, items: &[Item]) -> Result<bool, Code>
+    ensures { result ≡ meaning.selects position items.now }
+{
+    match items {
+        [Item::Atomic(Atom::Integer(value))] => Ok(u64::try_from(*value) == Ok(position as u64)),
+        _ => truth(items),
+    }
+}

@@ -1,0 +1,139 @@
+//! What a segment of a path finds (XQuery 1.0, section 3.2).
+
+ghost use Rattle.std.specs.Prelude.{◌≡◌, ◌++◌, ◌∷◌, [], map, IfOk};
+ghost use Rattle.values.specs.declared.atom.Item.TheVariants as item;
+ghost use Rattle.query_meaning.specs.Paths as meaning;
+ghost use Rattle.query_meaning.specs.Running.{Run};
+ghost use Rattle.evaluation.specs.Gives.{Gives, GivesIn, Says};
+ghost use Rattle.query_paths.specs.Gathered.{IsFew, IsFewIn};
+
+use crate::kept::Kept;
+use evaluation::{Evaluation, MOST_ITEMS, Sequence};
+use query_steps::Identities;
+use std::alloc::{AllocError, Global};
+use std::marker::Model;
+use trees::NodeId;
+use values::{Atom, Code, Item, ValueFault};
+
+/// Nodes, each once, and atomic values, in the order in which they were found.
+#[derive(Drop)]
+pub(crate) struct Found {
+    set: Identities,
+    nodes: Vec<NodeId>,
+    atoms: Vec<Atom>,
+}
+
+impl Model for Found {
+    ghost use Rattle.std.specs.Prelude.{◌≡◌};
+    ghost use Rattle.query_meaning.specs.Paths.{Found as Term};
+    ghost use Rattle.query_paths.specs.Gathered.{found_code};
+
+    ghost Value = { Term };
+
+    ghost coded = { found_code };
+
+    ghost view = { λ f. record { nodes = f.nodes.items; atoms = f.atoms.items } };
+
+    ghost invariant = { λ f. f.set ≡ f.nodes.items };
+}
+
+impl Found {
+    /// Nothing. It takes no memory.
+    pub(crate) fn new(alloc: Global) -> Found
+        ensures { result ≡ record { nodes = []; atoms = [] } }
+    {
+        Found {
+            set: Identities::new(alloc),
+            nodes: Vec::new(alloc),
+            atoms: Vec::new(alloc),
+        }
+    }
+
+    /// The items of a sequence more. Faults: `Memory`; `Code` with PXQ0002 where there are more than 10,000 nodes and values.
+    pub(crate) fn and_all(self, items: &[Item]) -> Result<Found, ValueFault>
+        requires few { IsFew self }
+        ensures { (run : Run) → GivesIn IsFewIn (meaning.all_found self items.now) run result run }
+    {
+        let mut found = self;
+        for item in items {
+            found = found.and_one(item)?;
+        }
+        Ok(found)
+    }
+
+    /// One item more. Faults: `Memory`; `Code` with PXQ0002 where there are more than 10,000 nodes and values.
+    fn and_one(self, item: &Item) -> Result<Found, ValueFault>
+        ensures found { Says (meaning.found_within (meaning.and_found self item.now)) result }
+        ensures few { IfOk result IsFew }
+    {
+        let found = self.and(item)?;
+        Ok(found.within()?)
+    }
+
+    /// One item more, if it is no node that is there already. It fails where memory is refused.
+    fn and(self, item: &Item) -> Result<Found, AllocError>
+        ensures { IfOk result (λ found. found ≡ meaning.and_found self item.now) }
+    {
+        match item {
+            Item::Node(node) => self.with_node(*node),
+            Item::Atomic(atom) => self.with_atom(atom.clone()?),
+        }
+    }
+
+    /// A node more, if it is not there already. It fails where memory is refused.
+    fn with_node(self, node: NodeId) -> Result<Found, AllocError>
+        ensures { IfOk result (λ found. found ≡ meaning.and_found self (item.Node node)) }
+    {
+        let Found {
+            mut set,
+            mut nodes,
+            atoms,
+        } = self;
+        if !set.has(node) {
+            set.add(node)?;
+            nodes.push(node)?;
+        }
+        Ok(Found { set, nodes, atoms })
+    }
+
+    /// An atomic value more. It fails where memory is refused.
+    fn with_atom(self, atom: Atom) -> Result<Found, AllocError>
+        ensures { IfOk result (λ found. found ≡ meaning.and_found self (item.Atomic atom)) }
+    {
+        let Found {
+            set,
+            nodes,
+            mut atoms,
+        } = self;
+        atoms.push(atom)?;
+        Ok(Found { set, nodes, atoms })
+    }
+
+    /// The same, if it is not too much. Code: PXQ0002 where there are more than 10,000 nodes and values.
+    #[tactic(auto, unfolding(query_meaning::specs::Running::most_items))]
+    fn within(self) -> Result<Found, Code>
+        ensures { result ≡ meaning.found_within self }
+    {
+        if self.nodes.len() + self.atoms.len() > MOST_ITEMS {
+            return Err(Code::PXQ0002);
+        }
+        Ok(self)
+    }
+
+    /// The nodes in document order, or the atomic values as they were found. Code: XPTY0018 where there are both.
+    pub(crate) fn concluded(self, run: &Evaluation) -> Result<Sequence, ValueFault>
+        requires few { IsFew self }
+        ensures { Gives (meaning.concluded self.nodes self.atoms) run.now result run.now }
+    {
+        let Found { nodes, atoms, .. } = self;
+        if atoms.is_empty() {
+            run.shelf().facts();
+            let ordered = run.shelf().document_order(run.alloc(), nodes)?;
+            return Kept::of_nodes(run.alloc(), &ordered)?.into_sequence();
+        }
+        if !nodes.is_empty() {
+            return Err(ValueFault::Code(Code::XPTY0018));
+        }
+        Kept::of_atoms(run.alloc(), &atoms)?.into_sequence()
+    }
+}
