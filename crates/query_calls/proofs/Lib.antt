@@ -1,0 +1,7 @@
+pub mod Arguments
+pub mod Atoms
+pub mod Documents
+pub mod Giving
+pub mod Joining
+pub mod Keys
+pub mod Rows

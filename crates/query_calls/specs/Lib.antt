@@ -1,0 +1,6 @@
+pub mod Arguments
+pub mod Distinct
+pub mod Keys
+pub mod Parts
+pub mod Table
+pub mod Texts

@@ -1,0 +1,48 @@
+-- What the code asks of texts, and of the values of several arguments.
+use Rattle.std.specs.Prelude.{◌≡◌, ℕ, nat_lt, Bool, true, false, ◌||◌, ◌==◌, pos, List, ◌++◌, length, chars, Ok}
+use Rattle.std.specs.List.{flat_map, list_any, starts_with, ends_with}
+use Rattle.fault_codes.specs.declared.code.Code.TheVariants.{XPTY0004}
+use Rattle.values.specs.declared.atom.Atom.{Atom}
+use Rattle.values.specs.declared.atom.Item.{Item}
+use Rattle.values.specs.Atoms.{atomized}
+use Rattle.query_meaning.specs.Functions.{all_atoms, contains, integer, string, string_argument}
+use Rattle.query_meaning.specs.Running.{M, Run, fault, ◌>>=◌, come_to, trees_of}
+use Rattle.query_meaning.specs.Strings.{limited, printed}
+use Rattle.query_calls.specs.declared.strings.ArgumentValues.{ArgumentValues}
+use Rattle.query_calls.specs.declared.strings.Test.{Test}
+use Rattle.query_calls.specs.declared.strings.Test.TheVariants.{Contains, StartsWith, EndsWith}
+
+-- what is asked of two texts
+abbrev pub holds_by : Test → List ℕ → List ℕ → Bool
+holds_by Contains s t = contains s t
+holds_by StartsWith s t = starts_with ◌==◌ s t
+holds_by EndsWith s t = ends_with ◌==◌ s t
+
+-- how many characters there are in a string argument of those values
+abbrev pub length_of : List Atom → M (List Item)
+length_of values = do
+  text ← come_to (string_argument values)
+  integer (pos (length (chars text)))
+
+-- there is more than one value
+abbrev pub is_several : List Atom → Bool
+is_several values = nat_lt 1 (length values)
+
+-- the values of an argument come after those of the others
+pub record IsGatheredMore (items : List Item) (run : Run) (before after : ArgumentValues) : Type 0 where
+  pub values : List Atom
+  pub are : atomized (trees_of run) items ≡ Ok values
+  pub all : after.values.items ≡ before.values.items ++ values
+  pub several : after.has_several ≡ (before.has_several || is_several values)
+
+-- the values of all arguments, one after the other
+pub record IsGathered (arguments : List (List Item)) (run : Run) (g : ArgumentValues) : Type 0 where
+  pub values : List (List Atom)
+  pub are : all_atoms arguments run ≡ Ok (values, run)
+  pub all : g.values.items ≡ flat_map (λ vs. vs) values
+  pub several : g.has_several ≡ list_any is_several values
+
+-- the text of values that come from one argument each
+abbrev pub concatenated_of : List Atom → Bool → M (List Item)
+concatenated_of values true = fault XPTY0004
+concatenated_of values false = come_to (limited (flat_map printed values)) >>= string

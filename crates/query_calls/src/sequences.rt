@@ -1,0 +1,54 @@
+//! Sequences of atomic values, as functions give them.
+
+ghost use Rattle.std.specs.Prelude.{◌≡◌, ◌<◌, ◌≤◌, ◌∷◌, ◌++◌, [], length, Ok};
+ghost use Rattle.query_meaning.specs.Functions as functions;
+ghost use Rattle.query_meaning.specs.Running.{most_items};
+ghost use Rattle.evaluation.specs.Gives.{Gives, Says};
+ghost use Rattle.values.specs.declared.atom.Item.TheVariants as item;
+
+use evaluation::{Evaluation, Sequence};
+use std::alloc::Global;
+use values::{Atom, Item, Text, ValueFault};
+
+/// One boolean.
+pub(crate) fn boolean_of(run: &mut Evaluation, value: bool) -> Result<Sequence, ValueFault>
+    ensures { Gives (functions.boolean value) run.old result run.new }
+{
+    Ok(Sequence::one(run.alloc(), Item::Atomic(Atom::Boolean(value)))?)
+}
+
+/// One integer.
+pub(crate) fn integer_of(run: &mut Evaluation, value: i64) -> Result<Sequence, ValueFault>
+    ensures { Gives (functions.integer value) run.old result run.new }
+{
+    Ok(Sequence::one(run.alloc(), Item::Atomic(Atom::Integer(value)))?)
+}
+
+/// One string.
+pub(crate) fn string_of(run: &mut Evaluation, text: Text) -> Result<Sequence, ValueFault>
+    ensures { Gives (functions.string text) run.old result run.new }
+{
+    Ok(Sequence::one(run.alloc(), Item::Atomic(Atom::String(text)))?)
+}
+
+/// Items, and one more.
+#[tactic(auto, unfolding(query_meaning::specs::Running::most_items))]
+pub(crate) fn and_item(alloc: Global, given: Sequence, item: Item) -> Result<Sequence, ValueFault>
+    requires room { length given < most_items }
+    ensures { Says (Ok (given ++ item ∷ [])) result }
+{
+    let one = Sequence::one(alloc, item)?;
+    given.joined(one)
+}
+
+/// The sequence of atomic values.
+pub(crate) fn sequence_of(alloc: Global, values: Vec<Atom>) -> Result<Sequence, ValueFault>
+    requires most { length values.items ≤ most_items }
+    ensures { Says (Ok (functions.items_of values.items)) result }
+{
+    let mut given = Sequence::new(alloc);
+    for value in values {
+        given = and_item(alloc, given, Item::Atomic(value))?;
+    }
+    Ok(given)
+}

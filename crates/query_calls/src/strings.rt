@@ -1,0 +1,250 @@
+//! Functions of strings (Functions and Operators, sections 7.4 and 7.5).
+
+ghost use Rattle.std.specs.Prelude.{◌≡◌, ◌==◌, ◌++◌, map, length, chars, IfOk, IfErr, OnOk, Ok, Err};
+ghost use Rattle.std.specs.List as list;
+ghost use Rattle.std.specs.List.{All, flat_map};
+ghost use Rattle.values.specs.Atoms.{atomized};
+ghost use Rattle.query_meaning.specs.Environment.{no_environment};
+ghost use Rattle.query_meaning.specs.Functions as functions;
+ghost use Rattle.query_meaning.specs.Operators.{between_atoms};
+ghost use Rattle.query_meaning.specs.Running.{Run, trees_of};
+ghost use Rattle.query_meaning.specs.Strings as meaning;
+ghost use Rattle.evaluation.specs.Gives.{Fails, Gives, Says, Stand};
+ghost use Rattle.query_calls.specs.Texts.{IsGathered, IsGatheredMore, concatenated_of, holds_by, length_of};
+ghost use Rattle.query_strings.specs.Texts.{text_at};
+
+use crate::sequences::{boolean_of, integer_of, string_of};
+use evaluation::{Evaluation, Sequence};
+use query_strings::{all_printed, holds, one_text, separated, text_in};
+use std::alloc::Global;
+use values::{Atom, Code, ValueFault};
+
+/// The text of a string argument, empty where there is no value. Code: XPTY0004 where there is more than one value, or an integer or a
+/// boolean.
+fn string_argument(values: &[Atom]) -> Result<&str, Code>
+    ensures ok { IfOk result (λ t. functions.string_argument values.now ≡ Ok t.now) }
+    ensures code { IfErr result (λ code. functions.string_argument values.now ≡ Err code) }
+{
+    match values {
+        [] => Ok(""),
+        _ => one_text(values),
+    }
+}
+
+/// What is asked of two texts.
+#[derive(Clone, Copy)]
+enum Test {
+    /// The first holds the second somewhere.
+    Contains,
+    /// The first begins with the second.
+    StartsWith,
+    /// The first ends with the second.
+    EndsWith,
+}
+
+impl Test {
+    fn holds(self, text: &str, part: &str) -> bool
+        ensures { result ≡ holds_by self text.now part.now }
+    {
+        match self {
+            Test::Contains => holds(text, part),
+            Test::StartsWith => text.starts_with(part),
+            Test::EndsWith => text.ends_with(part),
+        }
+    }
+}
+
+fn tested(
+    run: &mut Evaluation,
+    test: Test,
+    texts: &[Atom],
+    parts: &[Atom],
+) -> Result<Sequence, ValueFault>
+    ensures { Gives (functions.of_texts (holds_by test) texts.now parts.now) run.old result run.new }
+{
+    let text = string_argument(texts)?;
+    let part = string_argument(parts)?;
+    boolean_of(run, test.holds(text, part))
+}
+
+/// `contains`: whether the first text holds the second (Functions and Operators, section 7.5.1). Codes: PXQ0002 where a string value is
+/// too long; XPTY0004 where an argument has more than one value, or an integer or a boolean.
+pub fn contains(
+    run: &mut Evaluation,
+    text: &Sequence,
+    part: &Sequence,
+) -> Result<Sequence, ValueFault>
+    requires text { Stand text.now run.old }
+    requires part { Stand part.now run.old }
+    ensures { Gives (between_atoms (functions.of_texts functions.contains) text.now part.now) run.old result run.new }
+{
+    let texts = run.atoms(text)?;
+    let parts = run.atoms(part)?;
+    tested(run, Test::Contains, &texts, &parts)
+}
+
+/// `starts-with`: whether the first text begins with the second (Functions and Operators, section 7.5.2). Codes: as those of `contains`.
+pub fn starts_with(
+    run: &mut Evaluation,
+    text: &Sequence,
+    part: &Sequence,
+) -> Result<Sequence, ValueFault>
+    requires text { Stand text.now run.old }
+    requires part { Stand part.now run.old }
+    ensures { Gives (between_atoms (functions.of_texts (list.starts_with ◌==◌)) text.now part.now) run.old result run.new }
+{
+    let texts = run.atoms(text)?;
+    let parts = run.atoms(part)?;
+    tested(run, Test::StartsWith, &texts, &parts)
+}
+
+/// `ends-with`: whether the first text ends with the second (Functions and Operators, section 7.5.3). Codes: as those of `contains`.
+pub fn ends_with(
+    run: &mut Evaluation,
+    text: &Sequence,
+    part: &Sequence,
+) -> Result<Sequence, ValueFault>
+    requires text { Stand text.now run.old }
+    requires part { Stand part.now run.old }
+    ensures { Gives (between_atoms (functions.of_texts (list.ends_with ◌==◌)) text.now part.now) run.old result run.new }
+{
+    let texts = run.atoms(text)?;
+    let parts = run.atoms(part)?;
+    tested(run, Test::EndsWith, &texts, &parts)
+}
+
+/// `string-length`: how many characters a text has (Functions and Operators, section 7.4.4). Codes: PXQ0002 where a string value is too
+/// long; XPTY0004 where there is more than one value, or an integer or a boolean.
+pub fn string_length(run: &mut Evaluation, items: &Sequence) -> Result<Sequence, ValueFault>
+    requires stand { Stand items.now run.old }
+    ensures { Gives (functions.string_length items.now) run.old result run.new }
+{
+    let values = run.atoms(items)?;
+    length_of(run, &values)
+}
+
+fn length_of(run: &mut Evaluation, values: &[Atom]) -> Result<Sequence, ValueFault>
+    ensures { Gives (length_of values.now) run.old result run.new }
+{
+    let text = string_argument(values)?;
+    match i64::try_from(characters(text)) {
+        Ok(count) => integer_of(run, count),
+        // So long a text has no place in memory.
+        Err(_) => Err(ValueFault::Memory),
+    }
+}
+
+/// How many characters a text has.
+fn characters(text: &str) -> usize
+    ensures { result ≡ length (chars text.now) }
+{
+    text.chars().count()
+}
+
+/// `string-join`: the texts of values, with a separator between each two (Functions and Operators, section 7.4.2). Codes: PXQ0002 where a
+/// string value or the result is too long; XPTY0004 where there is an integer or a boolean, or not just one separator.
+pub fn string_join(
+    run: &mut Evaluation,
+    items: &Sequence,
+    separator: &Sequence,
+) -> Result<Sequence, ValueFault>
+    requires items { Stand items.now run.old }
+    requires separator { Stand separator.now run.old }
+    ensures { Gives (between_atoms functions.string_join items.now separator.now) run.old result run.new }
+{
+    let values = run.atoms(items)?;
+    let separators = run.atoms(separator)?;
+    joined_of(run, &values, &separators)
+}
+
+fn joined_of(
+    run: &mut Evaluation,
+    values: &[Atom],
+    separators: &[Atom],
+) -> Result<Sequence, ValueFault>
+    ensures { Gives (functions.string_join values.now separators.now) run.old result run.new }
+{
+    let texts = all_texts(run.alloc(), values)?;
+    let separator = one_text(separators)?;
+    let text = separated(run.alloc(), separator, &texts)?;
+    let text = text.into_text(run.alloc())?;
+    string_of(run, text)
+}
+
+/// The texts of strings and untyped values. Faults: `Memory`; `Code` with XPTY0004 at an integer or a boolean.
+fn all_texts<'a>(alloc: Global, values: &'a [Atom]) -> Result<Vec<&'a str>, ValueFault>
+    ensures ok { IfOk result (λ v. (run : Run) → functions.all_texts values.now run ≡ Ok (map text_at v.items, run)) }
+    ensures code { IfErr result (λ fault. (run : Run) → Fails (functions.all_texts values.now run) fault) }
+{
+    let mut texts = Vec::with_capacity(alloc, values.len())?;
+    for value in values {
+        texts.push(text_in(value)?)?;
+    }
+    Ok(texts)
+}
+
+/// The atomic values of arguments, one after the other, and whether one of the arguments has several.
+#[derive(Drop)]
+struct ArgumentValues {
+    values: Vec<Atom>,
+    has_several: bool,
+}
+
+/// `concat`: the texts of arguments that have at most one value each (Functions and Operators, section 7.4.1). Codes: PXQ0002 where a
+/// string value or the result is too long; XPTY0004 where an argument has more than one value.
+pub fn concat(run: &mut Evaluation, arguments: &[Sequence]) -> Result<Sequence, ValueFault>
+    requires stand { All (λ s. Stand s run.old) arguments.now }
+    ensures { Gives (functions.concatenated no_environment arguments.now) run.old result run.new }
+{
+    let gathered = gathered(run, arguments)?;
+    concatenated(run, &gathered)
+}
+
+fn gathered(run: &Evaluation, arguments: &[Sequence]) -> Result<ArgumentValues, ValueFault>
+    requires stand { All (λ s. Stand s run.now) arguments.now }
+    ensures ok { IfOk result (λ g. IsGathered arguments.now run.now g) }
+    ensures code { IfErr result (λ fault. Fails (functions.all_atoms arguments.now run.now) fault) }
+{
+    let mut gathered = ArgumentValues {
+        values: Vec::new(run.alloc()),
+        has_several: false,
+    };
+    for argument in arguments {
+        gathered = and_argument(run, gathered, argument)?;
+    }
+    Ok(gathered)
+}
+
+/// The values before, and then those of an argument.
+fn and_argument(
+    run: &Evaluation,
+    gathered: ArgumentValues,
+    argument: &Sequence,
+) -> Result<ArgumentValues, ValueFault>
+    requires stand { Stand argument.now run.now }
+    ensures ok { IfOk result (λ g. IsGatheredMore argument.now run.now gathered g) }
+    ensures code { IfErr result (λ fault. Fails (atomized (trees_of run.now) argument.now) fault) }
+{
+    let ArgumentValues {
+        mut values,
+        has_several,
+    } = gathered;
+    let mut more = run.atoms(argument)?;
+    let has_several = has_several || more.len() > 1;
+    values.append(&mut more)?;
+    Ok(ArgumentValues {
+        values,
+        has_several,
+    })
+}
+
+fn concatenated(run: &mut Evaluation, gathered: &ArgumentValues) -> Result<Sequence, ValueFault>
+    ensures { Gives (concatenated_of gathered.now.values.items gathered.now.has_several) run.old result run.new }
+{
+    if gathered.has_several {
+        return Err(ValueFault::Code(Code::XPTY0004));
+    }
+    let text = all_printed(run.alloc(), &gathered.values)?;
+    let text = text.into_text(run.alloc())?;
+    string_of(run, text)
+}

@@ -1,0 +1,12 @@
+//! Strings of an evaluation, which have at most 65,536 bytes.
+//!
+//! Contracts speak of the definition of what expressions mean.
+#![tactic(auto)]
+
+mod limited_string;
+mod tests;
+mod texts;
+
+pub use limited_string::LimitedString;
+pub use tests::{after_spaces, ends_in_hyphen, holds};
+pub use texts::{all_printed, one_text, printed, separated, spaced, text_in};
