@@ -1,0 +1,76 @@
+-- The trees that are copied of a node.
+use Rattle.std.specs.Prelude.{◌↔◌, IsTrue, not, nat_eq, length}
+use Rattle.std.proofs.lemmas.Bool.{cases_lt}
+use Rattle.std.proofs.lemmas.Bool.Decides.{nat_tests}
+use Rattle.std.proofs.Common.{⊎_elim, ◌≡◌, ◌≢◌, ℕ, ◌+◌, ◌≤◌, ◌<◌, Bool, true, false, if◌then◌else◌, List, [], ◌∷◌, Option, Some, None, IsSome, refl, ap, sym, ◌∙◌, arith}
+use Rattle.data_model.specs.Changes.{pick}
+use Rattle.data_model.specs.Tidy.{is_document}
+use Rattle.data_model.specs.Tree.{TreeTerm, trees_of_tree}
+use Rattle.data_model.specs.Trees.{Trees, no_trees, tree, Place, find, roots, size, attributes_at, IsAt}
+use Rattle.data_model.specs.declared.node.Kind.{Kind}
+use Rattle.data_model.specs.declared.node.Kind.TheVariants.{Document, Element, Attribute, Text, Comment, Instruction}
+use Rattle.data_model.proofs.Climbs.{AreDistinct}
+use Rattle.data_model.proofs.Weights.{weigh-pick}
+use Rattle.trees.proofs.CallerLemmas.{picked-place}
+use Rattle.values.specs.declared.atom.Item.{Item}
+use Rattle.values.specs.declared.atom.Item.TheVariants as item
+use Rattle.values.specs.Items.{IsThere}
+use Rattle.query_meaning.specs.Content.{source_at}
+use Rattle.query_meaning.specs.Running.{Run, trees_of}
+use Rattle.evaluation.specs.Gives.{Grows}
+
+none_of : (ts : Trees) → roots ts ≡ [] → ts ≡ no_trees
+none_of no_trees e = refl
+none_of (tree c bs cs rest) e = cc
+
+-- a document without attributes has one node more than is copied of it
+pub document_size : (i : ℕ) (ts : Trees) (o : Option Place) → AreDistinct ts → find i ts ≡ o → IsAt o (λ c. Document ≡ c.kind) → attributes_at o ≡ [] → size (pick i ts) ≡ size (source_at i ts o) + 1
+document_size i ts None d found at bare = absurd at
+document_size i ts (Some x) d found at bare =
+    let whole : size (pick i ts) ≡ 1 + size x.attributes + size x.children + 0 = ap size (picked-place None i ts x d found) in
+    let none : size x.attributes ≡ 0 = ap size (none_of x.attributes bare) in
+    let source : size (source_at i ts (Some x)) ≡ size x.children = ap (λ k. size (if is_document k then x.children else pick i ts)) (sym at) in
+    omega (arith, whole, none, source)
+
+-- the children of a document's tree
+pub document_source : (i : ℕ) (ts : Trees) (o : Option Place) (t : TreeTerm) → AreDistinct ts → find i ts ≡ o → IsAt o (λ c. Document ≡ c.kind) → trees_of_tree t ≡ pick i ts → t.children ≡ source_at i ts o
+document_source i ts None t d found at is = absurd at
+document_source i ts (Some x) t d found at is =
+    let same : trees_of_tree t ≡ tree x.content x.attributes x.children no_trees = is ∙ picked-place None i ts x d found in
+    let here : t.children ≡ x.children = cc in
+    here ∙ ap (λ k. if is_document k then x.children else pick i ts) at
+
+-- the tree of what is no document
+pub other_source : (i : ℕ) (ts : Trees) (o : Option Place) (k : Kind) → IsSome o → IsAt o (λ c. k ≡ c.kind) → (k ≢ Document) → pick i ts ≡ source_at i ts o
+other_source i ts None k there at other = cc
+other_source i ts (Some x) k there at other = ap (λ b. if b then x.children else pick i ts) (sym (none x.content.kind (λ is. other (at ∙ is))))
+  where
+    none : (k : Kind) → (k ≢ Document) → is_document k ≡ false
+    none Document other = absurd (other refl)
+    none Element other = refl
+    none Attribute other = refl
+    none Text other = refl
+    none Comment other = refl
+    none Instruction other = refl
+
+-- no tree among others has more nodes
+pub picked_few : (i : ℕ) (ts : Trees) → size (pick i ts) ≤ size ts
+picked_few i ts = let e = weigh-pick (λ _. 1) i ts in omega (arith, e)
+
+pub children_few : (t : TreeTerm) → size t.children ≤ size (trees_of_tree t)
+children_few t = omega arith
+
+-- no attributes
+pub bare : (xs : List ℕ) (b : Bool) → b ≡ nat_eq (length xs) 0 → b ≡ true → xs ≡ []
+bare [] b is e = refl
+bare (x ∷ xs) b is e = absurd (grind (arith, nat_tests))
+
+-- what is not within is more
+pub passes : (b : Bool) (n most size : ℕ) → IsTrue b ↔ (n ≤ most + 1) → n ≡ size + 1 → IsTrue (not b) → most < size
+passes true n most size h e t = cc
+passes false n most size h e t = ⊎_elim (λ l. l) (λ l. (let no : false ≡ true = h.1 (omega (arith, l, e)) in cc)) (cases_lt most size)
+
+-- a node still stands
+pub still_there : (x : Item) (old new : Run) → Grows old new → IsThere (trees_of old) x → IsThere (trees_of new) x
+still_there (item.Node i) old new h there = h.kept i there
+still_there (item.Atomic a) old new h there = tt

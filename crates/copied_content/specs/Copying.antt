@@ -1,0 +1,46 @@
+-- Content that is copied item by item.
+use Rattle.std.specs.Prelude.{ℕ, List, [], ◌∷◌, ◌++◌, refl}
+use Rattle.std.specs.Coded.{Coded, code_by, coded×, coded_list}
+use Rattle.data_model.specs.Changes.{renumbered}
+use Rattle.data_model.specs.Trees.{Trees, no_trees, coded_trees, append, size}
+use Rattle.values.specs.contracts.atom.Atom as of_atom
+use Rattle.values.specs.declared.atom.Atom.{Atom}
+use Rattle.values.specs.declared.atom.Item.{Item}
+use Rattle.values.specs.declared.atom.Item.TheVariants as item
+use Rattle.query_meaning.specs.Running.{M, pure, ◌>>=◌, new_nodes}
+use Rattle.query_meaning.specs.Content.{copied, made, values as values_part}
+
+-- trees whose nodes take the next identities, in preorder
+abbrev pub numbered : Trees → M Trees
+numbered us = new_nodes (size us) >>= (λ n. pure (renumbered n us))
+
+-- copied content, and the atomic values after it
+pub record Partial : Type 0 where
+  pub trees : Trees
+  pub values : List Atom
+
+abbrev pub partial_code : Coded Partial
+partial_code = code_by (Trees × List Atom) (coded× coded_trees (coded_list of_atom.the_row.coded)) (λ s. (s.trees, s.values)) (λ p. record { trees = p.0; values = p.1 }) (λ _. refl)
+
+abbrev pub nothing : Partial
+nothing = record { trees = no_trees; values = [] }
+
+-- a text of values after content
+abbrev pub and_text : Trees → List Atom → M Trees
+and_text given [] = pure given
+and_text given (a ∷ more) = made (values_part (a ∷ more)) >>= (λ us. pure (append given us))
+
+-- where nothing more follows
+abbrev pub closed : Partial → M Trees
+closed s = and_text s.trees s.values
+
+-- one item more
+abbrev pub and_node : Partial → ℕ → M Partial
+and_node s i = do
+  given ← closed s
+  us ← copied i
+  pure (record { trees = append given us; values = [] })
+
+abbrev pub and_item : Partial → Item → M Partial
+and_item s (item.Node i) = and_node s i
+and_item s (item.Atomic a) = pure (record s { values = s.values ++ a ∷ [] })

@@ -1,0 +1,3 @@
+pub mod Copying
+pub mod Merging
+pub mod New

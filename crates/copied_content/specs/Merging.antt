@@ -1,0 +1,19 @@
+-- Adjacent texts that are merged from the left.
+use Rattle.std.specs.Prelude.{◌&&◌, ◌++◌, if◌then◌else◌, Result, Ok, Err}
+use Rattle.data_model.specs.Tree.{TreeTerm, trees_of_tree}
+use Rattle.data_model.specs.Trees.{Trees, no_trees, tree, is_text}
+use Rattle.pending.specs.Texts.{texts_within}
+use Rattle.fault_codes.specs.declared.code.Code.{Code}
+use Rattle.fault_codes.specs.declared.code.Code.TheVariants.{PXQ0002}
+use Rattle.values.specs.Atoms.{most_bytes}
+
+-- a tree after others: the last of them takes in its text, if both are texts
+abbrev pub and_merged : Trees → TreeTerm → Trees
+and_merged no_trees t = trees_of_tree t
+and_merged (tree c bs cs no_trees) t =
+    if is_text c.kind && is_text t.content.kind then tree (record c { text = c.text ++ t.content.text }) bs cs no_trees else tree c bs cs (trees_of_tree t)
+and_merged (tree c bs cs (tree d ds es rest)) t = tree c bs cs (and_merged (tree d ds es rest) t)
+
+-- trees whose texts are not too long
+abbrev pub within_bytes : Trees → Result Trees Code
+within_bytes ts = if texts_within most_bytes ts then Ok ts else Err PXQ0002

@@ -1,0 +1,84 @@
+//! Copies of nodes.
+
+ghost use Rattle.std.specs.Prelude.{◌≡◌, ◌<◌, ◌^◌, IsSome, IsTrue, IfOk, IfErr};
+ghost use Rattle.data_model.specs.Trees.{find, size};
+ghost use Rattle.shelves.specs.Shelf.{shelf_trees};
+ghost use Rattle.query_meaning.specs.Content as meaning;
+ghost use Rattle.query_meaning.specs.Running.{trees_of};
+ghost use Rattle.evaluation.specs.Gives.{Any, Fails, GivesIn};
+ghost use Rattle.copied_content.specs.Copying.{numbered};
+
+use crate::copied::CopiedContent;
+use data_model::{node_count, renumber};
+use evaluation::Evaluation;
+use shelves::Shelf;
+use trees::{Kind, NodeId};
+use values::{Code, ValueFault};
+
+/// The most new nodes in an evaluation (our own limit).
+const MOST_NODES: u64 = 100_000;
+
+/// The identity after the last that there may be.
+const PAST_IDENTITIES: u64 = 1 << 62;
+
+/// A copy of the tree of a node, or of a document's children, whose nodes take the next identities in document order. Code: PXQ0003
+/// where the evaluation would have made more than 100,000 nodes; no more of them are copied.
+pub(crate) fn copied(run: &mut Evaluation, node: NodeId) -> Result<CopiedContent, ValueFault>
+    requires there { IsSome (find node (trees_of run.old)) }
+    ensures { GivesIn Any (meaning.copied node) run.old result run.new }
+{
+    let content = sources(run, node)?;
+    numbered(run, content)
+}
+
+/// The tree of a node, or a document's children, with their identities. Code: PXQ0003 where the copy would be too large.
+#[tactic(auto, unfolding(query_meaning::specs::Running::most_nodes))]
+fn sources(run: &Evaluation, node: NodeId) -> Result<CopiedContent, ValueFault>
+    requires there { IsSome (find node (trees_of run.now)) }
+    ensures ok { IfOk result (λ us. us ≡ meaning.source_at node (trees_of run.now) (find node (trees_of run.now))) }
+    ensures few { IfOk result (λ us. size us < 2 ^ 64) }
+    ensures err { IfErr result (λ fault. Fails (meaning.copied node run.now) fault) }
+{
+    let shelf = run.shelf();
+    shelf.facts();
+    let _all = shelf.len();
+    if is_too_large(shelf, node, MOST_NODES.saturating_sub(shelf.made())) {
+        return Err(ValueFault::Code(Code::PXQ0003));
+    }
+    let tree = shelf.tree(run.alloc(), node)?;
+    match shelf.kind(node) {
+        Kind::Document => Ok(CopiedContent::of(tree.into_children())),
+        _ => Ok(CopiedContent::one(run.alloc(), tree)?),
+    }
+}
+
+/// Whether a copy of a node is known to have more than so many nodes.
+fn is_too_large(shelf: &Shelf, node: NodeId, most: u64) -> bool
+    requires there { IsSome (find node (shelf_trees shelf.now)) }
+    requires most { most < 2 ^ 63 }
+    ensures { IsTrue result
+        → most < size (meaning.source_at node (shelf_trees shelf.now) (find node (shelf_trees shelf.now))) }
+{
+    shelf.facts();
+    match shelf.kind(node) {
+        // The document itself is not copied, nor would its attributes be.
+        Kind::Document => { shelf.attributes(node).is_empty() && !shelf.is_within(node, most + 1) }
+        _ => !shelf.is_within(node, most),
+    }
+}
+
+/// Trees whose nodes take the next identities in document order. Code: PXQ0003 where the evaluation would have made more than 100,000
+/// nodes.
+fn numbered(run: &mut Evaluation, content: CopiedContent) -> Result<CopiedContent, ValueFault>
+    requires few { size content < 2 ^ 64 }
+    ensures { GivesIn Any (numbered content) run.old result run.new }
+{
+    let mut trees = content.into_trees();
+    let first = run.new_nodes(node_count(&trees))?;
+    // There are no identities past these, which an evaluation keeps to itself.
+    if run.shelf().next().number() > PAST_IDENTITIES {
+        return Err(ValueFault::Memory);
+    }
+    renumber(&mut trees, first.number());
+    Ok(CopiedContent::of(trees))
+}

@@ -1,0 +1,33 @@
+//! New texts.
+
+ghost use Rattle.std.specs.Prelude.{◌≡◌, IfOk};
+ghost use Rattle.query_meaning.specs.Content as meaning;
+ghost use Rattle.evaluation.specs.Gives.{GivesIn};
+ghost use Rattle.copied_content.specs.New.{IsNew};
+
+use crate::copied::CopiedContent;
+use evaluation::Evaluation;
+use std::alloc::{AllocError, Global};
+use trees::{Content, Kind, NodeId, Tree};
+use values::ValueFault;
+
+/// A new text. Code: PXQ0003 where the evaluation would have made more than 100,000 nodes.
+pub fn new_text(run: &mut Evaluation, text: &str) -> Result<CopiedContent, ValueFault>
+    ensures { GivesIn (IsNew run.old) (meaning.new_text text.now) run.old result run.new }
+{
+    let identity = run.new_nodes(1)?;
+    Ok(text_node(run.alloc(), text, identity)?)
+}
+
+/// A text as a tree of its own. It fails where memory is refused.
+fn text_node(alloc: Global, text: &str, identity: NodeId) -> Result<CopiedContent, AllocError>
+    ensures { IfOk result (λ us. us ≡ meaning.text_node text.now identity) }
+{
+    let content = Content {
+        identity,
+        kind: Kind::Text,
+        name: String::new(alloc),
+        text: String::from_str(alloc, text)?,
+    };
+    CopiedContent::one(alloc, Tree::new(content, Vec::new(alloc), Vec::new(alloc)))
+}

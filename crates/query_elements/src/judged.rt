@@ -1,0 +1,76 @@
+//! What content a node may have.
+
+ghost use Rattle.std.specs.Prelude.{◌≡◌, IfOk, IfErr, Some, None};
+ghost use Rattle.data_model.specs.Tidy.{has_distinct_names};
+ghost use Rattle.data_model.specs.Tree.{all_of};
+ghost use Rattle.query_meaning.specs.Content as meaning;
+ghost use Rattle.evaluation.specs.Gives.{Says};
+
+use crate::name_set::NameSet;
+use copied_content::CopiedContent;
+use data_model::are_within_levels;
+use std::alloc::{AllocError, Global};
+use trees::Tree;
+use values::{Code, ValueFault};
+
+/// The most attributes and children of a node (our own limit).
+const MOST_BELOW: usize = 10_000;
+
+/// The most levels below a node (our own limit).
+const MOST_LEVELS_BELOW: u64 = 59;
+
+/// Whether that may be the content of an element (XQuery 1.0, section 3.7.3.1). Faults: `Memory`; `Code` with XQTY0024 where an attribute
+/// comes after what is none, with XQDY0025 where two attributes have one name, and with PXQ0003 where there are too many nodes or levels.
+pub(crate) fn check_content(alloc: Global, parts: &CopiedContent) -> Result<(), ValueFault>
+    ensures { Says (meaning.unless_fault (meaning.element_fault parts.now) tt) result }
+{
+    if !parts.has_attributes_first() {
+        return Err(ValueFault::Code(Code::XQTY0024));
+    }
+    if !has_distinct_attributes(alloc, parts.as_slice())? {
+        return Err(ValueFault::Code(Code::XQDY0025));
+    }
+    if !has_room(parts.as_slice()) {
+        return Err(ValueFault::Code(Code::PXQ0003));
+    }
+    Ok(())
+}
+
+/// Whether that may be the content of a document (XQuery 1.0, section 3.7.3.3). Codes: XPTY0004 where there is an attribute; PXQ0003 where
+/// there are too many nodes or levels.
+pub(crate) fn check_children(parts: &CopiedContent) -> Result<(), Code>
+    ensures ok { IfOk result (λ _. meaning.document_fault parts.now ≡ None) }
+    ensures code { IfErr result (λ code. meaning.document_fault parts.now ≡ Some code) }
+{
+    if !parts.are_all_others() {
+        return Err(Code::XPTY0004);
+    }
+    if !has_room(parts.as_slice()) {
+        return Err(Code::PXQ0003);
+    }
+    Ok(())
+}
+
+/// Whether no two attributes among the trees have one name. Each name is looked up once. It fails where memory is refused.
+fn has_distinct_attributes(alloc: Global, trees: &[Tree]) -> Result<bool, AllocError>
+    ensures { IfOk result (λ are. are ≡ has_distinct_names (meaning.attributes (all_of trees.now))) }
+{
+    let mut names = NameSet::new(alloc);
+    let mut rest = trees;
+    while let Some((tree, others)) = rest.split_first() {
+        let is_new = names.add_attribute(tree)?;
+        if !is_new {
+            return Ok(false);
+        }
+        rest = others;
+    }
+    Ok(true)
+}
+
+/// Whether a node may have so many trees, with so many levels, below it.
+#[tactic(auto, unfolding(query_meaning::specs::Content::most_below, query_meaning::specs::Content::most_height))]
+fn has_room(trees: &[Tree]) -> bool
+    ensures { result ≡ meaning.has_room (all_of trees.now) }
+{
+    trees.len() <= MOST_BELOW && are_within_levels(trees, MOST_LEVELS_BELOW)
+}
