@@ -1,0 +1,5 @@
+pub mod Deleted
+pub mod Found
+pub mod Placed
+pub mod Replaced
+pub mod Steps

@@ -1,0 +1,3 @@
+pub mod Insertions
+pub mod Parts
+pub mod Targets
