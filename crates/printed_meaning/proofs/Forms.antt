@@ -1,0 +1,136 @@
+-- The meanings of constructors, with a text.
+use Rattle.std.proofs.Common.{◌≡◌, ℕ, ◌≤◌, Bool, true, false, not, ◌||◌, ◌==◌, if◌then◌else◌, List, [], ◌∷◌, codes, length, map, Result, Ok, Err, refl, ap, ◌∙◌, rules}
+use Rattle.std.proofs.lemmas.Bool.{le-ltb, or_parts, or_from}
+use Rattle.std.specs.Str.{bytes_eq, str_to_ascii_lowercase}
+use Rattle.document_names.specs.Characters.{is_name}
+use Rattle.data_model.specs.Tidy.{holds_text, ends_in_hyphen, begins_with_space}
+use Rattle.data_model.specs.declared.node.Kind.TheVariants as kind
+use Rattle.fault_codes.specs.declared.code.Code.{Code}
+use Rattle.fault_codes.specs.declared.code.Code.TheVariants.{XQDY0026, XQDY0041, XQDY0064, XQDY0072, XQDY0074, PXQ0002}
+use Rattle.values.specs.Atoms.{most_bytes}
+use Rattle.values.specs.Readings.{is_space, after_spaces}
+use Rattle.query_grammar.specs.declared.ast.Expr.{Expr, map-Expr, out-Expr}
+use Rattle.query_grammar.specs.declared.ast.Expr.TheVariants as e
+use Rattle.query_grammar.specs.declared.ast.Expr.TheOpen.{Expr-F}
+use Rattle.query_grammar.specs.declared.ast.Expr.TheFolds.{fold_out-Expr}
+use Rattle.query_grammar.specs.declared.ast.Expr.TheViews.{the_lemmas}
+use Rattle.query_grammar.specs.declared.ast.Name.TheVariants.{Written}
+use Rattle.query_meaning.specs.Constructors as constructors
+use Rattle.query_meaning.specs.Constructors.{name_for, text_of, with_text, comment_text, instruction_text, assembled}
+use Rattle.query_meaning.specs.Content.{element_fault}
+use Rattle.query_meaning.specs.Environment.{Environment}
+use Rattle.query_meaning.specs.Meaning.{mean, meaning_of}
+use Rattle.query_meaning.specs.Running.{Run, and_then, ◌>>=◌, come_to}
+use Rattle.query_meaning.specs.Sequences.{Meaning, string, sequence}
+use Rattle.query_meaning.specs.Strings.{limited}
+use Rattle.printed_meaning.proofs.Runs.{after, comes}
+
+-- an expression's meaning, by its form
+mean_out : (x : Expr) → mean x ≡ meaning_of (map-Expr Expr Meaning mean (out-Expr x))
+unfolding mean
+mean_out x = fold_out-Expr Meaning meaning_of x
+
+by_form : (x : Expr) (f : Expr-F Expr) → out-Expr x ≡ f → mean x ≡ meaning_of (map-Expr Expr Meaning mean f)
+by_form x f is = mean_out x ∙ ap (λ g. meaning_of (map-Expr Expr Meaning mean g)) is
+
+mean_string : (text : List ℕ) → mean (e.String text) ≡ string text
+mean_string text = by_form (e.String text) (Expr-F.String text) (search (rules, the_lemmas))
+
+pub mean_sequence : (xs : List Expr) → mean (e.Sequence xs) ≡ sequence (map mean xs)
+mean_sequence xs = by_form (e.Sequence xs) (Expr-F.Sequence xs) (search (rules, the_lemmas))
+
+pub mean_document : (x : Expr) → mean (e.Document x) ≡ constructors.document (mean x)
+mean_document x = by_form (e.Document x) (Expr-F.Document x) (search (rules, the_lemmas))
+
+pub mean_element : (name : List ℕ) (x : Expr) → mean (e.Element (Written name) x) ≡ constructors.element (Written name) (mean x)
+mean_element name x = by_form (e.Element (Written name) x) (Expr-F.Element (Written name) x) (search (rules, the_lemmas))
+
+pub mean_attribute : (name text : List ℕ) → mean (e.Attribute (Written name) (e.String text)) ≡ constructors.attribute (Written name) (string text)
+mean_attribute name text = by_form (e.Attribute (Written name) (e.String text)) (Expr-F.Attribute (Written name) (e.String text)) (search (rules, the_lemmas)) ∙ ap (constructors.attribute (Written name)) (mean_string text)
+
+pub mean_text : (text : List ℕ) → mean (e.Text (e.String text)) ≡ constructors.text (string text)
+mean_text text = by_form (e.Text (e.String text)) (Expr-F.Text (e.String text)) (search (rules, the_lemmas)) ∙ ap constructors.text (mean_string text)
+
+pub mean_comment : (text : List ℕ) → mean (e.Comment (e.String text)) ≡ constructors.comment (string text)
+mean_comment text = by_form (e.Comment (e.String text)) (Expr-F.Comment (e.String text)) (search (rules, the_lemmas)) ∙ ap constructors.comment (mean_string text)
+
+pub mean_instruction : (name text : List ℕ) → mean (e.Instruction (Written name) (e.String text)) ≡ constructors.instruction (Written name) (string text)
+mean_instruction name text = by_form (e.Instruction (Written name) (e.String text)) (Expr-F.Instruction (Written name) (e.String text)) (search (rules, the_lemmas)) ∙ ap (constructors.instruction (Written name)) (mean_string text)
+
+-- Names and texts.
+
+abbrev if_long : List ℕ → Bool → Result (List ℕ) Code
+if_long text b = if b then Err PXQ0002 else Ok text
+
+short : (text : List ℕ) → length text ≤ most_bytes → limited text ≡ Ok text
+short text h = ap (if_long text) (le-ltb most_bytes (length text) h)
+
+text_comes : (text : List ℕ) (env : Environment) (run : Run) → length text ≤ most_bytes → text_of (string text) env run ≡ Ok (text, run)
+text_comes text env run h = comes run (short text h)
+
+abbrev if_name : List ℕ → Bool → Result (List ℕ) Code
+if_name name b = if b then Ok name else Err XQDY0074
+
+element_name : (name : List ℕ) → is_name name ≡ true → name_for kind.Element name ≡ Ok name
+element_name name h = ap (if_name name) h
+
+attribute_name : (name : List ℕ) → is_name name ≡ true → name_for kind.Attribute name ≡ Ok name
+attribute_name name h = ap (if_name name) h
+
+abbrev if_target : List ℕ → Bool → Bool → Result (List ℕ) Code
+if_target name a b = if not a then Err XQDY0041 else if b then Err XQDY0064 else Ok name
+
+instruction_name : (name : List ℕ) → is_name name ≡ true → bytes_eq (str_to_ascii_lowercase name) (codes "xml") ≡ false → name_for kind.Instruction name ≡ Ok name
+instruction_name name h g = ap (λ a. if_target name a (bytes_eq (str_to_ascii_lowercase name) (codes "xml"))) h ∙ ap (if_target name true) g
+
+abbrev if_comment : List ℕ → Bool → Bool → Result (List ℕ) Code
+if_comment text a b = if a || b then Err XQDY0072 else Ok text
+
+comment_stays : (text : List ℕ) → holds_text (codes "--") text ≡ false → ends_in_hyphen text ≡ false → comment_text text ≡ Ok text
+comment_stays text a b = ap (λ x. if_comment text x (ends_in_hyphen text)) a ∙ ap (if_comment text false) b
+
+no_space : (b : ℕ) → ((b == 9) || (b == 10) || (b == 13) || (b == 32)) ≡ false → is_space b ≡ false
+no_space b h =
+    let three = or_parts ((b == 9) || (b == 10) || (b == 13)) (b == 32) h in
+    let two = or_parts ((b == 9) || (b == 10)) (b == 13) three.0 in
+    let one = or_parts (b == 9) (b == 10) two.0 in
+    or_from ((b == 32) || (b == 9) || (b == 10)) (b == 13) (or_from ((b == 32) || (b == 9)) (b == 10) (or_from (b == 32) (b == 9) three.1 one.0) one.1) two.1
+
+no_spaces : (text : List ℕ) → begins_with_space text ≡ false → after_spaces text ≡ text
+no_spaces [] h = refl
+no_spaces (b ∷ bs) h = ap (λ x. if x then after_spaces bs else b ∷ bs) (no_space b h)
+
+abbrev if_instruction : List ℕ → Bool → Result (List ℕ) Code
+if_instruction text a = if a then Err XQDY0026 else Ok (after_spaces text)
+
+instruction_stays : (text : List ℕ) → holds_text (codes "?>") text ≡ false → begins_with_space text ≡ false → instruction_text text ≡ Ok text
+instruction_stays text a b = ap (if_instruction text) a ∙ ap Ok (no_spaces text b)
+
+-- A constructor of a node with a text makes that node.
+
+module _ (env : Environment) (run : Run) where
+  pub attribute_means : (name text : List ℕ) → is_name name ≡ true → length text ≤ most_bytes
+      → constructors.attribute (Written name) (string text) env run ≡ with_text kind.Attribute name text run
+  attribute_means name text named fits =
+      after (λ given. text_of (string text) env >>= with_text kind.Attribute given) (comes run (attribute_name name named))
+      ∙ after (with_text kind.Attribute name) (text_comes text env run fits)
+
+  pub text_means : (text : List ℕ) → length text ≤ most_bytes → constructors.text (string text) env run ≡ with_text kind.Text [] text run
+  text_means text fits = after (with_text kind.Text []) (comes run (short text fits))
+
+  pub comment_means : (text : List ℕ) → length text ≤ most_bytes → holds_text (codes "--") text ≡ false → ends_in_hyphen text ≡ false
+      → constructors.comment (string text) env run ≡ with_text kind.Comment [] text run
+  comment_means text fits a b =
+      after (λ given. come_to (comment_text given) >>= with_text kind.Comment []) (text_comes text env run fits)
+      ∙ after (with_text kind.Comment []) (comes run (comment_stays text a b))
+
+  pub instruction_means : (name text : List ℕ) → is_name name ≡ true → bytes_eq (str_to_ascii_lowercase name) (codes "xml") ≡ false → length text ≤ most_bytes
+      → holds_text (codes "?>") text ≡ false → begins_with_space text ≡ false → constructors.instruction (Written name) (string text) env run ≡ with_text kind.Instruction name text run
+  instruction_means name text named other fits a b =
+      after (λ target. text_of (string text) env >>= (λ given. come_to (instruction_text given) >>= with_text kind.Instruction target)) (comes run (instruction_name name named other))
+      ∙ after (λ given. come_to (instruction_text given) >>= with_text kind.Instruction name) (text_comes text env run fits)
+      ∙ after (with_text kind.Instruction name) (comes run (instruction_stays text a b))
+
+  pub element_means : (name : List ℕ) (m : Meaning) → is_name name ≡ true
+      → constructors.element (Written name) m env run ≡ and_then (m env run) (assembled kind.Element name element_fault)
+  element_means name m named = after (λ given. m env >>= assembled kind.Element given element_fault) (comes run (element_name name named))

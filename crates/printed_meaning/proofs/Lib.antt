@@ -1,0 +1,10 @@
+pub mod Anonymous
+pub mod Depths
+pub mod Tidy
+pub mod Parts
+pub mod Runs
+pub mod Copies
+pub mod Forms
+pub mod Made
+pub mod Nodes
+pub mod Whole

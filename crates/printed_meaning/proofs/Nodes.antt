@@ -1,0 +1,277 @@
+-- The constructor expressions of tidy trees make those trees.
+use Rattle.std.proofs.Common.{◌≡◌, ℕ, ◌+◌, ◌≤◌, ◌<◌, Bool, true, not, ◌&&◌, List, [], ◌∷◌, ◌++◌, length, map, codes, Option, None, Result, Err, refl, ap, ap₂, sym, ◌∙◌, subst, subst₂, ⊎_elim, arith}
+use Rattle.std.proofs.lemmas.Bool.{and_parts, not-true, leb-true}
+use Rattle.std.proofs.lemmas.Bool.Decides.{eqb_tells}
+use Rattle.std.proofs.lemmas.List.{map-append}
+use Rattle.std.proofs.lemmas.Slice.Eq.{bytes_eq-Decides}
+use Rattle.std.specs.Str.{bytes_eq, str_to_ascii_lowercase}
+use Rattle.document_names.specs.Characters.{is_name}
+use Rattle.data_model.specs.Changes.{renumbered}
+use Rattle.data_model.specs.Tidy.{is_xml_text, are_tidy, may_be_attribute, may_be_child, has_distinct_names, holds_text, ends_in_hyphen, begins_with_space}
+use Rattle.data_model.specs.Trees.{Trees, no_trees, tree, Content, append, roots, size, count}
+use Rattle.data_model.specs.declared.node.Kind.{Kind}
+use Rattle.data_model.specs.declared.node.Kind.TheVariants as kind
+use Rattle.data_model.proofs.Weights.{append-append}
+use Rattle.node_table.proofs.Copies.{renumbered-within}
+use Rattle.fault_codes.specs.declared.code.Code.{Code}
+use Rattle.fault_codes.specs.declared.code.Code.TheVariants.{PXQ0003}
+use Rattle.values.specs.Atoms.{most_bytes}
+use Rattle.values.specs.declared.atom.Item.{Item}
+use Rattle.values.specs.declared.atom.Item.TheVariants as item
+use Rattle.query_grammar.specs.Grammar.{of_list}
+use Rattle.query_grammar.specs.declared.ast.Expr.{Expr}
+use Rattle.query_grammar.specs.declared.ast.Expr.TheVariants as e
+use Rattle.query_grammar.specs.declared.ast.Name.TheVariants.{Written}
+use Rattle.query_meaning.specs.Constructors as constructors
+use Rattle.query_meaning.specs.Constructors.{assembled, with_text}
+use Rattle.query_meaning.specs.Content.{are_all, is_attribute, is_other, attributes, others, has_room, most_below, element_fault, document_fault}
+use Rattle.query_meaning.specs.Environment.{Environment}
+use Rattle.query_meaning.specs.Meaning.{mean}
+use Rattle.query_meaning.specs.Running.{Run, trees_of, and_then, ◌>>=◌, most_items}
+use Rattle.query_meaning.specs.Sequences.{Meaning, string, sequence}
+use Rattle.meaning_laws.proofs.Nodes.{two_parts}
+use Rattle.printed_trees.specs.Constructors.{constructor_of, tree_expressions, is_tidy_root}
+use Rattle.printed_meaning.specs.Made.{anonymous, depths, have_room}
+use Rattle.printed_meaning.proofs.Anonymous.{carried, same_all, same_size, anonymous_renumbered}
+use Rattle.printed_meaning.proofs.Copies.{assembled_comes, assembled_fails, with_text_fails}
+use Rattle.printed_meaning.proofs.Depths.{depths_parts}
+use Rattle.printed_meaning.proofs.Forms.{mean_sequence, mean_document, mean_element, mean_attribute, mean_text, mean_comment, mean_instruction, attribute_means, text_means, comment_means, instruction_means, element_means}
+use Rattle.printed_meaning.proofs.Made.{Remade, Makes, AllMake, both_make, leaf_remade, AllRemade, grown_twice, all_remade, all_refused}
+use Rattle.printed_meaning.proofs.Parts.{AreParts, are_parts, is_no_document, parts_stay, same_attributes, same_others, element_faultless, document_faultless}
+use Rattle.printed_meaning.proofs.Runs.{after, after_fault, grown, HasRoom, LacksRoom, room_or_not, trees_grown, IsBelow, AreBetween, both_between, grown_below, absent, StandsAlone, AllStandAlone, last_stands}
+use Rattle.printed_meaning.proofs.Tidy.{HaveShortTexts, tidy_node, fits_as_root, without_attributes, without_children, room_at}
+
+-- what a node needs
+pub record IsRuled (k : Kind) (name text : List ℕ) (bs cs : Trees) : Type 0 where
+  pub tidy : is_tidy_root k name text ≡ true
+  pub distinct : has_distinct_names bs ≡ true
+  pub attributes : are_tidy (may_be_attribute k) bs ≡ true
+  pub children : are_tidy (may_be_child k) cs ≡ true
+  pub short : length text ≤ most_bytes
+  pub short_attributes : HaveShortTexts bs
+  pub short_children : HaveShortTexts cs
+  pub room : has_room (append bs cs) ≡ true
+
+-- Parts, as one expression.
+
+-- a meaning makes these trees, one after the other, wherever there is room, and nowhere else
+pub record AllComes (m : Meaning) (ts : Trees) : Type 0 where
+  pub made : (env : Environment) (run : Run) → IsBelow run → HasRoom run (depths 1 ts) → AllRemade [] ts run (m env run)
+  pub refused : (env : Environment) (run : Run) → IsBelow run → HasRoom run 0 → LacksRoom run (depths 1 ts) → m env run ≡ Err PXQ0003
+
+alone : (c : Content) (bs cs : Trees) (run : Run) (r : Result (List Item × Run) Code) → Remade c bs cs run r → AllRemade [] (tree c bs cs no_trees) run r
+alone c bs cs run r one = record {
+  stood = one.stood;
+  made = tree one.root one.attributes one.children no_trees;
+  comes = one.comes;
+  between = one.between;
+  stand = (one.stands, tt);
+  alike = one.alike;
+}
+
+one_comes : (m : Meaning) (ts : Trees) → AllMake (m ∷ []) ts → AllComes m ts
+one_comes m no_trees h = absurd h
+one_comes m (tree c bs cs (tree d es ds rest)) h = absurd h.1
+one_comes m (tree c bs cs no_trees) h = record { made = λ env run below room. alone c bs cs run (m env run) (h.0.made env run below room); refused = h.0.refused }
+
+sequence_comes : (ms : List Meaning) (ts : Trees) → length (roots ts) ≤ most_items → AllMake ms ts → AllComes (sequence ms) ts
+sequence_comes ms ts few h = record {
+  made = λ env run below room. all_remade env 0 ms ts h [] run below room (omega (arith, few));
+  refused = λ env run below room lack. all_refused env 0 ms ts h [] run below room lack (omega (arith, few));
+}
+
+parts_come : (xs : List Expr) (ts : Trees) → length (roots ts) ≤ most_items → AllMake (map mean xs) ts → AllComes (mean (of_list xs)) ts
+parts_come [] ts few h = subst (λ m. AllComes m ts) (sym (mean_sequence [])) (sequence_comes [] ts few h)
+parts_come (x ∷ []) ts few h = one_comes (mean x) ts h
+parts_come (x ∷ y ∷ xs) ts few h = subst (λ m. AllComes m ts) (sym (mean_sequence (x ∷ y ∷ xs))) (sequence_comes (map mean (x ∷ y ∷ xs)) ts few h)
+
+few_parts : (ts : Trees) → has_room ts ≡ true → length (roots ts) ≤ most_items
+unfolding most_items most_below
+few_parts ts h = leb-true (length (roots ts)) most_below (and_parts _ _ h).0
+
+-- A node with parts.
+
+module _ (k : Kind) (i : ℕ) (name : List ℕ) (has_fault : Trees → Option Code) (bs cs : Trees) (parts : AreParts bs cs)
+    (faultless : (ps : Trees) → anonymous ps ≡ anonymous (append bs cs) → has_fault ps ≡ None) where
+  abbrev given : Content
+  given = record { identity = i; kind = k; name = name; text = [] }
+
+  -- the node with the identity n, and the copies from n + 1 on
+  abbrev root : ℕ → Content
+  root n = record { identity = n; kind = k; name = name; text = [] }
+
+  abbrev node : ℕ → Trees → Trees
+  node n us = tree (root n) (attributes (renumbered (n + 1) us)) (others (renumbered (n + 1) us)) no_trees
+
+  node_between : (n : ℕ) (us : Trees) → AreBetween n (n + 1 + size us) (node n us)
+  node_between n us = record { within = λ j there. of j there (two_parts j is_attribute (renumbered (n + 1) us)) (renumbered-within (n + 1) j us) }
+    where
+      of : (j : ℕ) → 0 < count j (node n us) → count j (attributes (renumbered (n + 1) us)) + count j (others (renumbered (n + 1) us)) ≡ count j (renumbered (n + 1) us)
+          → (0 < count j (renumbered (n + 1) us) → (n + 1 ≤ j) × (j < n + 1 + size us)) → (n ≤ j) × (j < n + 1 + size us)
+      of j there both within =
+          ⊎_elim (λ t. (omega (arith, t.1), omega (arith, t.1)))
+          (λ t. (let z = rw t.0 at there in let w = within (omega (arith, z, both)) in (omega (arith, w.0), w.1))) (eqb_tells j n)
+
+  inner_remade : (run : Run) (r : Result (List Item × Run) Code) → IsBelow run → HasRoom run (depths 1 (tree given bs cs no_trees)) → AllRemade [] (append bs cs) run r → Remade given bs cs run (and_then r (assembled k name has_fault))
+  inner_remade run r below room all =
+      let us = all.made in
+      let n = run.shelf.own.next + depths 1 (append bs cs) in
+      let ps = renumbered (n + 1) us in
+      let between = grown run all.stood n in
+      let between_below = grown_below run all.stood n (omega arith) below all.between in
+      let same : size us ≡ size (append bs cs) = carried size same_size us (append bs cs) all.alike in
+      let parts_sum = depths_parts bs cs in
+      let sum : n + 1 + size us ≡ run.shelf.own.next + depths 1 (tree given bs cs no_trees) = omega (arith, parts_sum, same) in
+      let alike : anonymous ps ≡ anonymous (append bs cs) = anonymous_renumbered (n + 1) us ∙ all.alike in
+      record {
+        stood = append all.stood (node n us);
+        root = root n;
+        attributes = attributes ps;
+        children = others ps;
+        comes =
+            after (assembled k name has_fault) all.comes
+            ∙ assembled_comes k name has_fault us between (subst (λ ts. AllStandAlone ts us) (sym (trees_grown run all.stood n)) all.stand)
+            (carried (are_all is_no_document) (same_all is_no_document) us (append bs cs) all.alike ∙ parts.inner) (omega (arith, room, sum))
+            (parts_stay bs cs ps parts alike) (faultless ps alike)
+            ∙ grown_twice (item.Node n ∷ []) run all.stood (node n us) n (n + 1 + size us) (run.shelf.own.next + depths 1 (tree given bs cs no_trees)) sum;
+        between = both_between run.shelf.own.next n (run.shelf.own.next + depths 1 (tree given bs cs no_trees)) all.stood (node n us) (omega arith) (omega (arith, sum)) all.between
+            (subst (λ j. AreBetween n j (node n us)) sum (node_between n us));
+        new = omega arith;
+        stands = subst (λ ts. StandsAlone ts (root n) (attributes ps) (others ps)) (append-append (trees_of run) all.stood (node n us))
+            (last_stands (append (trees_of run) all.stood) (root n) (attributes ps) (others ps) (subst (λ ts. count n ts ≡ 0) (trees_grown run all.stood n) (absent between between_below)));
+        alike = ap₂ (λ x y. tree (record given { identity = 0 }) x y no_trees) (same_attributes bs cs ps parts alike) (same_others bs cs ps parts alike);
+      }
+
+  inner_refused : (run : Run) (r : Result (List Item × Run) Code) → IsBelow run → LacksRoom run (depths 1 (tree given bs cs no_trees))
+      → (HasRoom run (depths 1 (append bs cs)) → AllRemade [] (append bs cs) run r) → (LacksRoom run (depths 1 (append bs cs)) → r ≡ Err PXQ0003) → and_then r (assembled k name has_fault) ≡ Err PXQ0003
+  inner_refused run r below lack made refused = ⊎_elim (λ parts_lack. after_fault (assembled k name has_fault) (refused parts_lack)) of_room (room_or_not run (depths 1 (append bs cs)))
+    where
+      of_room : HasRoom run (depths 1 (append bs cs)) → and_then r (assembled k name has_fault) ≡ Err PXQ0003
+      of_room room =
+          let all = made room in
+          let us = all.made in
+          let n = run.shelf.own.next + depths 1 (append bs cs) in
+          let same : size us ≡ size (append bs cs) = carried size same_size us (append bs cs) all.alike in
+          let parts_sum = depths_parts bs cs in
+          after (assembled k name has_fault) all.comes
+          ∙ assembled_fails k name has_fault us (grown run all.stood n) (subst (λ ts. AllStandAlone ts us) (sym (trees_grown run all.stood n)) all.stand)
+          (carried (are_all is_no_document) (same_all is_no_document) us (append bs cs) all.alike ∙ parts.inner) (omega (arith, lack, parts_sum, same))
+
+  pub inner_makes : (m : Meaning) → AllComes m (append bs cs) → Makes (λ env. m env >>= assembled k name has_fault) given bs cs
+  inner_makes m all =
+      let parts_sum = depths_parts bs cs in
+      record {
+        made = λ env run below room. inner_remade run (m env run) below room (all.made env run below (omega (arith, room, parts_sum)));
+        refused = λ env run below room lack. inner_refused run (m env run) below lack (all.made env run below) (all.refused env run below room);
+      }
+
+-- Each kind of node.
+
+-- a node without parts
+leaf_makes : (m : Meaning) (c : Content) (bs cs : Trees) → bs ≡ no_trees → cs ≡ no_trees → ((env : Environment) (run : Run) → m env run ≡ with_text c.kind c.name c.text run) → Makes m c bs cs
+leaf_makes m c bs cs a b same = subst₂ (Makes m c) (sym a) (sym b) (record {
+  made = λ env run below room. leaf_remade c run (m env run) (same env run) below room;
+  refused = λ env run below room lack. same env run ∙ with_text_fails c.kind c.name c.text run lack;
+})
+
+-- a meaning that comes to the same
+same_makes : (m w : Meaning) (c : Content) (bs cs : Trees) → ((env : Environment) (run : Run) → m env run ≡ w env run) → Makes w c bs cs → Makes m c bs cs
+same_makes m w c bs cs same h = record {
+  made = λ env run below room. subst (Remade c bs cs run) (sym (same env run)) (h.made env run below room);
+  refused = λ env run below room lack. same env run ∙ h.refused env run below room lack;
+}
+
+module _ (i : ℕ) (name text : List ℕ) (bs cs : Trees) where
+  abbrev content : Kind → Content
+  content k = record { identity = i; kind = k; name = name; text = text }
+
+  attribute_makes : IsRuled kind.Attribute name text bs cs → Makes (mean (e.Attribute (Written name) (e.String text))) (content kind.Attribute) bs cs
+  attribute_makes h =
+      let rules = and_parts (is_name name) (is_xml_text text) h.tidy in
+      subst (λ m. Makes m (content kind.Attribute) bs cs) (sym (mean_attribute name text))
+      (leaf_makes (constructors.attribute (Written name) (string text)) (content kind.Attribute) bs cs (without_attributes kind.Attribute bs (λ j. refl) h.attributes) (without_children kind.Attribute cs refl h.children)
+      (λ env run. attribute_means env run name text rules.0 h.short))
+
+  text_makes : IsRuled kind.Text name text bs cs → Makes (mean (e.Text (e.String text))) (content kind.Text) bs cs
+  text_makes h =
+      let rules = and_parts (bytes_eq name []) (is_xml_text text) h.tidy in
+      subst (λ m. Makes m (content kind.Text) bs cs) (sym (mean_text text))
+      (leaf_makes (constructors.text (string text)) (content kind.Text) bs cs (without_attributes kind.Text bs (λ j. refl) h.attributes) (without_children kind.Text cs refl h.children)
+      (λ env run. text_means env run text h.short ∙ ap (λ none. with_text kind.Text none text run) (sym ((bytes_eq-Decides name []).0 rules.0))))
+
+  comment_makes : IsRuled kind.Comment name text bs cs → Makes (mean (e.Comment (e.String text))) (content kind.Comment) bs cs
+  comment_makes h =
+      let three = and_parts (bytes_eq name [] && is_xml_text text && not (holds_text (codes "--") text)) (not (ends_in_hyphen text)) h.tidy in
+      let two = and_parts (bytes_eq name [] && is_xml_text text) (not (holds_text (codes "--") text)) three.0 in
+      let one = and_parts (bytes_eq name []) (is_xml_text text) two.0 in
+      subst (λ m. Makes m (content kind.Comment) bs cs) (sym (mean_comment text))
+      (leaf_makes (constructors.comment (string text)) (content kind.Comment) bs cs (without_attributes kind.Comment bs (λ j. refl) h.attributes) (without_children kind.Comment cs refl h.children)
+      (λ env run. comment_means env run text h.short (not-true (holds_text (codes "--") text) two.1) (not-true (ends_in_hyphen text) three.1) ∙ ap (λ none. with_text kind.Comment none text run) (sym ((bytes_eq-Decides name []).0 one.0))))
+
+  instruction_makes : IsRuled kind.Instruction name text bs cs → Makes (mean (e.Instruction (Written name) (e.String text))) (content kind.Instruction) bs cs
+  instruction_makes h =
+      let named = is_name name && not (bytes_eq (str_to_ascii_lowercase name) (codes "xml")) in
+      let four = and_parts (named && is_xml_text text && not (holds_text (codes "?>") text)) (not (begins_with_space text)) h.tidy in
+      let three = and_parts (named && is_xml_text text) (not (holds_text (codes "?>") text)) four.0 in
+      let two = and_parts named (is_xml_text text) three.0 in
+      let one = and_parts (is_name name) (not (bytes_eq (str_to_ascii_lowercase name) (codes "xml"))) two.0 in
+      subst (λ m. Makes m (content kind.Instruction) bs cs) (sym (mean_instruction name text))
+      (leaf_makes (constructors.instruction (Written name) (string text)) (content kind.Instruction) bs cs (without_attributes kind.Instruction bs (λ j. refl) h.attributes) (without_children kind.Instruction cs refl h.children)
+      (λ env run. instruction_means env run name text one.0 (not-true (bytes_eq (str_to_ascii_lowercase name) (codes "xml")) one.1) h.short (not-true (holds_text (codes "?>") text) three.1) (not-true (begins_with_space text) four.1)))
+
+  element_makes : (xs : List Expr) → AllMake (map mean xs) (append bs cs) → IsRuled kind.Element name text bs cs → Makes (mean (e.Element (Written name) (of_list xs))) (content kind.Element) bs cs
+  element_makes xs make h =
+      let rules = and_parts (is_name name) (bytes_eq text []) h.tidy in
+      let parts = are_parts kind.Element bs cs h.attributes h.children h.short_attributes h.short_children in
+      let m = mean (of_list xs) in
+      let c : Content = record { identity = i; kind = kind.Element; name = name; text = [] } in
+      subst (λ t. Makes (mean (e.Element (Written name) (of_list xs))) (record { identity = i; kind = kind.Element; name = name; text = t }) bs cs) (sym ((bytes_eq-Decides text []).0 rules.1))
+      (subst (λ w. Makes w c bs cs) (sym (mean_element name (of_list xs)))
+      (same_makes (constructors.element (Written name) m) (λ env. m env >>= assembled kind.Element name element_fault) c bs cs (λ env run. element_means env run name m rules.0)
+      (inner_makes kind.Element i name element_fault bs cs parts (λ ps alike. element_faultless bs cs ps parts alike h.room h.distinct) m (parts_come xs (append bs cs) (few_parts (append bs cs) h.room) make))))
+
+  document_makes : (xs : List Expr) → AllMake (map mean xs) (append bs cs) → IsRuled kind.Document name text bs cs → Makes (mean (e.Document (of_list xs))) (content kind.Document) bs cs
+  document_makes xs make h =
+      let rules = and_parts (bytes_eq name []) (bytes_eq text []) h.tidy in
+      let parts = are_parts kind.Document bs cs h.attributes h.children h.short_attributes h.short_children in
+      let alone : are_all is_other (append bs cs) ≡ true =
+      subst (λ ts. are_all is_other (append ts cs) ≡ true) (sym (without_attributes kind.Document bs (λ j. refl) h.attributes)) parts.others_alone in
+      let c : Content = record { identity = i; kind = kind.Document; name = []; text = [] } in
+      subst₂ (λ s t. Makes (mean (e.Document (of_list xs))) (record { identity = i; kind = kind.Document; name = s; text = t }) bs cs) (sym ((bytes_eq-Decides name []).0 rules.0)) (sym ((bytes_eq-Decides text []).0 rules.1))
+      (subst (λ w. Makes w c bs cs) (sym (mean_document (of_list xs)))
+      (inner_makes kind.Document i [] document_fault bs cs parts (λ ps alike. document_faultless bs cs ps parts alike h.room alone) (mean (of_list xs)) (parts_come xs (append bs cs) (few_parts (append bs cs) h.room) make)))
+
+pub node_makes : (k : Kind) (i : ℕ) (name text : List ℕ) (bs cs : Trees) (xs : List Expr) → AllMake (map mean xs) (append bs cs) → IsRuled k name text bs cs
+    → Makes (mean (constructor_of k name text xs)) (record { identity = i; kind = k; name = name; text = text }) bs cs
+node_makes kind.Document i name text bs cs xs make h = document_makes i name text bs cs xs make h
+node_makes kind.Element i name text bs cs xs make h = element_makes i name text bs cs xs make h
+node_makes kind.Attribute i name text bs cs xs make h = attribute_makes i name text bs cs h
+node_makes kind.Text i name text bs cs xs make h = text_makes i name text bs cs h
+node_makes kind.Comment i name text bs cs xs make h = comment_makes i name text bs cs h
+node_makes kind.Instruction i name text bs cs xs make h = instruction_makes i name text bs cs h
+
+-- a node's parts are its attributes, then its children
+pub parts_make : (bs cs : Trees) → AllMake (map mean (tree_expressions bs)) bs → AllMake (map mean (tree_expressions cs)) cs → AllMake (map mean (tree_expressions bs ++ tree_expressions cs)) (append bs cs)
+parts_make bs cs h g =
+    subst (λ ms. AllMake ms (append bs cs)) (sym (map-append mean (tree_expressions bs) (tree_expressions cs)))
+    (both_make (map mean (tree_expressions bs)) (map mean (tree_expressions cs)) bs cs h g)
+
+pub trees_make : (may : Kind → Bool) (ts : Trees) → are_tidy may ts ≡ true → HaveShortTexts ts → have_room ts ≡ true → AllMake (map mean (tree_expressions ts)) ts
+trees_make may no_trees h short room = tt
+trees_make may (tree c bs cs rest) h short room =
+    let n = tidy_node may c bs cs rest h in
+    let rooms = room_at c bs cs rest room in
+    let attributes_make = trees_make (may_be_attribute c.kind) bs n.attributes short.1 rooms.attributes in
+    let children_make = trees_make (may_be_child c.kind) cs n.children short.2 rooms.children in (
+      node_makes c.kind c.identity c.name c.text bs cs (tree_expressions bs ++ tree_expressions cs) (parts_make bs cs attributes_make children_make) (record {
+        tidy = fits_as_root c.kind c.name c.text n.content;
+        distinct = n.distinct;
+        attributes = n.attributes;
+        children = n.children;
+        short = short.0;
+        short_attributes = short.1;
+        short_children = short.2;
+        room = rooms.here;
+      }),
+      trees_make may rest n.others short.3 rooms.others,
+    )
