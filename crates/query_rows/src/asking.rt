@@ -1,11 +1,16 @@
 //! Expressions, asked over a forest of one node at most.
 
-ghost use Rattle.std.specs.Prelude.{◌∷◌, []};
+ghost use Rattle.std.specs.Prelude.{◌≡◌, ◌∷◌, [], IfOk, IsSome};
+ghost use Rattle.data_model.specs.Trees.{find};
+ghost use Rattle.query_meaning.specs.Meaning.{start};
 ghost use Rattle.evaluation.specs.Gives.{IsReady, Stand};
 
-use super::evaluator::value_of;
+use super::growing::{grown, kind_of};
+use super::lists::list_text;
 use evaluation::{Environment, Evaluation, Sequence, Variables};
-use parser::{Expr, ParseFault, parse};
+use evaluator::{evaluate, value_of};
+use parser::{ParseFault, parse};
+use query_grammar::Expr;
 use rows::{RowFault, Words};
 use std::alloc::{AllocError, Global};
 use trees::{Forest, Kind, MakeFault, NodeId};
@@ -17,11 +22,24 @@ const LEVEL: u8 = 1;
 /// The identity of the node.
 const NODE: u64 = 1;
 
+/// The largest next identity of a forest over which an expression may be evaluated.
+const MOST_NEXT: u64 = 1 << 61;
+
+/// An evaluation over a forest. Fault: `NotARow` where its next identity is too large for one.
+fn begun(alloc: Global, lent: &Forest) -> Result<Evaluation<'_>, RowFault>
+    ensures { IfOk result (λ run. run ≡ start lent.now) }
+{
+    if lent.next().number() > MOST_NEXT {
+        return Err(RowFault::NotARow);
+    }
+    Ok(Evaluation::new(alloc, lent))
+}
+
 /// `TEXT`: what an expression gives without a context item.
 pub fn ask(alloc: Global, words: &mut Words<'_>) -> Result<String, RowFault> {
     let text = words.text(alloc)?;
     let lent = Forest::empty(alloc, NodeId::new(NODE));
-    let mut run = Evaluation::new(alloc, &lent);
+    let mut run = begun(alloc, &lent)?;
     let variables = Variables::new();
     asked(alloc, &mut run, &text, &Environment::new(&variables))
 }
@@ -31,7 +49,7 @@ pub fn ask_at(alloc: Global, words: &mut Words<'_>) -> Result<String, RowFault> 
     let kind = kind_of(words.plain()?)?;
     let name = words.text(alloc)?;
     let text = words.text(alloc)?;
-    if words.plain()? != "ask" {
+    if words.plain()? != "ask" || kind == Kind::Document {
         return Err(RowFault::NotARow);
     }
     let asked_text = words.text(alloc)?;
@@ -41,22 +59,80 @@ pub fn ask_at(alloc: Global, words: &mut Words<'_>) -> Result<String, RowFault> 
         Err(MakeFault::Memory) => return Err(RowFault::Memory),
         Err(MakeFault::Limit) => return Err(RowFault::NotARow),
     };
-    let mut run = Evaluation::new(alloc, &lent);
+    let mut run = begun(alloc, &lent)?;
     let variables = Variables::new();
     let env = Environment::new(&variables).with_focus(&node, 1, 1);
     asked(alloc, &mut run, &asked_text, &env)
 }
 
-/// The kind of that name, where a node of it has no parts.
-fn kind_of(name: &str) -> Result<Kind, RowFault> {
-    match name {
-        "element" => Ok(Kind::Element),
-        "attribute" => Ok(Kind::Attribute),
-        "text" => Ok(Kind::Text),
-        "comment" => Ok(Kind::Comment),
-        "instruction" => Ok(Kind::Instruction),
+/// `[from NODE] ask TEXT`: what it gives over a forest of the nodes that a text describes, with that node as the context item.
+pub fn ask_in(alloc: Global, nodes: &str, words: &mut Words<'_>) -> Result<String, RowFault> {
+    let lent = grown(alloc, Words::new(nodes))?;
+    match words.plain()? {
+        "ask" => ask_over(alloc, &lent, words),
+        "from" => ask_from(alloc, &lent, words),
         _ => Err(RowFault::NotARow),
     }
+}
+
+/// `list TEXT`: the update primitives that an expression gives over a forest of the nodes that a text describes.
+pub fn list_in(alloc: Global, nodes: &str, words: &mut Words<'_>) -> Result<String, RowFault> {
+    let lent = grown(alloc, Words::new(nodes))?;
+    let text = words.text(alloc)?;
+    match parse(alloc, LEVEL, &text) {
+        Ok(x) => listed(alloc, &x, &lent),
+        Err(ParseFault::Memory) => Err(RowFault::Memory),
+        Err(ParseFault::Static(code)) => Ok(code_text(alloc, code)?),
+    }
+}
+
+/// The update primitives that an expression gives over a forest.
+fn listed(alloc: Global, x: &Expr, lent: &Forest) -> Result<String, RowFault> {
+    if lent.next().number() > MOST_NEXT {
+        return Err(RowFault::NotARow);
+    }
+    match evaluate(alloc, x, lent) {
+        Ok(outcome) => Ok(list_text(alloc, outcome)?),
+        Err(ValueFault::Memory) => Err(RowFault::Memory),
+        Err(ValueFault::Code(code)) => Ok(code_text(alloc, code)?),
+    }
+}
+
+/// `TEXT`: what it gives over a forest without a context item.
+fn ask_over(alloc: Global, lent: &Forest, words: &mut Words<'_>) -> Result<String, RowFault> {
+    let text = words.text(alloc)?;
+    let mut run = begun(alloc, lent)?;
+    let variables = Variables::new();
+    asked(alloc, &mut run, &text, &Environment::new(&variables))
+}
+
+/// `NODE ask TEXT`: what it gives where a node of the forest is the context item.
+fn ask_from(alloc: Global, lent: &Forest, words: &mut Words<'_>) -> Result<String, RowFault> {
+    let node = context_node(lent, words)?;
+    let text = words.text(alloc)?;
+    asked_from(alloc, lent, node, &text)
+}
+
+/// What a text gives where a node of the forest is the context item.
+fn asked_from(alloc: Global, lent: &Forest, node: NodeId, text: &str) -> Result<String, RowFault>
+    requires stands { IsSome (find node lent.now.trees) }
+{
+    let mut run = begun(alloc, lent)?;
+    let item = Item::Node(node);
+    let variables = Variables::new();
+    let env = Environment::new(&variables).with_focus(&item, 1, 1);
+    asked(alloc, &mut run, text, &env)
+}
+
+/// `NODE ask`: a node of a forest. Fault: `NotARow` where none of that number stands in it.
+fn context_node(lent: &Forest, words: &mut Words<'_>) -> Result<NodeId, RowFault>
+    ensures { IfOk result (λ id. IsSome (find id lent.now.trees)) }
+{
+    let id = NodeId::new(words.number()?);
+    if words.plain()? != "ask" || !lent.has(id) {
+        return Err(RowFault::NotARow);
+    }
+    Ok(id)
 }
 
 /// What a text gives.
