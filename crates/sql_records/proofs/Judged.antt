@@ -47,7 +47,7 @@ module _ (old mid new : State) (o : Setup) (has : old.now.schema ≡ schema) (mo
   sound = subst (λ s. IsSound s old.now.trees) has (live all.0.was_open).0
 
   pub read : (row : Row) (b : Ballot) (rows : List Row) (r : Record) → IsPermutation (map meta_shown (old.now.trees 0)) (row ∷ []) → ShowsMember o b row
-      → IsPermutation (map vote_shown (mid.now.trees 1)) rows → AreShown b rows r.votes → r.promise ≡ b → IsRising r → IsStored o old.now.trees r
+      → IsPermutation (map vote_shown (mid.now.trees 1)) rows → AreShown o.members b rows r.votes → r.promise ≡ b → IsRising r → IsStored o old.now.trees r
   read row b rows r metas m votes shown promise rising =
       loaded o old.now.trees sound row b rows r metas m (subst (λ (d : Database). IsPermutation (map vote_shown (d.trees 1)) rows) first.0.now_is votes) shown promise rising
 
@@ -59,8 +59,14 @@ module _ (old mid new : State) (o : Setup) (has : old.now.schema ≡ schema) (mo
 
 module _ (old mid new : State) (o : Setup) (has : old.now.schema ≡ schema) (mode : old.in_transaction ≡ false) (settled : IsTrue old.is_open → old.now ≡ old.committed) (live : IsLive old)
     (first : IsUnchanged old mid) where
+  pub stored : {E : Type 0} (row : Row) (b : Ballot) (result : Result Record E) → OnOk result (IsUnchanged mid new) → IsPermutation (map meta_shown (old.now.trees 0)) (row ∷ [])
+      → ShowsMember o b row → IfOk result (λ x. (rows : List Row) × IsPermutation (map vote_shown (mid.now.trees 1)) rows × AreShown o.members b rows x.votes) → IfOk result (λ x. x.promise ≡ b) → IfOk result IsRising
+      → IfOk result (λ x. IsStored o old.now.trees x)
+  stored row b (Ok x) second metas m votes promise rising = read old mid new o has mode settled live first second row b votes.0 x metas m votes.1 votes.2 promise rising
+  stored row b (Err e) second metas m votes promise rising = tt
+
   pub found : {E : Type 0} (apart : SpeltApart) → StaysAt old → SettledAt new → (row : Row) (b : Ballot) (result : Result Record E) → OnOk result (IsUnchanged mid new) → IsPermutation (map meta_shown (old.now.trees 0)) (row ∷ [])
-      → ShowsMember o b row → IfOk result (λ x. (rows : List Row) × IsPermutation (map vote_shown (mid.now.trees 1)) rows × AreShown b rows x.votes) → IfOk result (λ x. x.promise ≡ b) → IfOk result IsRising
+      → ShowsMember o b row → IfOk result (λ x. (rows : List Row) × IsPermutation (map vote_shown (mid.now.trees 1)) rows × AreShown o.members b rows x.votes) → IfOk result (λ x. x.promise ≡ b) → IfOk result IsRising
       → IfOk result (λ x. Holds new o x x × ((p q : Record) → Holds old o p q → (x ≡ p) ⊎ (x ≡ q)))
   found apart stays at_rest row b (Ok x) second metas m votes promise rising =
       let stored = read old mid new o has mode settled live first second row b votes.0 x metas m votes.1 votes.2 promise rising in

@@ -104,7 +104,7 @@ times_fold : (p a : ℕ) (es : List Entry) → fold (λ (n : ℕ) (e : Entry). n
 times_fold p a [] = omega arith
 times_fold p a (e ∷ es) = times_fold p (a + cond (e.position == p) 1 0) es ∙ (omega arith)
 
-times_permuted : (p : ℕ) (xs ys : List Entry) → IsPermutation xs ys → times p ys ≡ times p xs
+pub times_permuted : (p : ℕ) (xs ys : List Entry) → IsPermutation xs ys → times p ys ≡ times p xs
 times_permuted p xs ys h =
     let sums = sum_by-IsPermutation (λ (e : Entry). cond (e.position == p) 1 0) xs ys h in
     let a = times_fold p 0 xs in
@@ -139,10 +139,10 @@ contains_has [] x k low is = absurd (omega (arith, low))
 contains_has (y ∷ ys) x zero low is = inl (sym is)
 contains_has (y ∷ ys) x (suc k) low is = inr (contains_has ys x k (omega (arith, low)) is)
 
-has_moved : {X : Type 0} (xs ys : List X) (x : X) → IsPermutation xs ys → Has xs x → Has ys x
+pub has_moved : {X : Type 0} (xs ys : List X) (x : X) → IsPermutation xs ys → Has xs x → Has ys x
 has_moved xs ys x h has = let it = Contains-permutation xs ys x h (has_contains xs x has) in contains_has ys x it.0 it.1 it.2
 
-above_has : (q : ℕ) (es : List Entry) (x : Entry) → AreAbove q es → Has es x → q < x.position
+pub above_has : (q : ℕ) (es : List Entry) (x : Entry) → AreAbove q es → Has es x → q < x.position
 above_has q [] x h none = absurd none
 above_has q (e ∷ es) x h (inl is) = subst (λ (y : Entry). q < y.position) (sym is) h.0
 above_has q (e ∷ es) x h (inr k) = let far = above_has e.position es x h.1 k in let near = h.0 in omega arith
@@ -224,19 +224,19 @@ unfolding widen
 wide [] typed present = refl
 wide (r ∷ rs) typed present = ap (λ x. x ∷ map widen (map vote_shown rs)) (sym (vote_shape r typed.0 present.0)) ∙ ap (λ xs. r ∷ xs) (wide rs typed.1 present.1)
 
-seen : (b : Ballot) (rows : List Row) (es : List Entry) → AreShown b rows es → map widen rows ≡ map vote_row es
+seen : (n : ℕ) (b : Ballot) (rows : List Row) (es : List Entry) → AreShown n b rows es → map widen rows ≡ map vote_row es
 unfolding widen
-seen b [] [] h = refl
-seen b [] (e ∷ es) h = absurd h
-seen b (r ∷ rs) [] h = absurd h
-seen b (r ∷ rs) (e ∷ es) h = let s = h.0 in rw (s.position, s.round, s.leader, s.value) (ap (λ xs. vote_row e ∷ xs) (seen b rs es h.1))
+seen n b [] [] h = refl
+seen n b [] (e ∷ es) h = absurd h
+seen n b (r ∷ rs) [] h = absurd h
+seen n b (r ∷ rs) (e ∷ es) h = let s = h.0 in rw (s.position, s.round, s.leader, s.value) (ap (λ xs. vote_row e ∷ xs) (seen n b rs es h.1))
 
-pub stand : (b : Ballot) (rows : List Row) (es : List Entry) (e : Entry) → AreShown b rows es → Has es e → MayStand b e
-stand b [] [] e h none = absurd none
-stand b [] (x ∷ es) e h has = absurd h
-stand b (r ∷ rs) [] e h none = absurd none
-stand b (r ∷ rs) (x ∷ es) e h (inl is) = subst (MayStand b) (sym is) h.0.stands
-stand b (r ∷ rs) (x ∷ es) e h (inr has) = stand b rs es e h.1 has
+pub stand : (n : ℕ) (b : Ballot) (rows : List Row) (es : List Entry) (e : Entry) → AreShown n b rows es → Has es e → MayStand n b e
+stand n b [] [] e h none = absurd none
+stand n b [] (x ∷ es) e h has = absurd h
+stand n b (r ∷ rs) [] e h none = absurd none
+stand n b (r ∷ rs) (x ∷ es) e h (inl is) = subst (MayStand n b) (sym is) h.0.stands
+stand n b (r ∷ rs) (x ∷ es) e h (inr has) = stand n b rs es e h.1 has
 
 single : {X Y : Type 0} (f : X → Y) (xs : List X) (y : Y) → map f xs ≡ y ∷ [] → (x : X) × ((xs ≡ x ∷ []) × (f x ≡ y))
 single f [] y h = absurd cc
@@ -254,12 +254,12 @@ module _ (o : Setup) (trees : Trees) (sound : IsSound schema trees) where
       it.1.0 ∙ ap (λ (r : Row). r ∷ []) (meta_shape it.0 typed present ∙ rw (s.id, s.version, s.group, s.member, s.members, s.docs, s.round, s.leader) refl)
 
   pub loaded : (row : Row) (b : Ballot) (rows : List Row) (r : Record) → IsPermutation (map meta_shown (trees 0)) (row ∷ []) → ShowsMember o b row
-      → IsPermutation (map vote_shown (trees 1)) rows → AreShown b rows r.votes → r.promise ≡ b → IsRising r → IsStored o trees r
+      → IsPermutation (map vote_shown (trees 1)) rows → AreShown o.members b rows r.votes → r.promise ≡ b → IsRising r → IsStored o trees r
   loaded row b rows r metas m moved shown promise rising =
       let typed = (sound.obeys.rules Datatype).1.0 in
       let present = (sound.obeys.rules NotNull).1.0 in
       let from : IsPermutation (map widen (map vote_shown (trees 1))) (map widen rows) = IsPermutation-map widen (map vote_shown (trees 1)) rows moved in
-      let same : IsPermutation (trees 1) (map vote_row r.votes) = subst₂ IsPermutation (wide (trees 1) typed present) (seen b rows r.votes shown) from in
+      let same : IsPermutation (trees 1) (map vote_row r.votes) = subst₂ IsPermutation (wide (trees 1) typed present) (seen o.members b rows r.votes shown) from in
       let it = unmapped vote_row r.votes (trees 1) (IsPermutation-sym _ _ same) in
       record {
         meta = subst (λ (c : Ballot). trees 0 ≡ meta_row o c.round c.member ∷ []) (sym promise) (member_row row b metas m);
@@ -269,8 +269,8 @@ module _ (o : Setup) (trees : Trees) (sound : IsSound schema trees) where
         sound = λ e has. has_moved it.0 r.votes e (IsPermutation-sym _ _ it.1.1) has;
         complete = λ e has. has_moved r.votes it.0 e it.1.1 has;
         rising = rising;
-        promise = subst IsPromise (sym promise) m.promise;
-        each = λ e has. subst (λ (c : Ballot). MayStand c e) (sym promise) (stand b rows r.votes e shown has);
+        promise = subst (IsPromise o.members) (sym promise) m.promise;
+        each = λ e has. subst (λ (c : Ballot). MayStand o.members c e) (sym promise) (stand o.members b rows r.votes e shown has);
       }
 
 -- ---- two records of one database

@@ -1,22 +1,22 @@
 -- Whose row it is.
-use Rattle.std.proofs.Common.{◌≡◌, ℕ, List, [], ◌∷◌, pos, map, sym, ap, subst, ◌∙◌, append-nil}
+use Rattle.std.proofs.Common.{◌≡◌, ◌<◌, ◌^◌, ℕ, List, [], ◌∷◌, pos, map, sym, ap, subst, ◌∙◌, append-nil}
 use Rattle.std.specs.List.Sorted.{IsPermutation}
 use Rattle.sqlite.specs.declared.types.Value.TheVariants.{Int, Text}
 use Rattle.sqlite.specs.Order.{Row}
 use Rattle.sqlite.specs.Effect.{Database}
 use Rattle.sqlite_catalog.specs.Listing.{IsSound}
 use Rattle.sqlite_value.specs.Order.{column}
-use Rattle.ballots.specs.Terms.{Setup}
+use Rattle.ballots.specs.Terms.{IsPlace, Setup}
 use Rattle.sql_records.specs.Texts.{schema}
-use Rattle.sql_records.specs.Stored.{meta_row}
+use Rattle.sql_records.specs.Stored.{IsSetup, meta_row}
 use Rattle.sql_records.specs.Reading.{ShowsOwner, ShowsAnother, meta_shown}
 use Rattle.sql_records.specs.Faults.{IsAnothers}
 use Rattle.sql_records.proofs.Loaded.{member_row}
 
 -- any four columns are those of some setup
-pub someone : (row : Row) (group member members : ℕ) (docs : List ℕ) → column row 2 ≡ Int (pos group) → column row 3 ≡ Int (pos member) → column row 4 ≡ Int (pos members) → column row 5 ≡ Text docs → (p : Setup) × ShowsOwner p row
-someone row group member members docs a b c d =
-    (record { group = group; member = member; members = members; names = docs ∷ [] }, record { group = a; member = b; members = c; docs = d ∙ ap Text (sym (append-nil docs)) })
+pub someone : (row : Row) (group member members : ℕ) (docs : List ℕ) → column row 2 ≡ Int (pos group) → column row 3 ≡ Int (pos member) → column row 4 ≡ Int (pos members) → column row 5 ≡ Text docs → group < 2 ^ 32 → IsPlace member members → (p : Setup) × IsSetup p × ShowsOwner p row
+someone row group member members docs a b c d low place =
+    (record { group = group; member = member; members = members; names = docs ∷ [] }, (low, place), record { group = a; member = b; members = c; docs = d ∙ ap Text (sym (append-nil docs)) })
 
 module _ (o : Setup) (db : Database) (known : db.schema ≡ schema) (sound : IsSound schema db.trees) (rows : List Row) (moved : IsPermutation (map meta_shown (db.trees 0)) rows) (it : ShowsAnother o rows) where
   row_is : db.trees 0 ≡ meta_row it.other it.promise.round it.promise.member ∷ []
@@ -32,4 +32,4 @@ module _ (o : Setup) (db : Database) (known : db.schema ≡ schema) (sound : IsS
   }
 
   pub anothers : IsAnothers o db
-  anothers = record { known = known; other = it.other; promise = it.promise; row = row_is; sound = it.shows.promise; differs = λ h. it.differs (same h) }
+  anothers = record { known = known; other = it.other; numbers = it.numbers; promise = it.promise; row = row_is; sound = it.shows.promise; differs = λ h. it.differs (same h) }

@@ -1,17 +1,35 @@
 -- Which fault a database is.
-use Rattle.std.specs.Prelude.{◌≡◌, ◌≢◌, [], ◌∷◌}
+use Rattle.std.specs.Prelude.{◌≡◌, ◌≢◌, ◌⊎◌, [], ◌∷◌, false, IsSome}
+use Rattle.sqlite_disk.specs.Disk.{MoreFaults}
+use Rattle.sqlite.specs.State.{State}
 use Rattle.sqlite.specs.Effect.{Database}
 use Rattle.ballots.specs.Terms.{Setup}
 use Rattle.ballots.specs.declared.ballot.Ballot.{Ballot}
-use Rattle.sql_records.specs.Texts.{schema}
-use Rattle.sql_records.specs.Stored.{IsPromise, meta_row}
+use Rattle.paxos.specs.Records.{Record}
+use Rattle.sql_records.specs.Texts.{no_schema, schema}
+use Rattle.sql_records.specs.Stored.{IsPromise, IsSetup, IsStored, meta_row}
 
 -- The one row of the member's table is that of some member, with a promise, and not the row of this one: another group, member, number of
 -- members or list of names.
 pub record IsAnothers (o : Setup) (db : Database) : Type 0 where
   pub known : db.schema ≡ schema
   pub other : Setup
+  pub numbers : IsSetup other
   pub promise : Ballot
   pub row : db.trees 0 ≡ meta_row other promise.round promise.member ∷ []
-  pub sound : IsPromise promise
+  pub sound : IsPromise other.members promise
   pub differs : meta_row other promise.round promise.member ≢ meta_row o promise.round promise.member
+
+-- If the tables are those of a record, then no record of this member stands in them, nor another member's row.
+pub record HoldsNone (o : Setup) (db : Database) : Type 0 where
+  pub none : db.schema ≡ schema → (r : Record) → ¬ IsStored o db.trees r
+  pub nobody : ¬ IsAnothers o db
+
+-- There are tables: other ones than those of a record, or these with no record of this member and no row of another.
+abbrev pub IsDamaged : Setup → Database → Type 0
+IsDamaged o db = (db.schema ≢ no_schema) × HoldsNone o db
+
+-- Why a store is said to have failed: the disk failed or refused in the call, or the connection was shut, or its statements may take only
+-- so many steps.
+abbrev pub StoreFailed : State → State → Type 0
+StoreFailed old new = MoreFaults old.faults new.faults ⊎ ((old.is_open ≡ false) ⊎ IsSome old.step_limit)

@@ -1,12 +1,13 @@
 -- What the two tables hold for a record.
-use Rattle.std.specs.Prelude.{◌≡◌, ◌⊎◌, ◌+◌, ◌≤◌, ◌==◌, ℕ, cond, false, List, [], ◌∷◌, ◌++◌, map, flat_map, pos}
+use Rattle.std.specs.Prelude.{◌≡◌, ◌⊎◌, ◌+◌, ◌^◌, ◌<◌, ◌≤◌, ◌==◌, ℕ, cond, false, List, [], ◌∷◌, ◌++◌, map, flat_map, pos}
 use Rattle.sqlite.specs.declared.types.Value.TheVariants.{Null, Int, Text, Blob}
 use Rattle.sqlite.specs.Order.{Row}
 use Rattle.sqlite.specs.Tree.{Trees}
 use Rattle.sqlite_rules.specs.Lists.{Has}
-use Rattle.ballots.specs.Ballot.{IsBallot, below, no_ballot}
+use Rattle.ballots.specs.Ballot.{below, no_ballot}
+use Rattle.paxos.specs.WellFormed.{IsBallotOf}
 use Rattle.ballots.specs.Values.{positions}
-use Rattle.ballots.specs.Terms.{Setup}
+use Rattle.ballots.specs.Terms.{IsPlace, Setup}
 use Rattle.ballots.specs.Spelling.{IsValue, value_spelling}
 use Rattle.ballots.specs.declared.ballot.Ballot.{Ballot}
 use Rattle.ballots.specs.declared.value.Entry.{Entry}
@@ -31,14 +32,18 @@ abbrev pub times : (position : ℕ) → List Entry → ℕ
 times p [] = 0
 times p (e ∷ es) = cond (e.position == p) 1 0 + times p es
 
--- no ballot, or one that there may be
-abbrev pub IsPromise : Ballot → Type 0
-IsPromise b = (b ≡ no_ballot) ⊎ IsBallot b
+-- a setup that there may be: the group's number has 32 bits, and the member is one of 1 to 63
+abbrev pub IsSetup : Setup → Type 0
+IsSetup o = (o.group < 2 ^ 32) × IsPlace o.member o.members
 
--- a vote that may stand under that promise: its ballot is not above it
-pub record MayStand (promise : Ballot) (e : Entry) : Type 0 where
+-- no ballot, or one that there may be among so many members
+abbrev pub IsPromise : (members : ℕ) → Ballot → Type 0
+IsPromise n b = (b ≡ no_ballot) ⊎ IsBallotOf n b
+
+-- a vote that may stand under that promise among so many members: its ballot is not above it
+pub record MayStand (members : ℕ) (promise : Ballot) (e : Entry) : Type 0 where
   pub most : e.position ≤ positions
-  pub ballot : IsBallot e.vote.ballot
+  pub ballot : IsBallotOf members e.vote.ballot
   pub under : below promise e.vote.ballot ≡ false
   pub value : IsValue e.vote.value
 
@@ -51,5 +56,5 @@ pub record IsStored (o : Setup) (trees : Trees) (r : Record) : Type 0 where
   pub sound : (e : Entry) → Has rows e → Has r.votes e
   pub complete : (e : Entry) → Has r.votes e → Has rows e
   pub rising : IsRising r
-  pub promise : IsPromise r.promise
-  pub each : (e : Entry) → Has r.votes e → MayStand r.promise e
+  pub promise : IsPromise o.members r.promise
+  pub each : (e : Entry) → Has r.votes e → MayStand o.members r.promise e

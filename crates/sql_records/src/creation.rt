@@ -84,6 +84,7 @@ pub(super) fn create<S: Alter>(
     requires empty { (state S.Store connection.old).now.schema ≡ no_schema }
     ensures made { HasCleanDisk (state S.Store connection.new) → OnOk result (Holds (state S.Store connection.new) setup.now new_record new_record) }
     ensures not_other { IsErrOf result OpenFault.Other → ⊥ }
+    ensures not_damaged { IsErrOf result OpenFault.Damaged → ⊥ }
     ensures makes { MakesOnly setup.now (state S.Store connection.old) (state S.Store connection.new) }
     ensures clean { doubt (state S.Store connection.old).is_clean ≤ doubt (state S.Store connection.new).is_clean }
 {

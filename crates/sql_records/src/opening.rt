@@ -1,7 +1,7 @@
 //! Opening a database as a member's records.
 
 ghost use Rattle.std.specs.Prelude.{◌≡◌, ◌≢◌, ◌⊎◌, ◌≤◌, false, IfErr, IfOk, IsErrOf, OnOk, IsTrue};
-ghost use Rattle.sql_records.specs.Faults.{IsAnothers};
+ghost use Rattle.sql_records.specs.Faults.{IsAnothers, IsDamaged, StoreFailed};
 ghost use Rattle.sqlite_trees.specs.View.{doubt};
 ghost use Rattle.sqlite.specs.State.{HasCleanDisk};
 ghost use Rattle.sqlite.specs.Held.{state};
@@ -9,7 +9,8 @@ ghost use Rattle.paxos.specs.Records.{Record as RecordTerm};
 ghost use Rattle.sql_records.specs.Holds.{Holds};
 ghost use Rattle.sql_records.specs.Created.{MakesOnly, new_record};
 ghost use Rattle.sql_records.specs.Opened.{connection_of, owner};
-ghost use Rattle.sql_records.specs.Texts.{no_schema};
+ghost use Rattle.sql_records.specs.Stored.{IsStored};
+ghost use Rattle.sql_records.specs.Texts.{no_schema, schema as our_schema};
 
 use super::creation::create;
 use super::layout::is_empty;
@@ -42,6 +43,7 @@ fn copy(alloc: Global, setup: &Setup) -> Result<Setup, OpenFault>
 fn is_new<S: Alter>(connection: &Connection<S>) -> bool
     ensures mode { IsTrue result → connection.now.in_transaction ≡ false }
     ensures schema { IsTrue result → (state S.Store connection.now).now.schema ≡ no_schema }
+    ensures empty { (state S.Store connection.now).in_transaction ≡ false → (state S.Store connection.now).now.schema ≡ no_schema → IsTrue result }
 {
     connection.is_autocommit() && is_empty(connection.schema())
 }
@@ -56,7 +58,11 @@ fn prepare<S: Alter>(
     ensures found { HasCleanDisk (state S.Store connection.new) → (state S.Store connection.old).now.schema ≢ no_schema → OnOk result ((r : RecordTerm) × Holds (state S.Store connection.new) setup.now r r
         × ((a b : RecordTerm) → Holds (state S.Store connection.old) setup.now a b → (r ≡ a) ⊎ (r ≡ b))) }
     ensures made { HasCleanDisk (state S.Store connection.new) → (state S.Store connection.old).now.schema ≡ no_schema → OnOk result (Holds (state S.Store connection.new) setup.now new_record new_record) }
+    ensures stored { HasCleanDisk (state S.Store connection.new) → (state S.Store connection.old).now.schema ≢ no_schema → OnOk result ((r : RecordTerm) × IsStored setup.now (state S.Store connection.old).now.trees r) }
+    ensures ours { (state S.Store connection.old).now.schema ≢ no_schema → OnOk result ((state S.Store connection.old).now.schema ≡ our_schema) }
     ensures other { HasCleanDisk (state S.Store connection.new) → IsErrOf result OpenFault.Other → IsAnothers setup.now (state S.Store connection.old).now }
+    ensures damaged { HasCleanDisk (state S.Store connection.new) → IsErrOf result OpenFault.Damaged → (state S.Store connection.old).in_transaction ≡ false → IsDamaged setup.now (state S.Store connection.old).now }
+    ensures store { HasCleanDisk (state S.Store connection.new) → (state S.Store connection.old).now.schema ≢ no_schema → IsErrOf result OpenFault.Store → StoreFailed (state S.Store connection.old) (state S.Store connection.new) }
     ensures makes { MakesOnly setup.now (state S.Store connection.old) (state S.Store connection.new) }
     ensures clean { doubt (state S.Store connection.old).is_clean ≤ doubt (state S.Store connection.new).is_clean }
 {
@@ -71,8 +77,9 @@ impl<S: Alter> SqlRecords<S> {
     /// The records of this member in a database. A database with no tables is given those of a member with no promise.
     ///
     /// A refusal gives the connection back: want of memory (1), a store that failed (2), another member's records (3), and records
-    /// that are damaged (4), as are other tables, and a vote of a ballot above the promise. The tables are made in one transaction:
-    /// whatever happens, a crash leaves none of them, or all with that first record.
+    /// that are damaged (4), as are other tables, a number out of its range, and a vote of a ballot above the promise; a connection in
+    /// a transaction is refused by 4 too. The tables are made in one transaction: whatever happens, a crash leaves none of them, or
+    /// all with that first record.
     pub fn open(
         alloc: Global,
         connection: Connection<S>,
@@ -84,7 +91,11 @@ impl<S: Alter> SqlRecords<S> {
         ensures made { (state S.Store connection).now.schema ≡ no_schema → IfOk result (λ s. ⟦<SqlRecords<S> as Records>⟧.is_kept s → ⟦<SqlRecords<S> as Records>⟧.stands s new_record new_record) }
         ensures makes { IfOk result (λ s. MakesOnly setup.now (state S.Store connection) (state S.Store (connection_of s))) }
         ensures refused { IfErr result (λ e. MakesOnly setup.now (state S.Store connection) (state S.Store e.1)) }
+        ensures stored { (state S.Store connection).now.schema ≢ no_schema → IfOk result (λ s. ⟦<SqlRecords<S> as Records>⟧.is_kept s → (r : RecordTerm) × IsStored setup.now (state S.Store connection).now.trees r) }
+        ensures ours { (state S.Store connection).now.schema ≢ no_schema → OnOk result ((state S.Store connection).now.schema ≡ our_schema) }
         ensures other { IfErr result (λ e. HasCleanDisk (state S.Store e.1) → e.0 ≡ OpenFault.Other → IsAnothers setup.now (state S.Store connection).now) }
+        ensures damaged { (state S.Store connection).in_transaction ≡ false → IfErr result (λ e. HasCleanDisk (state S.Store e.1) → e.0 ≡ OpenFault.Damaged → IsDamaged setup.now (state S.Store connection).now) }
+        ensures store { (state S.Store connection).now.schema ≢ no_schema → IfErr result (λ e. HasCleanDisk (state S.Store e.1) → e.0 ≡ OpenFault.Store → StoreFailed (state S.Store connection) (state S.Store e.1)) }
         ensures whose { IfOk result (λ s. owner s ≡ setup.now) }
     {
         let mut connection = connection;

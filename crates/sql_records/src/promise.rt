@@ -1,8 +1,9 @@
 //! The write of a promise.
 
-ghost use Rattle.std.specs.Prelude.{◌≡◌, ◌≤◌, false, IsTrue, IfOk, OnOk, pos};
+ghost use Rattle.std.specs.Prelude.{◌≡◌, ◌↔◌, ◌≤◌, false, IsTrue, IfOk, OnOk, pos};
 ghost use Rattle.sqlite.specs.State.{HasCleanDisk};
 ghost use Rattle.sqlite_trees.specs.View.{doubt};
+ghost use Rattle.sqlite.specs.declared.error.ErrorCode.TheVariants.{OutOfMemory};
 ghost use Rattle.sqlite.specs.Held.{state};
 ghost use Rattle.ballots.specs.Terms.{Setup};
 ghost use Rattle.ballots.specs.Ballot.{IsBallot, below};
@@ -26,7 +27,9 @@ pub(super) fn look<S: Alter>(connection: &mut Connection<S>) -> Result<Statement
 }
 
 /// Whether memory was refused.
-pub(super) fn is_memory(error: &Error) -> bool {
+pub(super) fn is_memory(error: &Error) -> bool
+    ensures { IsTrue result ↔ (error.now ≡ Error.SqliteFailure OutOfMemory) }
+{
     matches!(error, Error::SqliteFailure(ErrorCode::OutOfMemory))
 }
 
@@ -46,7 +49,7 @@ fn write<S: Alter>(
     ballot: Ballot,
 ) -> Result<usize, Error>
     requires { IsBallot ballot }
-    ensures law { HasCleanDisk (state S.Store connection.new) → statement.now.text ≡ promise_text → IsTrue (state S.Store connection.old).is_open → (o : Setup) (last : Record) → below ballot last.promise ≡ false → Holds (state S.Store connection.old) o last last
+    ensures law { HasCleanDisk (state S.Store connection.new) → statement.now.text ≡ promise_text → IsTrue (state S.Store connection.old).is_open → (o : Setup) (last : Record) → ballot.member ≤ o.members → below ballot last.promise ≡ false → Holds (state S.Store connection.old) o last last
         → Written (state S.Store connection.new) o last (written (NewPromise ballot) last) result }
     ensures clean { doubt (state S.Store connection.old).is_clean ≤ doubt (state S.Store connection.new).is_clean }
 {
@@ -78,7 +81,7 @@ pub(super) fn put_promise<S: Alter>(
     ballot: Ballot,
 ) -> Result<(), RecordsFault>
     requires { IsBallot ballot }
-    ensures law { HasCleanDisk (state S.Store connection.new) → (o : Setup) (last : Record) → (IsTrue (state S.Store connection.old).is_open → below ballot last.promise ≡ false)
+    ensures law { HasCleanDisk (state S.Store connection.new) → (o : Setup) (last : Record) → ballot.member ≤ o.members → (IsTrue (state S.Store connection.old).is_open → below ballot last.promise ≡ false)
         → Holds (state S.Store connection.old) o last last → Puts (Holds (state S.Store connection.new) o) last (written (NewPromise ballot) last) result }
     ensures clean { doubt (state S.Store connection.old).is_clean ≤ doubt (state S.Store connection.new).is_clean }
 {

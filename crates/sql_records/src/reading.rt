@@ -1,16 +1,18 @@
 //! From rows to a record.
 
-ghost use Rattle.std.specs.Prelude.{◌≡◌, ◌≤◌, ◌<◌, ◌+◌, ◌^◌, [], ◌∷◌, ◌↔◌, pos, IfOk, IsErrOf, IsTrue, OnOk};
-ghost use Rattle.ballots.specs.Terms.{Setup as Owner};
-ghost use Rattle.ballots.specs.Ballot.{IsBallot};
+ghost use Rattle.std.specs.Prelude.{◌≡◌, ◌≢◌, ◌⊎◌, ◌≤◌, ◌<◌, ◌+◌, ◌^◌, [], ◌∷◌, ◌↔◌, ℕ, pos, IfOk, IsErrOf, IsTrue, OnOk};
+ghost use Rattle.ballots.specs.Terms.{IsPlace, Setup as Owner};
+ghost use Rattle.paxos.specs.WellFormed.{IsBallotOf};
 ghost use Rattle.ballots.specs.Values.{positions};
 ghost use Rattle.sqlite_value.specs.Order.{column};
-ghost use Rattle.sqlite.specs.declared.types.Value.TheVariants.{Int, Text};
+ghost use Rattle.sqlite.specs.declared.types.Value.TheVariants.{Int, Null, Text};
 ghost use Rattle.ballots.specs.Spelling.{AreBytes, IsValue, value_spelling};
+ghost use Rattle.ballots.specs.declared.ballot.Ballot.{Ballot as BallotTerm};
 ghost use Rattle.ballots.specs.declared.value.Entry.{Entry as EntryTerm};
+ghost use Rattle.ballots.specs.declared.value.Value.{Value as ValueTerm};
 ghost use Rattle.paxos.specs.Records.{with_vote};
-ghost use Rattle.sql_records.specs.Stored.{IsPromise, joined};
-ghost use Rattle.sql_records.specs.Reading.{Shows, ShowsAnother, ShowsMember, ShowsOwner};
+ghost use Rattle.sql_records.specs.Stored.{IsPromise, IsSetup, joined};
+ghost use Rattle.sql_records.specs.Reading.{Shows, ShowsAnother, ShowsMember, ShowsNoMember, ShowsNoVote, ShowsOwner};
 
 use super::docs;
 use ballots::laws::spellings;
@@ -39,6 +41,8 @@ pub enum OpenFault {
 fn column<T: FromSql>(row: &Row, at: usize) -> Result<T, OpenFault>
     ensures value { IfOk result (λ x. T.FromSql.reads_as (column row.now at) x) }
     ensures not_other { IsErrOf result OpenFault.Other → ⊥ }
+    ensures not_store { IsErrOf result OpenFault.Store → ⊥ }
+    ensures damaged { IsErrOf result OpenFault.Damaged → column row.now at ≢ Null → ¬ T.FromSql.is_readable (column row.now at) }
 {
     match row.get(at) {
         Ok(value) => Ok(value),
@@ -50,8 +54,10 @@ fn column<T: FromSql>(row: &Row, at: usize) -> Result<T, OpenFault>
 /// The ballot in two columns.
 fn read_ballot(row: &Row, round: usize, leader: usize) -> Result<Ballot, OpenFault>
     ensures not_other { IsErrOf result OpenFault.Other → ⊥ }
+    ensures not_store { IsErrOf result OpenFault.Store → ⊥ }
     ensures round { IfOk result (λ b. column row.now round ≡ Int (pos b.round)) }
     ensures leader { IfOk result (λ b. column row.now leader ≡ Int (pos b.member)) }
+    ensures damaged { IsErrOf result OpenFault.Damaged → (n : ℕ) (b : BallotTerm) → IsPromise n b → column row.now round ≡ Int (pos b.round) → column row.now leader ≢ Int (pos b.member) }
 {
     let round: u64 = column(row, round)?;
     let leader: u32 = column(row, leader)?;
@@ -61,29 +67,29 @@ fn read_ballot(row: &Row, round: usize, leader: usize) -> Result<Ballot, OpenFau
     }
 }
 
-/// Whether there may be that ballot.
+/// Whether there may be that ballot among so many members.
 #[tactic(auto, unfolding(ballots::specs::Ballot::last_round))]
-fn is_ballot(ballot: Ballot) -> bool
-    ensures { IsTrue result → IsBallot ballot }
+fn is_ballot(ballot: Ballot, members: u32) -> bool
+    ensures { IsTrue result ↔ IsBallotOf members ballot }
 {
     1 <= ballot.round
         && ballot.round <= LAST_ROUND
         && 1 <= ballot.member
         && ballot.member <= MOST_MEMBERS
+        && u32::from(ballot.member) <= members
 }
 
-/// Whether there may be that promise.
-fn is_promise(ballot: Ballot) -> bool
-    ensures { IsTrue result → IsPromise ballot }
+/// Whether there may be that promise among so many members.
+fn is_promise(ballot: Ballot, members: u32) -> bool
+    ensures { IsTrue result ↔ IsPromise members ballot }
 {
-    ballot == Ballot::NONE || is_ballot(ballot)
+    ballot == Ballot::NONE || is_ballot(ballot, members)
 }
 
 /// Whether there may be that position.
 #[tactic(auto, unfolding(ballots::specs::Values::positions))]
 fn is_position(position: u32) -> bool
-    ensures least { IsTrue result → 1 ≤ position }
-    ensures most { IsTrue result → position ≤ positions }
+    ensures { IsTrue result ↔ (1 ≤ position) × (position ≤ positions) }
 {
     1 <= position && position <= POSITIONS
 }
@@ -96,8 +102,10 @@ fn are_bytes(bytes: &[u8])
 /// The value that bytes spell.
 fn read_value(alloc: Global, bytes: &[u8]) -> Result<Value, OpenFault>
     ensures not_other { IsErrOf result OpenFault.Other → ⊥ }
+    ensures not_store { IsErrOf result OpenFault.Store → ⊥ }
     ensures value { IfOk result (λ v. bytes.now ≡ value_spelling v) }
     ensures spelt { IfOk result IsValue }
+    ensures damaged { IsErrOf result OpenFault.Damaged → (v : ValueTerm) → IsValue v → bytes.now ≢ value_spelling v }
 {
     spellings();
     are_bytes(bytes);
@@ -115,14 +123,17 @@ fn read_value(alloc: Global, bytes: &[u8]) -> Result<Value, OpenFault>
 }
 
 /// The vote that a row shows, with a ballot that is not above the promise.
-fn read_vote(alloc: Global, row: &Row, promise: Ballot) -> Result<Entry, OpenFault>
+#[tactic(auto, unfolding(ballots::specs::Values::positions))]
+fn read_vote(alloc: Global, row: &Row, promise: Ballot, members: u32) -> Result<Entry, OpenFault>
     ensures not_other { IsErrOf result OpenFault.Other → ⊥ }
-    ensures shows { IfOk result (Shows promise row.now) }
+    ensures not_store { IsErrOf result OpenFault.Store → ⊥ }
+    ensures shows { IfOk result (Shows members promise row.now) }
     ensures least { IfOk result (λ e. 1 ≤ e.position) }
+    ensures damaged { IsErrOf result OpenFault.Damaged → ShowsNoVote members promise row.now }
 {
     let position: u32 = column(row, 0)?;
     let ballot = read_ballot(row, 1, 2)?;
-    if !is_position(position) || !is_ballot(ballot) || promise.is_below(ballot) {
+    if !is_position(position) || !is_ballot(ballot, members) || promise.is_below(ballot) {
         return Err(OpenFault::Damaged);
     }
     let Ok(ValueRef::Blob(bytes)) = row.get_ref(3) else {
@@ -140,13 +151,16 @@ pub(super) fn add_vote(
     alloc: Global,
     row: &Row,
     promise: Ballot,
+    members: u32,
     found: &mut Record,
     last: &mut u32,
 ) -> Result<(), OpenFault>
     ensures not_other { IsErrOf result OpenFault.Other → ⊥ }
-    ensures added { OnOk result ((e : EntryTerm) × Shows promise row.now e × (last.old < e.position) × (last.new ≡ e.position) × (found.new.votes ≡ with_vote e.position e.vote found.old.votes)) }
+    ensures not_store { IsErrOf result OpenFault.Store → ⊥ }
+    ensures added { OnOk result ((e : EntryTerm) × Shows members promise row.now e × (last.old < e.position) × (last.new ≡ e.position) × (found.new.votes ≡ with_vote e.position e.vote found.old.votes)) }
+    ensures damaged { IsErrOf result OpenFault.Damaged → ShowsNoVote members promise row.now ⊎ ((e : EntryTerm) × Shows members promise row.now e × (1 ≤ e.position) × (e.position ≤ last.old)) }
 {
-    let entry = read_vote(alloc, row, promise)?;
+    let entry = read_vote(alloc, row, promise, members)?;
     if entry.position <= *last {
         return Err(OpenFault::Damaged);
     }
@@ -160,15 +174,18 @@ pub(super) fn add_vote(
 /// The promise in the row of this member.
 pub(super) fn read_member(alloc: Global, rows: &[Row], setup: &Setup) -> Result<Ballot, OpenFault>
     ensures other { IsErrOf result OpenFault.Other → ShowsAnother setup.now rows.now }
+    ensures not_store { IsErrOf result OpenFault.Store → ⊥ }
     ensures shows { IfOk result (λ b. (row : _) × (rows.now ≡ row ∷ []) × ShowsMember setup.now b row) }
+    ensures damaged { IsErrOf result OpenFault.Damaged → ShowsNoMember rows.now }
 {
     let [row] = rows else {
         return Err(OpenFault::Damaged);
     };
     let id: u32 = column(row, 0)?;
     let version: u32 = column(row, 1)?;
+    let members: u32 = column(row, 4)?;
     let ballot = read_ballot(row, 6, 7)?;
-    if id != 1 || version != 1 || !is_promise(ballot) {
+    if id != 1 || version != 1 || !is_promise(ballot, members) {
         return Err(OpenFault::Damaged);
     }
     if !is_of(alloc, row, setup)? {
@@ -177,10 +194,27 @@ pub(super) fn read_member(alloc: Global, rows: &[Row], setup: &Setup) -> Result<
     Ok(ballot)
 }
 
+/// Whether there may be that member of so many.
+fn is_place(member: u32, members: u32) -> bool
+    ensures { IsTrue result ↔ IsPlace member members }
+{
+    1 <= member && member <= members && members <= u32::from(MOST_MEMBERS)
+}
+
+/// The numbers of a setup are in range.
+pub(super) fn are_numbers(setup: &Setup)
+    ensures { IsSetup setup.now }
+{
+    let _group = setup.group();
+    let _member = setup.member();
+}
+
 /// Whether the row is that of this member.
 fn is_of(alloc: Global, row: &Row, setup: &Setup) -> Result<bool, OpenFault>
-    ensures someone { IfOk result (λ _. (p : Owner) × ShowsOwner p row.now) }
+    ensures someone { IfOk result (λ _. (p : Owner) × IsSetup p × ShowsOwner p row.now) }
     ensures not_other { IsErrOf result OpenFault.Other → ⊥ }
+    ensures not_store { IsErrOf result OpenFault.Store → ⊥ }
+    ensures damaged { IsErrOf result OpenFault.Damaged → (p : Owner) → IsSetup p → ¬ ShowsOwner p row.now }
     ensures own { IfOk result (λ b. IsTrue b ↔ ((column row.now 2 ≡ Int (pos setup.now.group)) × (column row.now 3 ≡ Int (pos setup.now.member)) × (column row.now 4 ≡ Int (pos setup.now.members)) × (column row.now 5 ≡ Text (joined setup.now.names)))) }
 {
     let group: u32 = column(row, 2)?;
@@ -189,6 +223,9 @@ fn is_of(alloc: Global, row: &Row, setup: &Setup) -> Result<bool, OpenFault>
     let Ok(ValueRef::Text(names)) = row.get_ref(5) else {
         return Err(OpenFault::Damaged);
     };
+    if !is_place(member, members) {
+        return Err(OpenFault::Damaged);
+    }
     let Ok(docs) = docs::joined(alloc, setup.names()) else {
         return Err(OpenFault::Memory);
     };

@@ -1,6 +1,6 @@
 //! Records in a SQLite database.
 
-ghost use Rattle.std.specs.Prelude.{◌≡◌, None, false};
+ghost use Rattle.std.specs.Prelude.{◌≡◌, ◌≤◌, ◌↔◌, None, false, IsTrue};
 ghost use Rattle.records.specs.Law.{Counts, Grew};
 ghost use Rattle.sql_records.specs.Opened.{connection_of};
 
@@ -67,6 +67,13 @@ fn answer(failures: &mut u64, done: Result<(), RecordsFault>) -> Result<(), Reco
     }
 }
 
+/// Whether there is the ballot's member.
+fn has_member(setup: &Setup, ballot: Ballot) -> bool
+    ensures { IsTrue result ↔ (ballot.member ≤ setup.now.members) }
+{
+    ballot.member <= setup.members().count()
+}
+
 impl<S: Alter> Records for SqlRecords<S> {
     ghost use Rattle.sqlite.specs.State.{HasCleanDisk};
     ghost use Rattle.sqlite.specs.Held.{state};
@@ -93,6 +100,9 @@ impl<S: Alter> Records for SqlRecords<S> {
 
     fn put_promise(&mut self, _alloc: Global, ballot: Ballot) -> Result<(), RecordsFault> {
         spellings();
+        if !has_member(&self.setup, ballot) {
+            return Err(count(&mut self.failures));
+        }
         let done = put_promise(&mut self.connection, ballot);
         answer(&mut self.failures, done)
     }
@@ -105,6 +115,9 @@ impl<S: Alter> Records for SqlRecords<S> {
         value: &Value,
     ) -> Result<(), RecordsFault> {
         spellings();
+        if !has_member(&self.setup, ballot) {
+            return Err(count(&mut self.failures));
+        }
         let mut bytes = Vec::new(alloc);
         if put_value(value, &mut bytes).is_err() {
             return Err(RecordsFault::Memory);

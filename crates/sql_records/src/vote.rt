@@ -22,7 +22,7 @@ use sqlite::{Alter, Connection, Error, Transaction, params};
 fn first<S: Alter>(tx: &mut Transaction<'_, S>, ballot: Ballot) -> Result<usize, Error>
     requires { IsBallot ballot }
     ensures same_reference { tx.new.conn.ghost_name ≡ tx.old.conn.ghost_name }
-    ensures law { HasCleanDisk (state S.Store tx.new.conn.now) → (o : Setup) (last : Record) → below ballot last.promise ≡ false → Under (state S.Store tx.old.conn.now) o last → Sees (state S.Store tx.old.conn.now) o last
+    ensures law { HasCleanDisk (state S.Store tx.new.conn.now) → (o : Setup) (last : Record) → ballot.member ≤ o.members → below ballot last.promise ≡ false → Under (state S.Store tx.old.conn.now) o last → Sees (state S.Store tx.old.conn.now) o last
         → Under (state S.Store tx.new.conn.now) o last × OnOk result (Sees (state S.Store tx.new.conn.now) o (written (NewPromise ballot) last)) }
     ensures clean { doubt (state S.Store tx.old.conn.now).is_clean ≤ doubt (state S.Store tx.new.conn.now).is_clean }
 {
@@ -45,7 +45,7 @@ fn second<S: Alter>(
     requires least { 1 ≤ position }
     requires most { position ≤ positions }
     ensures same_reference { tx.new.conn.ghost_name ≡ tx.old.conn.ghost_name }
-    ensures law { HasCleanDisk (state S.Store tx.new.conn.now) → (o : Setup) (last : Record) (v : Value) → value.now ≡ value_spelling v → IsValue v → Under (state S.Store tx.old.conn.now) o last → Sees (state S.Store tx.old.conn.now) o (written (NewPromise ballot) last)
+    ensures law { HasCleanDisk (state S.Store tx.new.conn.now) → (o : Setup) (last : Record) → ballot.member ≤ o.members → (v : Value) → value.now ≡ value_spelling v → IsValue v → Under (state S.Store tx.old.conn.now) o last → Sees (state S.Store tx.old.conn.now) o (written (NewPromise ballot) last)
         → Under (state S.Store tx.new.conn.now) o last × OnOk result (Sees (state S.Store tx.new.conn.now) o (written (NewVote position (record { ballot = ballot; value = v })) last)) }
     ensures clean { doubt (state S.Store tx.old.conn.now).is_clean ≤ doubt (state S.Store tx.new.conn.now).is_clean }
 {
@@ -68,7 +68,7 @@ fn run<S: Alter>(
     requires least { 1 ≤ position }
     requires most { position ≤ positions }
     requires mode { connection.old.in_transaction ≡ false }
-    ensures law { HasCleanDisk (state S.Store connection.new) → (o : Setup) (last : Record) (v : Value) → value.now ≡ value_spelling v → IsValue v → IsTrue (state S.Store connection.old).is_open → below ballot last.promise ≡ false → Holds (state S.Store connection.old) o last last
+    ensures law { HasCleanDisk (state S.Store connection.new) → (o : Setup) (last : Record) → ballot.member ≤ o.members → (v : Value) → value.now ≡ value_spelling v → IsValue v → IsTrue (state S.Store connection.old).is_open → below ballot last.promise ≡ false → Holds (state S.Store connection.old) o last last
         → Written (state S.Store connection.new) o last (written (NewVote position (record { ballot = ballot; value = v })) last) result }
     ensures clean { doubt (state S.Store connection.old).is_clean ≤ doubt (state S.Store connection.new).is_clean }
 {
@@ -100,7 +100,7 @@ pub(super) fn put_vote<S: Alter>(
     requires ballot { IsBallot ballot }
     requires least { 1 ≤ position }
     requires most { position ≤ positions }
-    ensures law { HasCleanDisk (state S.Store connection.new) → (o : Setup) (last : Record) (v : Value) → value.now ≡ value_spelling v → IsValue v
+    ensures law { HasCleanDisk (state S.Store connection.new) → (o : Setup) (last : Record) → ballot.member ≤ o.members → (v : Value) → value.now ≡ value_spelling v → IsValue v
         → (IsTrue (state S.Store connection.old).is_open → below ballot last.promise ≡ false) → Holds (state S.Store connection.old) o last last
         → Puts (Holds (state S.Store connection.new) o) last (written (NewVote position (record { ballot = ballot; value = v })) last) result }
     ensures clean { doubt (state S.Store connection.old).is_clean ≤ doubt (state S.Store connection.new).is_clean }

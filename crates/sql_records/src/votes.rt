@@ -4,9 +4,11 @@ ghost use Rattle.std.specs.Prelude.{◌≡◌, List, map, IfOk, IsErrOf, OnOk, I
 ghost use Rattle.sqlite.specs.State.{HasCleanDisk, IsUnchanged, Survives};
 ghost use Rattle.sqlite.specs.Order.{Row as RowTerm};
 ghost use Rattle.sqlite.specs.Held.{state};
+ghost use Rattle.ballots.specs.declared.value.Entry.{Entry as EntryTerm};
 ghost use Rattle.records.specs.Kept.{IsRising};
+ghost use Rattle.sql_records.specs.Faults.{StoreFailed};
 ghost use Rattle.sql_records.specs.Holds.{Ended};
-ghost use Rattle.sql_records.specs.Reading.{AreShown, vote_shown};
+ghost use Rattle.sql_records.specs.Reading.{AreShown, AreVotes, vote_shown};
 ghost use Rattle.sql_records.specs.Texts.{schema};
 
 use super::load::fault_of;
@@ -22,12 +24,15 @@ pub(super) fn load_votes<S: Alter>(
     alloc: Global,
     connection: &mut Connection<S>,
     promise: Ballot,
+    members: u32,
 ) -> Result<Record, OpenFault>
     requires { HasCleanDisk (state S.Store connection.old) → (state S.Store connection.old).now.schema ≡ schema }
-    ensures votes { HasCleanDisk (state S.Store connection.new) → IfOk result (λ r. (rows : List RowTerm) × IsPermutation (map vote_shown ((state S.Store connection.old).now.trees 1)) rows × AreShown promise rows r.votes) }
+    ensures votes { HasCleanDisk (state S.Store connection.new) → IfOk result (λ r. (rows : List RowTerm) × IsPermutation (map vote_shown ((state S.Store connection.old).now.trees 1)) rows × AreShown members promise rows r.votes) }
     ensures promise { IfOk result (λ r. r.promise ≡ promise) }
     ensures rising { IfOk result IsRising }
     ensures not_other { IsErrOf result OpenFault.Other → ⊥ }
+    ensures store { HasCleanDisk (state S.Store connection.new) → IsErrOf result OpenFault.Store → StoreFailed (state S.Store connection.old) (state S.Store connection.new) }
+    ensures damaged { HasCleanDisk (state S.Store connection.new) → IsErrOf result OpenFault.Damaged → (votes : List EntryTerm) → ¬ AreVotes members promise ((state S.Store connection.old).now.trees 1) votes }
     ensures same { HasCleanDisk (state S.Store connection.new) → OnOk result (IsUnchanged (state S.Store connection.old) (state S.Store connection.new)) }
     ensures ended { HasCleanDisk (state S.Store connection.new) → Ended (state S.Store connection.old) (state S.Store connection.new) }
     ensures survives { Survives (state S.Store connection.old) (state S.Store connection.new) (λ _. ⊥) }
@@ -50,7 +55,7 @@ pub(super) fn load_votes<S: Alter>(
             let _promise = record.promise();
             return Ok(record);
         };
-        add_vote(alloc, row, promise, &mut record, &mut last)?;
+        add_vote(alloc, row, promise, members, &mut record, &mut last)?;
     }
     Err(OpenFault::Damaged)
 }

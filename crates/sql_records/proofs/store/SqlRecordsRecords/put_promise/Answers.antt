@@ -1,4 +1,4 @@
-use Rattle.std.proofs.Common.{◌≡◌, false, IsTrue, sym, subst, arith}
+use Rattle.std.proofs.Common.{◌≡◌, ◌≤◌, refl, false, IsTrue, sym, subst, arith}
 use Rattle.ballots.specs.Ballot.{below}
 use Rattle.sqlite.specs.State.{HasCleanDisk}
 use Rattle.sqlite.specs.Held.{state}
@@ -14,6 +14,7 @@ returns-clause-law g c clean last h =
     let o = c.args.self.now.setup in
     let was : HasCleanDisk old = omega (arith, c.put_promise-done.ensures.clean) in
     let it = c.requires.not_below was in
+    let within : c.args.ballot.member ≤ o.members = c.if-not-has_member.ensures.0 refl in
     let over : IsTrue old.is_open → below c.args.ballot last.promise ≡ false =
     λ up. subst (λ (r : Record). below c.args.ballot r.promise ≡ false) (one_stands c.spellings.ensures.no_beginning old o it.0 last (λ s. g.met.S.Store.stays c.args.self.now.connection.store s) up it.1 h) it.2 in
-    subst (Puts (Holds (state g.S.Store c.put_promise-done.new.connection) o) last (written (NewPromise c.args.ballot) last)) (sym c.answer.ensures.result) (c.put_promise-done.ensures.law clean o last over h)
+    subst (Puts (Holds (state g.S.Store c.put_promise-done.new.connection) o) last (written (NewPromise c.args.ballot) last)) (sym c.answer.ensures.result) (c.put_promise-done.ensures.law clean o last within over h)

@@ -1,4 +1,4 @@
-use Rattle.std.proofs.Common.{◌≡◌, false, IsTrue, sym, subst, arith, rules}
+use Rattle.std.proofs.Common.{◌≡◌, ◌≤◌, refl, false, IsTrue, sym, subst, arith, rules}
 use Rattle.ballots.specs.Ballot.{below}
 use Rattle.ballots.specs.Spelling.{value_spelling}
 use Rattle.sqlite.specs.State.{HasCleanDisk}
@@ -15,8 +15,9 @@ returns-clause-law g c clean last h =
     let o = c.args.self.now.setup in
     let was : HasCleanDisk old = omega (arith, c.put_vote-done.ensures.clean) in
     let it = c.requires.not_below was in
+    let within : c.args.ballot.member ≤ o.members = c.if-not-has_member.ensures.0 refl in
     let over : IsTrue old.is_open → below c.args.ballot last.promise ≡ false =
     λ up. subst (λ (r : Record). below c.args.ballot r.promise ≡ false) (one_stands c.spellings.ensures.no_beginning old o it.0 last (λ s. g.met.S.Store.stays c.args.self.now.connection.store s) up it.1 h) it.2 in
     let bytes : c.as_slice.result.now ≡ value_spelling c.args.value.now = search rules in
     subst (Puts (Holds (state g.S.Store c.put_vote-done.new.connection) o) last (written (NewVote c.args.position (record { ballot = c.args.ballot; value = c.args.value.now })) last)) (sym c.answer.ensures.result)
-    (c.put_vote-done.ensures.law clean o last c.args.value.now bytes c.put_value.ensures.spelt over h)
+    (c.put_vote-done.ensures.law clean o last within c.args.value.now bytes c.put_value.ensures.spelt over h)

@@ -1,0 +1,111 @@
+//! Votes and promises, each with a line once it is acknowledged.
+
+ghost use Rattle.std.specs.Prelude.{◌≡◌, ◌≤◌, true, IfSome};
+ghost use Rattle.ballots.specs.Ballot.{IsBallot};
+ghost use Rattle.ballots.specs.Values.{positions};
+
+use acceptor::Acceptor;
+use ballots::limits::{LAST_ROUND, MOST_MEMBERS, POSITIONS};
+use ballots::{Ballot, Request, Value, Vote};
+use records::Records;
+use std::alloc::Global;
+use std::io;
+
+/// Whether there may be that ballot.
+#[tactic(auto, unfolding(ballots::specs::Ballot::last_round))]
+fn is_ballot(ballot: Ballot) -> bool
+    ensures { result ≡ true → IsBallot ballot }
+{
+    1 <= ballot.round
+        && ballot.round <= LAST_ROUND
+        && 1 <= ballot.member
+        && ballot.member <= MOST_MEMBERS
+}
+
+/// Whether there may be that position.
+#[tactic(auto, unfolding(ballots::specs::Values::positions))]
+fn is_position(position: u32) -> bool
+    ensures { result ≡ true → (1 ≤ position) × (position ≤ positions) }
+{
+    1 <= position && position <= POSITIONS
+}
+
+/// The vote of a ballot at a position: a request whose number is made of both.
+fn vote(alloc: Global, ballot: Ballot, position: u32) -> Option<Vote>
+    ensures { IfSome result (λ v. v.ballot ≡ ballot) }
+{
+    let number = ballot
+        .round
+        .saturating_mul(10_000_000)
+        .saturating_add(u64::from(position));
+    let text = "insert node element a {\"some text\"} into doc(\"db\")";
+    let request = Request::new(alloc, 1, number, 1, text).ok()?;
+    Some(Vote {
+        ballot,
+        value: Value::Request(request),
+    })
+}
+
+/// Accepts votes of a ballot at so many positions from one on, and prints a line for each. It ends where one is not accepted.
+pub(super) fn vote_all<R: Records + Drop>(
+    rt: &HostRuntime,
+    acceptor: &mut Acceptor<R>,
+    ballot: Ballot,
+    from: u32,
+    count: u32,
+) -> io::Result<u8> {
+    for turn in 0..count {
+        let position = from.saturating_add(turn);
+        if !accepts(rt.alloc(), acceptor, ballot, position) {
+            return Ok(4);
+        }
+        println!(rt; "vote {position}")?;
+    }
+    Ok(0)
+}
+
+/// Whether it accepts the vote of a ballot at a position.
+fn accepts<R: Records + Drop>(
+    alloc: Global,
+    acceptor: &mut Acceptor<R>,
+    ballot: Ballot,
+    position: u32,
+) -> bool {
+    if !is_ballot(ballot) || !is_position(position) {
+        return false;
+    }
+    match vote(alloc, ballot, position) {
+        Some(vote) => matches!(acceptor.on_accept(alloc, position, &vote), Ok(true)),
+        None => false,
+    }
+}
+
+/// Promises so many ballots, each of the next round, and prints a line for each. It ends where one is not promised.
+pub(super) fn promise_all<R: Records + Drop>(
+    rt: &HostRuntime,
+    acceptor: &mut Acceptor<R>,
+    ballot: Ballot,
+    count: u32,
+) -> io::Result<u8> {
+    for turn in 0..count {
+        let round = ballot.round.saturating_add(u64::from(turn));
+        let next = Ballot {
+            round,
+            member: ballot.member,
+        };
+        if !promises(rt.alloc(), acceptor, next) {
+            return Ok(4);
+        }
+        println!(rt; "promise {round}")?;
+    }
+    Ok(0)
+}
+
+/// Whether it promises a ballot.
+fn promises<R: Records + Drop>(alloc: Global, acceptor: &mut Acceptor<R>, ballot: Ballot) -> bool {
+    let promised = acceptor.promised();
+    if !is_ballot(ballot) || !promised.is_below(ballot) {
+        return false;
+    }
+    acceptor.on_begin(alloc, ballot).is_ok()
+}
