@@ -1,6 +1,6 @@
 # `make` alone lists the targets.
 
-.PHONY: help demo test edits refusals paxq measure expressions examples bench sweep clean
+.PHONY: help demo test edits refusals paxq measure expressions record_file examples bench kills sweep clean
 
 help:
 	@echo 'make demo      builds paxq without waiting for its proof, and runs examples/first.pxq'
@@ -11,7 +11,10 @@ help:
 	@echo 'make examples  runs bin/paxq on the examples and on input that it refuses'
 	@echo 'make measure   proves measure, which runs parts for the benchmarks, and leaves it at bin/measure'
 	@echo 'make expressions  proves query_rows, which evaluates expressions for the benchmarks, and leaves it at bin/query_rows'
-	@echo 'make bench     measures bin/paxq, bin/measure and bin/query_rows (figures for docs/BENCHMARKS.md)'
+	@echo 'make record_file  proves record_file, an acceptor'"'"'s record in a SQLite file, and leaves it at bin/record_file'
+	@echo 'make bench     measures bin/paxq, bin/measure, bin/query_rows and bin/record_file (figures for docs/BENCHMARKS.md)'
+	@echo 'make kills     ends bin/record_file in the middle of its writes, again and again: each acknowledged write has to be there;'
+	@echo '               and opens files with it that the program sqlite3 made (needs sqlite3)'
 	@echo 'make sweep     runs bin/paxq with each allocation refused in turn (needs a C compiler)'
 	@echo 'make clean     removes what builds made'
 
@@ -43,14 +46,25 @@ measure:
 
 expressions:
 	.ci/prove query_rows
-	cd crates/query_rows/data && rt run query_rows -- control.rows > /dev/null
+	cd crates/query_rows && rt run -- data/expressions.rows > /dev/null
 	mkdir -p bin && cp crates/query_rows/out/query_rows bin/query_rows
 
-bench: paxq measure expressions
+record_file:
+	.ci/prove record_file
+	cd crates/record_file && rm -f out/record_file && { rt run > /dev/null || true; }
+	mkdir -p bin && cp crates/record_file/out/record_file bin/record_file
+
+bench: paxq measure expressions record_file
 	bench/run bin/paxq
 	bench/limits bin/paxq
 	bench/parts bin/measure
 	bench/expressions bin/query_rows
+	bench/steps bin/query_rows
+	bench/records bin/record_file
+
+kills: record_file
+	bench/kills bin/record_file
+	bench/opens bin/record_file
 
 sweep: paxq bin/refuse.so
 	bench/sweep bin/paxq bin/refuse.so

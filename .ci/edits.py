@@ -16,6 +16,8 @@ import re
 
 SIGNATURE = re.compile(r"( *)(?:pub(?:\([^)]*\))? )?(?:const )?fn (\w+)")
 CYCLE = re.compile(r" *#\[cycle\((\w+)\)\]")
+# the type whose items an impl or a trait has
+OWNER = re.compile(r"(?:pub )?(?:impl|trait)\b(?:.* for)? ?(?:<[^{]*> )?(\w+)")
 CONSTANT = re.compile(r" *(?:pub(?:\([^)]*\))? )?const (\w+):")
 
 
@@ -24,10 +26,12 @@ class BadEdit(Exception):
 
 
 class Function:
-    """A function of a source file: its name, the first and the last line of its body, and the cycle of calls that it stands in, if any."""
+    """A function of a source file: its name, its path in the file's module, the first and the last line of its body, and the cycle of
+    calls that it stands in, if any."""
 
-    def __init__(self, name, first, last, cycle):
+    def __init__(self, name, owner, first, last, cycle):
         self.name, self.first, self.last, self.cycle = name, first, last, cycle
+        self.path = f"{owner}::{name}" if owner else name
 
 
 def functions_of(text):
@@ -39,8 +43,14 @@ def functions_of(text):
         if opens is not None:
             is_empty = lines[opens].endswith("{}")
             closes = opens if is_empty else next(row for row in range(opens, len(lines)) if lines[row] == signature[1] + "}")
-            found.append(Function(signature[2], opens, closes, cycle_above(lines, at)))
+            found.append(Function(signature[2], owner_above(lines, at) if signature[1] else None, opens, closes, cycle_above(lines, at)))
     return found
+
+
+def owner_above(lines, at):
+    """The type whose impl or trait a line stands in."""
+    block = next((lines[row] for row in range(at, -1, -1) if lines[row][:1] not in ("", " ", "}", ")")), "")
+    return OWNER.match(block)[1] if OWNER.match(block) else None
 
 
 def opening(lines, at, indent):
@@ -118,8 +128,8 @@ class Edit:
         if not inner.cycle:
             return set()
         for name in named:
-            above = name.rpartition("::")[0]
-            self.cycles[name] = inner.cycle, [f"{above}::{it.name}" for it in functions if it.cycle == inner.cycle]
+            module = name.removesuffix(f"::{inner.path}") if name.endswith(f"::{inner.path}") else name.rpartition("::")[0]
+            self.cycles[name] = inner.cycle, [f"{module}::{it.path}" for it in functions if it.cycle == inner.cycle]
         return {f"cycle {inner.cycle}"}
 
     def shares_with(self, other):

@@ -1,9 +1,10 @@
-"""What a check says of each function.
+"""What a check says of each function, and the gate of each crate.
 
 A check goes on past a function that is not proved, and names each. A function whose body is wrong has a goal of its own that is not
 proved; one that only calls such a function says just that, since proofs rest on the contracts of what is called and not on bodies.
 """
 
+import os
 import re
 
 LINE = re.compile(r"(fn|impl|struct|enum|trait|const|static) (\S+): (.*)")
@@ -12,7 +13,19 @@ ERROR = re.compile(r"(?:\./)?proofs/(\S+?)/\w+\.antt:\d+:\d+: error: (?:`([^`]*)
 SEARCHED = re.compile(r"`search` did not prove ((?:`[^`]+`(?:, | and )?)+)")
 # what a proof file says that names what an edit took away
 OF_NAMES = re.compile(r"has no field|is not in scope|has no `|was not admitted|is no name")
+# a call of a function as a value
+VALUE = re.compile(r"\w+::(.*)\+Fn(?:Mut|Once)?::call(?:_mut|_once)?")
 CALLS = re.compile(r"it calls|it passes|a call of")
+
+
+# what `rt ci` writes of a crate that it has proved, now or in an earlier run over the same files
+PROVED = re.compile(r"(?m)^rt: (\w+) (?:proved$|is kept: )")
+ENDED = re.compile(r"(?m)^\d+ passed, \d+ failed$")
+
+
+def progress(text):
+    """The crates that stand proved, by what `rt ci` has written so far, and whether it has ended."""
+    return set(PROVED.findall(text)), bool(ENDED.search(text))
 
 
 class Verdict:
@@ -61,8 +74,7 @@ class Said:
 
     def errors_of(self, name, cycle=()):
         """The errors in a function's proof, or in that of its cycle of calls those on its goals."""
-        own = name.split("::")[-1] + "-"
-        return [it for it in self.errors if it.folder == folder_of(name, cycle) and (not cycle or it.goal.startswith(own))]
+        return [it for it in self.errors if it.folder == folder_of(name, cycle) and (not cycle or it.goal.startswith(prefix_of(name, cycle)))]
 
     def goals_of(self, name, cycle=()):
         """The goals of a function's own that are not proved.
@@ -72,9 +84,8 @@ class Said:
         goals = [it.goal for it in self.errors_of(name, cycle) if not it.is_of_names]
         if not cycle:
             return self.verdicts[name].goals + goals
-        own = name.split("::")[-1] + "-"
         members = [self.verdicts[it] for it in cycle[1] if it in self.verdicts]
-        return [goal for it in members for goal in it.goals if goal.startswith(own)] + goals
+        return [goal for it in members for goal in it.goals if goal.startswith(prefix_of(name, cycle))] + goals
 
     def misses_names_only(self, name, cycle=()):
         """Whether all that is said against it is that a proof file names what is gone."""
@@ -85,11 +96,29 @@ class Said:
         """What is not proved by a fault of its own though it is none of the changed functions, some of which are in cycles of calls."""
         members = {member for _, cycle in cycles for member in cycle[1]}
         folders = {folder_of(it) for it in changed} | {folder_of(name, cycle) for name, cycle in cycles}
-        names = [name for name, it in self.verdicts.items() if name not in {*changed, *members} and not it.is_proved() and not it.only_calls()]
+        names = [name for name, it in self.verdicts.items() if called(name) not in {*changed, *members} and not it.is_proved() and not it.only_calls()]
         return names + [f"{it.folder}: {it.goal[:80]}" for it in self.errors if it.folder not in folders]
+
+
+def called(name):
+    """The function that a function calls which rattle makes of another one, where that is used as a value; of others the function itself."""
+    of_value = VALUE.fullmatch(name)
+    return of_value[1].replace("++", "::") if of_value else name
+
+
+def home_of(cycle):
+    """Where a cycle of calls stands: the path of the module or type that all of its members are in."""
+    above = [it.split("::")[:-1] for it in cycle[1]]
+    return os.path.commonprefix(above)
 
 
 def folder_of(name, cycle=()):
     """The folder of a function's proof, below proofs/, or of that of its cycle of calls."""
-    _, *above, own = name.split("::")
-    return "/".join([*above, cycle[0] if cycle else own])
+    if cycle:
+        return "/".join([*home_of(cycle)[1:], cycle[0]])
+    return "/".join(name.split("::")[1:])
+
+
+def prefix_of(name, cycle):
+    """What the goals of a member of a cycle of calls begin with."""
+    return "::".join(name.split("::")[len(home_of(cycle)) :]) + "-"
