@@ -26,7 +26,7 @@ test:
 	.ci/gate
 
 edits:
-	.ci/wrong-bodies --more $(CRATES)
+	.ci/wrong-bodies --more --write $(CRATES)
 
 refusals: bin/refuse.so
 	.ci/refusals bin/refuse.so $(CRATES)
