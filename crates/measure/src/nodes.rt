@@ -8,7 +8,10 @@ use document_names::Names;
 use shelves::Shelf;
 use std::alloc::Global;
 use trees::{Content, Forest, Kind, NodeId};
-use values::{Atom, Comparison, Item, Text, atomize, compare_general, item_text};
+use values::{Atom, Comparison, Item, LimitedText, Text, atomize, compare_general, push_item};
+
+/// The bytes that a printed document has at most.
+const MOST_PRINTED: usize = 1 << 30;
 
 /// The bytes of each text.
 const TEXT: &str = "some text";
@@ -110,7 +113,9 @@ pub fn printed(alloc: Global, count: u32) -> Option<u32> {
 fn text_of(alloc: Global, shelf: &Shelf, id: NodeId) -> Option<String>
     requires { IsSome (find id (shelf_trees shelf.now)) }
 {
-    item_text(alloc, shelf, &Item::Node(id)).ok()
+    let mut out = LimitedText::new(alloc, MOST_PRINTED);
+    push_item(alloc, &mut out, shelf, &Item::Node(id)).ok()?;
+    out.into_text()
 }
 
 /// How many of the document's elements have another text than they have.

@@ -14,13 +14,16 @@ use query_grammar::Expr;
 use rows::{RowFault, Words};
 use std::alloc::{AllocError, Global};
 use trees::{Forest, Kind, MakeFault, NodeId};
-use values::{Code, Item, ValueFault, item_text};
+use values::{Code, Item, LimitedText, ValueFault, push_item as push_text};
 
 /// The level of the language.
 const LEVEL: u8 = 1;
 
 /// The identity of the node.
 const NODE: u64 = 1;
+
+/// The bytes that the text of an item has at most where it is shown.
+const MOST_PRINTED: usize = 1_000_000;
 
 /// The largest next identity of a forest over which an expression may be evaluated.
 const MOST_NEXT: u64 = 1 << 61;
@@ -193,6 +196,10 @@ fn push_item(
     if !out.is_empty() {
         out.push_str(" / ")?;
     }
-    let text = item_text(alloc, run.shelf(), item)?;
-    out.push_str(&text)
+    let mut text = LimitedText::new(alloc, MOST_PRINTED);
+    push_text(alloc, &mut text, run.shelf(), item)?;
+    match text.into_text() {
+        Some(text) => out.push_str(&text),
+        None => out.push_str("too long"),
+    }
 }

@@ -8,17 +8,22 @@ use rows::RowFault;
 use shelves::Shelf;
 use std::alloc::{AllocError, Global};
 use trees::NodeId;
-use values::{Atom, Item, ValueFault, atomize, item_text};
+use values::{Atom, Item, LimitedText, ValueFault, atomize, push_item};
 
 /// Typed values of more bytes are shown by their length.
 const LONGEST_SHOWN: usize = 100;
 
-/// The printed text of a node. Fault: `NotARow` where it does not stand there.
+/// The bytes that a printed text has at most.
+const MOST_PRINTED: usize = 1_000_000;
+
+/// The printed text of a node. Fault: `NotARow` where it does not stand there, or the text has more than 1,000,000 bytes.
 pub(super) fn printed(alloc: Global, shelf: &Shelf<'_>, id: NodeId) -> Result<String, RowFault> {
     if !shelf.has(id) {
         return Err(RowFault::NotARow);
     }
-    Ok(item_text(alloc, shelf, &Item::Node(id))?)
+    let mut out = LimitedText::new(alloc, MOST_PRINTED);
+    push_item(alloc, &mut out, shelf, &Item::Node(id))?;
+    out.into_text().ok_or(RowFault::NotARow)
 }
 
 /// The typed value of a node, `s` for a string and `u` for an untyped one, with its text, or the code of its fault. Fault: `NotARow`

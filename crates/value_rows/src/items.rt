@@ -4,10 +4,13 @@ use rows::{RowFault, Word, Words};
 use shelves::Shelf;
 use std::alloc::{AllocError, Global};
 use trees::{Forest, NodeId};
-use values::{Atom, Code, Item, Text, item_text, truth};
+use values::{Atom, Code, Item, LimitedText, Text, push_item, truth};
 
 /// How many items a sequence has at most.
 const MOST_ITEMS: u32 = 1_000;
+
+/// The bytes that a printed text has at most.
+const MOST_PRINTED: usize = 1_000_000;
 
 /// The atomic value that a word is; `None` where it is none.
 fn atom_of(alloc: Global, word: Word<'_>) -> Result<Option<Atom>, RowFault> {
@@ -95,17 +98,38 @@ pub(super) fn truth_of(alloc: Global, words: &mut Words<'_>) -> Result<String, R
 
 /// `print ITEM`: the printed text of an atomic value.
 pub(super) fn printed(alloc: Global, words: &mut Words<'_>) -> Result<String, RowFault> {
+    printed_within(alloc, MOST_PRINTED, words)
+}
+
+/// `within N ITEM`: that text, if it has at most N bytes.
+pub(super) fn limited(alloc: Global, words: &mut Words<'_>) -> Result<String, RowFault> {
+    let Ok(most) = usize::try_from(words.number()?) else {
+        return Err(RowFault::NotARow);
+    };
+    printed_within(alloc, most, words)
+}
+
+/// The printed text of an atomic value, if it has at most so many bytes.
+fn printed_within(alloc: Global, most: usize, words: &mut Words<'_>) -> Result<String, RowFault> {
     match atom_of(alloc, words.word()?)? {
-        Some(atom) => printed_atom(alloc, atom),
+        Some(atom) => printed_atom(alloc, most, atom),
         None => Err(RowFault::NotARow),
     }
 }
 
-/// The printed text of an atomic value.
-fn printed_atom(alloc: Global, atom: Atom) -> Result<String, RowFault> {
+fn printed_atom(alloc: Global, most: usize, atom: Atom) -> Result<String, RowFault> {
     let forest = Forest::empty(alloc, NodeId::new(1));
-    let text = item_text(alloc, &Shelf::new(alloc, &forest), &Item::Atomic(atom));
-    text.map_err(RowFault::from)
+    let mut out = LimitedText::new(alloc, most);
+    push_item(
+        alloc,
+        &mut out,
+        &Shelf::new(alloc, &forest),
+        &Item::Atomic(atom),
+    )?;
+    match out.into_text() {
+        Some(text) => Ok(text),
+        None => Ok(String::from_str(alloc, "too long")?),
+    }
 }
 
 /// A truth, `()` where there is none, or a code.

@@ -38,6 +38,7 @@ fn result_of(alloc: Global, words: &mut Words<'_>) -> Result<String, RowFault> {
     match words.plain()? {
         "truth" => items::truth_of(alloc, words),
         "print" => items::printed(alloc, words),
+        "within" => items::limited(alloc, words),
         "integer" => texts::integer(alloc, words),
         "boolean" => texts::boolean(alloc, words),
         "code" => texts::code(alloc, words),

@@ -7,6 +7,8 @@ use Rattle.data_model.specs.declared.node.Kind.{Kind}
 use Rattle.data_model.specs.declared.node.Kind.TheVariants.{Document, Element, Attribute, Text, Comment, Instruction}
 use Rattle.values.specs.Printing.{literal, listed, document_content, constructor}
 use Rattle.values.specs.Inside.{opening, following, nothing}
+use Rattle.values.specs.Limited.{LimitedTerm, added}
+use Rattle.values.proofs.Limits.{added-twice, added-three}
 
 -- there are none
 abbrev pub are_none : List (List ℕ) → Bool
@@ -61,3 +63,8 @@ leaf-text old name text Attribute parts h = leaf-pieces old (opening Attribute n
 leaf-text old name text Text parts h = leaf-pieces old (opening Text name) (literal text) (codes "}")
 leaf-text old name text Comment parts h = leaf-pieces old (opening Comment name) (literal text) (codes "}")
 leaf-text old name text Instruction parts h = leaf-pieces old (opening Instruction name) (literal text) (codes "}")
+
+-- one more part
+pub parts-step : (l m : LimitedTerm) (b : Bool) (t : List ℕ) (ts : List (List ℕ)) → (b ≡ true → m ≡ added l (codes ", ")) → (b ≡ false → m ≡ l) → added (added m t) (following true ts) ≡ added l (following b (t ∷ ts))
+parts-step l m true t ts h g = ap (λ k. added (added k t) (following true ts)) (h refl) ∙ added-three l (codes ", ") t (following true ts) ∙ ap (added l) (append_assoc (codes ", ") t (following true ts))
+parts-step l m false t ts h g = ap (λ k. added (added k t) (following true ts)) (g refl) ∙ added-twice l t (following true ts)

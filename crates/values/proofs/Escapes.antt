@@ -1,5 +1,5 @@
 -- Characters that a string literal has as they are.
-use Rattle.std.proofs.Common.{◌≡◌, ◌≢◌, ℕ, ◌≤◌, Bool, true, false, cond, ltb, List, [], ◌∷◌, ◌++◌, refl, ap, sym, ◌∙◌, arith, ⊎_elim, append_assoc, append-nil}
+use Rattle.std.proofs.Common.{◌≡◌, ◌≢◌, ℕ, ◌≤◌, Bool, true, false, cond, ltb, List, [], ◌∷◌, ◌++◌, refl, ap, sym, ◌∙◌, arith, ⊎_elim, append-nil}
 use Rattle.std.proofs.Math.Utf8.{encode, encodes}
 use Rattle.std.proofs.lemmas.Bool.{cases_lt}
 use Rattle.std.proofs.lemmas.Bool.Decides.{nat_tests}
@@ -7,6 +7,8 @@ use Rattle.std.proofs.lemmas.Str.{encode_ascii, encodes-append}
 use Rattle.std.proofs.lemmas.Grind.{flat_map-append}
 use Rattle.std.specs.List.{flat_map}
 use Rattle.values.specs.Printing.{escaped}
+use Rattle.values.specs.Limited.{LimitedTerm, added}
+use Rattle.values.proofs.Limits.{added-twice}
 
 same : (b : ℕ) → b ≢ 34 → b ≢ 38 → b ≢ 9 → b ≢ 10 → b ≢ 13 → escaped b ≡ b ∷ []
 same b q a t l r = grind (arith, nat_tests)
@@ -40,7 +42,7 @@ pub plain : (c : ℕ) → c ≢ 34 → c ≢ 38 → c ≢ 9 → c ≢ 10 → c �
 plain c q a t l r = ⊎_elim (λ h. rw (encode_ascii c h, same c q a t l r) refl) (λ h. are-same (encode c) (are-high c h)) (cases_lt c 128)
 
 -- one more character
-pub one-more : (old before now : List ℕ) (cs : List ℕ) (c : ℕ) → before ≡ old ++ flat_map escaped (encodes cs) → now ≡ before ++ flat_map escaped (encode c) → now ≡ old ++ flat_map escaped (encodes (cs ++ c ∷ []))
-one-more old before now cs c h e =
+pub one-more : (l before now : LimitedTerm) (cs : List ℕ) (c : ℕ) → before ≡ added l (flat_map escaped (encodes cs)) → now ≡ added before (flat_map escaped (encode c)) → now ≡ added l (flat_map escaped (encodes (cs ++ c ∷ [])))
+one-more l before now cs c h e =
     let last : encodes (cs ++ c ∷ []) ≡ encodes cs ++ encode c = encodes-append cs (c ∷ []) ∙ ap (λ l. encodes cs ++ l) (append-nil (encode c)) in
-    e ∙ ap (λ l. l ++ flat_map escaped (encode c)) h ∙ append_assoc old (flat_map escaped (encodes cs)) (flat_map escaped (encode c)) ∙ ap (λ l. old ++ l) (sym (flat_map-append escaped (encodes cs) (encode c)) ∙ ap (flat_map escaped) (sym last))
+    e ∙ ap (λ k. added k (flat_map escaped (encode c))) h ∙ added-twice l (flat_map escaped (encodes cs)) (flat_map escaped (encode c)) ∙ ap (added l) (sym (flat_map-append escaped (encodes cs) (encode c)) ∙ ap (flat_map escaped) (sym last))

@@ -3,6 +3,7 @@ pub mod Atoms
 pub mod Comparisons
 pub mod Arithmetic
 pub mod Printing
+pub mod Limited
 pub mod Items
 pub mod Inside
 pub mod Operands
