@@ -3,14 +3,16 @@
 //! A row is `ask TEXT`, or `at KIND NAME TEXT ask TEXT` for a context item: a node of that kind, name and text with no parent. `tree`
 //! and `PARENT KIND NAME TEXT` for each of its nodes, whose identities are 2, 3, .., is the tree below the document `db`, 1, in which the
 //! rows after it look: `in ask TEXT`, or `in from NODE ask TEXT` for a context item. It prints how many nodes there are then. `list TEXT`
-//! gives the update primitives of an expression over that tree, and the next identity. The items are printed with ` / ` between two of
-//! them; a fault by its code.
+//! gives the update primitives of an expression over that tree, and the next identity. `answer LEVEL TEXT` is what a question gives there:
+//! how many bytes its text has, and its lines. The items and lines are printed with ` / ` between two of them; a fault by its code.
 #![tactic(auto)]
 
+mod answers;
 mod asking;
 mod growing;
 mod lists;
 
+use answers::answer_in;
 use asking::{ask, ask_at, ask_in, list_in};
 use growing::grown;
 use rows::{Answers, RowFault, Words, run_table};
@@ -52,6 +54,7 @@ impl Answers for QueryRows {
             "at" => ask_at(alloc, &mut words)?,
             "in" => ask_in(alloc, &self.nodes, &mut words)?,
             "list" => list_in(alloc, &self.nodes, &mut words)?,
+            "answer" => answer_in(alloc, &self.nodes, &mut words)?,
             "tree" => return self.look_in(alloc, words),
             _ => return Err(RowFault::NotARow),
         };
