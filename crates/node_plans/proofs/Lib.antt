@@ -1,0 +1,7 @@
+pub mod Results
+pub mod Plans
+pub mod Items
+pub mod Ranks
+pub mod Sites
+pub mod Splices
+pub mod Writes

@@ -1,0 +1,20 @@
+use Rattle.std.proofs.Common.{◌∙◌, refl, string_bytes, subst}
+use Rattle.node_table.specs.Flat.{Table, IsChangedAt, with_name}
+use Rattle.node_plans.specs.Planned.{table_with}
+use Rattle.node_plans.proofs.Plans.{row-there, changed-table, changed-places}
+use Rattle.node_plans.specs.declared.plan.Plan.{Plan}
+use Rattle.node_plans.proofs.plan.set_name.Goals as goal
+
+pub set_name-requires : goal.set_name-requires
+set_name-requires c = row-there c.touch.new.plan.rows c.args.id ∙ c.in_ok-touch.ensures.there
+
+pub returns-clause-changed : goal.returns-clause-changed
+returns-clause-changed c =
+    let q : Plan = record c.touch.new.plan { rows = c.set_name.new.rows } in
+    let P : Table → Type 0 = λ t. IsChangedAt t (table_with q c.args.rows.now) c.args.id (with_name (string_bytes c.args.name)) in
+    subst P c.touch.ensures.same (changed-table c.touch.new.plan q c.args.rows.now refl c.args.id (with_name (string_bytes c.args.name)) c.in_ok-touch.ensures.there c.set_name.ensures.changed)
+
+pub returns-clause-places : goal.returns-clause-places
+returns-clause-places c =
+    let q : Plan = record c.touch.new.plan { rows = c.set_name.new.rows } in
+    changed-places c.touch.new.plan q c.args.rows.now refl c.args.id (with_name (string_bytes c.args.name)) c.in_ok-touch.ensures.there c.set_name.ensures.changed c.set_name.ensures.places ∙ c.touch.ensures.places
