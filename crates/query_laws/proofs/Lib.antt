@@ -4,3 +4,4 @@ pub mod Standing
 pub mod Strings
 pub mod Written
 pub mod Spelling
+pub mod Names

@@ -49,7 +49,7 @@ makes_if {P = P} {p = p} {q = q} test k l = record { made = λ text a rest e. on
 
 -- a loop each of whose steps keeps it
 module _ {A : Type 0} (P : A → Type 0) (goes : A → List ℕ → Bool) (step : A → Reader A) (k : (a : A) → P a → Makes P (step a)) where
-  turns_make : (n : ℕ) (a : A) (text : List ℕ) (b : A) (rest : List ℕ) → P a → rounds goes step n a text ≡ Gives b rest → P b
+  pub turns_make : (n : ℕ) (a : A) (text : List ℕ) (b : A) (rest : List ℕ) → P a → rounds goes step n a text ≡ Gives b rest → P b
   unfolding rounds
   turns_make zero a text b rest h e = subst P (gives_value a b text rest e) h
   turns_make (suc n) a text b rest h e = one (goes a text) (rounds goes step n) (λ c mid. turns_make n c mid b rest) e
@@ -66,7 +66,7 @@ module _ {A : Type 0} (P : A → Type 0) (goes : A → List ℕ → Bool) (step 
 abbrev pub IsXml : ℕ → Type 0
 IsXml c = is_xml_character c ≡ true
 
-makes_such : (p : ℕ → Bool) → Makes (λ c. p c ≡ true) (such p)
+pub makes_such : (p : ℕ → Bool) → Makes (λ c. p c ≡ true) (such p)
 makes_such p = record { made = one }
   where
     one : (text : List ℕ) (a : ℕ) (rest : List ℕ) → such p text ≡ Gives a rest → p a ≡ true

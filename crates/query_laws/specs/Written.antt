@@ -1,8 +1,8 @@
 -- What is written in a text.
-use Rattle.std.specs.Prelude.{◌≡◌, ◌≤◌, ℕ, true, List, length}
+use Rattle.std.specs.Prelude.{◌≡◌, ◌≢◌, ◌≤◌, ◌⊎◌, ℕ, true, List, [], length}
 use Rattle.std.specs.List.{list_all}
 use Rattle.std.specs.Str.{encode_utf8_all}
-use Rattle.document_names.specs.Characters.{is_xml_character}
+use Rattle.document_names.specs.Characters.{is_name, is_xml_character}
 use Rattle.query_tokens.specs.declared.kind.Kind.TheVariants as kind
 use Rattle.query_tokens.specs.declared.token.Token.{Token}
 use Rattle.query_tokens.specs.Lexing.{most_bytes}
@@ -17,3 +17,7 @@ pub record IsXmlString (bytes : List ℕ) : Type 0 where
 -- a token that is a string has such a content
 abbrev pub HasXmlString : Token → Type 0
 HasXmlString t = t.kind ≡ kind.String → IsXmlString t.text
+
+-- a token that is no string says nothing beside its kind, or a name
+abbrev pub HasName : Token → Type 0
+HasName t = t.kind ≢ kind.String → (t.text ≡ []) ⊎ (is_name t.text ≡ true)

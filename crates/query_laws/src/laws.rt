@@ -21,7 +21,7 @@ ghost use Rattle.std.specs.List.{All};
 ghost use Rattle.query_tokens.specs.Lexing.{tokens};
 ghost use Rattle.query_tokens.specs.Reading.{Gives};
 ghost use Rattle.query_tokens.specs.declared.token.Token.{Token};
-ghost use Rattle.query_laws.specs.Written.{HasXmlString};
+ghost use Rattle.query_laws.specs.Written.{HasName, HasXmlString};
 ghost use Rattle.query_laws.specs.Examples.{a, b, c, none, on, of_kind, then, between, takes};
 ghost use Rattle.query_laws.specs.Faults.{FirstFault, IsSpelt};
 ghost use Rattle.query_laws.specs.Spelling.{IsSpeltAs};
@@ -47,6 +47,11 @@ pub fn updates_are_placed()
 /// Each string among the tokens of a text is the UTF-8 of characters of XML 1.0, of at most 65,536 bytes.
 pub fn strings_are_xml()
     ensures { (text : List ℕ) (ts : List Token) (rest : List ℕ) → tokens text ≡ Gives ts rest → All HasXmlString ts }
+{}
+
+/// Each token of a text that is no string says a name (an NCName of ASCII characters, other than `xmlns`), or nothing beside its kind and number.
+pub fn names_are_names()
+    ensures { (text : List ℕ) (ts : List Token) (rest : List ℕ) → tokens text ≡ Gives ts rest → All HasName ts }
 {}
 
 /// Tokens that are spelt in the standard's productions (XQuery 1.0, appendix A.2), one after the other, with whitespace and comments before, between
