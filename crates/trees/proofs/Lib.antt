@@ -10,3 +10,4 @@ pub mod Planted
 pub mod Removed
 pub mod Numbered
 pub mod Views
+pub mod Drafts

@@ -1,2 +1,4 @@
 pub mod Forest
 pub mod Inside
+pub mod Drafts
+pub mod Drafted

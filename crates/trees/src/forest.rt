@@ -34,10 +34,10 @@ use std::slice;
 /// Nodes lie in one flat table; a node that has no parent is the root of a tree of its own.
 #[derive(Drop)]
 pub struct Forest {
-    rows: Rows,
-    documents: IndexMap<String, NodeId>,
-    next: u64,
-    nodes: u64,
+    pub(crate) rows: Rows,
+    pub(crate) documents: IndexMap<String, NodeId>,
+    pub(crate) next: u64,
+    pub(crate) nodes: u64,
 }
 
 impl Model for Forest {

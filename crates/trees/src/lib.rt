@@ -4,7 +4,9 @@
 //! Contracts speak of nested trees alone (`Trees.antt` of `data_model`); nothing above this crate sees the table.
 #![tactic(auto)]
 
+mod draft;
 mod forest;
 
 pub use data_model::{Axis, Content, Kind, NodeId, NodeView, Tree};
+pub use draft::{Draft, Prepared};
 pub use forest::{Forest, MakeFault};
