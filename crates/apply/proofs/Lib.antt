@@ -1,5 +1,1 @@
-pub mod Booleans
-pub mod Deletes
-pub mod Absent
-pub mod Tidying
-pub mod Nothing
+pub mod Stored

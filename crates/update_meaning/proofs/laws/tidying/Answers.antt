@@ -1,5 +1,5 @@
-use Rattle.apply.proofs.Tidying.{tidied-apart, tidied-filled, tidied-documents, tidied-again}
-use Rattle.apply.proofs.laws.tidying.Goals as goal
+use Rattle.update_meaning.proofs.Tidying.{tidied-apart, tidied-filled, tidied-documents, tidied-again}
+use Rattle.update_meaning.proofs.laws.tidying.Goals as goal
 
 pub returns-clause-apart : goal.returns-clause-apart
 returns-clause-apart c = tidied-apart

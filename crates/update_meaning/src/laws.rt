@@ -5,9 +5,9 @@ ghost use Rattle.data_model.specs.Trees.{Trees, no_trees};
 ghost use Rattle.data_model.specs.Tidy.{IsTidy};
 ghost use Rattle.pending.specs.Primitives.{PrimitiveTerm, insert_before, insert_after, insert_into, insert_into_as_first, insert_attributes, delete, replace_node, replace_element_content, rename};
 ghost use Rattle.fault_codes.specs.declared.code.Code.TheVariants.{XUDY0021};
-ghost use Rattle.apply.specs.Effects.{staged, StandNowhere};
-ghost use Rattle.apply.specs.Results.{tidied, updated, are_apart, are_filled, are_documents, is_within_limits};
-ghost use Rattle.apply.specs.Examples.{attribute, text, elem, filled, document, both, a_k_x, a_k, r_of};
+ghost use Rattle.update_meaning.specs.Effects.{staged, StandNowhere};
+ghost use Rattle.update_meaning.specs.Results.{tidied, updated, are_apart, are_filled, are_documents, is_within_limits};
+ghost use Rattle.update_meaning.specs.Examples.{attribute, text, elem, filled, document, both, a_k_x, a_k, r_of};
 
 /// What some lists of primitives make of a small document.
 pub fn examples()

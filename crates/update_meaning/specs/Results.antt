@@ -1,5 +1,5 @@
 -- What an update leaves (XQuery Update Facility 1.0, section 3.2.2), and which results are refused.
-use Rattle.std.specs.Prelude.{ℕ, ◌+◌, Bool, true, not, ◌&&◌, if◌then◌else◌, nat_le, List, length, Result, Ok, Err}
+use Rattle.std.specs.Prelude.{◌≡◌, ℕ, ◌+◌, Bool, true, not, ◌&&◌, if◌then◌else◌, nat_le, List, length, Result, Ok, Err}
 use Rattle.data_model.specs.Trees.{Trees, no_trees, tree, Content, roots, size, height, is_text}
 use Rattle.data_model.specs.Tidy.{is_document, begins_with_text, has_distinct_names}
 use Rattle.trees.specs.Forest.{ForestTerm}
@@ -7,7 +7,7 @@ use Rattle.pending.specs.Primitives.{PrimitiveTerm}
 use Rattle.pending.specs.Texts.{before_merged, is_empty_text}
 use Rattle.fault_codes.specs.declared.code.Code.{Code}
 use Rattle.fault_codes.specs.declared.code.Code.TheVariants.{XUDY0021, PXQ0003}
-use Rattle.apply.specs.Effects.{staged}
+use Rattle.update_meaning.specs.Effects.{staged}
 
 -- adjacent texts are one, everywhere, with the first one's identity
 abbrev pub all_merged : Trees → Trees
@@ -62,6 +62,10 @@ judged ts =
     if not (has_distinct_attributes ts) then Err XUDY0021
     else if not (is_within_limits ts) then Err PXQ0003
     else Ok ts
+
+-- trees that an update may leave: tidying changes nothing, and they are not refused
+abbrev pub IsStored : Trees → Type 0
+IsStored ts = judged (tidied ts) ≡ Ok ts
 
 -- the stored trees after a list of primitives, or the code
 abbrev pub updated : List PrimitiveTerm → Trees → Result Trees Code

@@ -3,7 +3,7 @@ use Rattle.std.proofs.Common.{◌≡◌, ℕ, Bool, true, false, cond, ◌==◌,
 use Rattle.std.proofs.lemmas.Bool.Decides.{eqb_tells}
 use Rattle.data_model.specs.Trees.{Trees, no_trees, tree}
 use Rattle.pending.specs.Primitives.{PrimitiveTerm, delete}
-use Rattle.apply.specs.Effects.{with_tree, effect, effects, stage_of, of_stage, staged}
+use Rattle.update_meaning.specs.Effects.{with_tree, effect, effects, stage_of, of_stage, staged}
 
 without : ℕ → Trees → Trees
 without i = with_tree i (λ t. no_trees)

@@ -6,7 +6,7 @@ use Rattle.data_model.specs.Changes.{with_part, with_content}
 use Rattle.data_model.specs.declared.node.Part.TheVariants.{Attributes, Children}
 use Rattle.data_model.specs.declared.node.Part.{Part}
 use Rattle.pending.specs.Primitives.{PrimitiveTerm, insert_before, insert_after, insert_into, insert_into_as_first, insert_into_as_last, insert_attributes, delete, replace_node, replace_value, replace_element_content, rename}
-use Rattle.apply.specs.Effects.{with_tree, with_tree_below, effect, effects, stage_of, of_stage, staged, target_of, StandNowhere}
+use Rattle.update_meaning.specs.Effects.{with_tree, with_tree_below, effect, effects, stage_of, of_stage, staged, target_of, StandNowhere}
 
 with_tree-absent : (i : ℕ) (g : Trees → Trees) (ts : Trees) → count i ts ≡ 0 → with_tree i g ts ≡ ts
 with_tree-absent i g no_trees h = refl

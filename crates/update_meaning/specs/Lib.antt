@@ -1,3 +1,4 @@
 pub mod Effects
+pub mod Brought
 pub mod Results
 pub mod Examples

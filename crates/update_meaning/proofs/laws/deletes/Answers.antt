@@ -1,5 +1,5 @@
-use Rattle.apply.proofs.Deletes.{any-order, once}
-use Rattle.apply.proofs.laws.deletes.Goals as goal
+use Rattle.update_meaning.proofs.Deletes.{any-order, once}
+use Rattle.update_meaning.proofs.laws.deletes.Goals as goal
 
 pub returns-clause-order : goal.returns-clause-order
 returns-clause-order c = any-order

@@ -6,8 +6,8 @@ use Rattle.data_model.specs.Tidy.{is_document, begins_with_text, has_distinct_na
 use Rattle.data_model.specs.declared.node.Kind.{Kind}
 use Rattle.data_model.specs.declared.node.Kind.TheVariants.{Document, Element, Attribute, Text, Comment, Instruction}
 use Rattle.pending.specs.Texts.{before_merged, is_empty_text}
-use Rattle.apply.specs.Results.{all_merged, all_filled, stored, tidied, are_apart, are_filled, are_documents, has_distinct_attributes}
-use Rattle.apply.proofs.Booleans.{and-left, and-right, and-both, not-true, excluded, never, all-four, Four, four}
+use Rattle.update_meaning.specs.Results.{all_merged, all_filled, stored, tidied, are_apart, are_filled, are_documents, has_distinct_attributes}
+use Rattle.update_meaning.proofs.Booleans.{and-left, and-right, and-both, not-true, excluded, never, all-four, Four, four}
 
 pub record Parts (c : Content) (bs cs rest : Trees) : Type 0 where
   pub head : not (is_text c.kind && begins_with_text rest) ≡ true

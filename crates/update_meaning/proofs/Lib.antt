@@ -1,0 +1,5 @@
+pub mod Booleans
+pub mod Deletes
+pub mod Absent
+pub mod Tidying
+pub mod Nothing
