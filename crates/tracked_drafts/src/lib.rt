@@ -1,0 +1,6 @@
+//! Drafts of forests that know which nodes were touched, so that what an update leaves is seen to at these alone.
+#![tactic(auto)]
+
+mod tracked;
+
+pub use tracked::TrackedDraft;
