@@ -1,0 +1,53 @@
+//! Empty texts go.
+
+ghost use Rattle.std.specs.Prelude.{◌≡◌, [], OnOk, bytes_eq};
+ghost use Rattle.data_model.specs.Trees.{find};
+ghost use Rattle.tracked_drafts.specs.Tests.{Begins};
+ghost use Rattle.update_meaning.specs.Results.{all_filled};
+ghost use Rattle.update_tidying.specs.Texts.{text_at, IsTextAt, Empties};
+
+use super::site::{Site, site_of};
+use data_model::NodeId;
+use std::alloc::{AllocError, Global};
+use tracked_drafts::TrackedDraft;
+
+/// Whether a node is to say nothing.
+fn is_empty(draft: &TrackedDraft, id: NodeId) -> bool
+    ensures { result ≡ bytes_eq (text_at (find id draft.now.draft.after)) [] }
+{
+    match draft.node(id) {
+        Some(view) => view.text.is_empty(),
+        None => true,
+    }
+}
+
+/// Takes out a node, where it is a text that says nothing.
+fn empty(draft: &mut TrackedDraft, alloc: Global, id: NodeId) -> Result<(), AllocError>
+    ensures empties { OnOk result (Empties id draft.old.draft.after draft.new.draft.after) }
+    ensures same { draft.new.draft ≡ record draft.old.draft { after = draft.new.draft.after } }
+    ensures touched { Begins draft.old.touched draft.new.touched }
+{
+    draft.facts();
+    if !is_empty(draft, id) {
+        return Ok(());
+    }
+    match site_of(draft, id) {
+        Some(site) => draft.splice(alloc, site.part, site.parent, site.at, site.at + 1, &[]),
+        None => Ok(()),
+    }
+}
+
+/// Takes out empty texts, wherever nodes were touched.
+pub(super) fn empty_all(draft: &mut TrackedDraft, alloc: Global) -> Result<(), AllocError>
+    ensures filled { OnOk result (draft.new.draft ≡ record draft.old.draft { after = all_filled draft.old.draft.after }) }
+    ensures same { draft.new.draft ≡ record draft.old.draft { after = draft.new.draft.after } }
+{
+    draft.facts();
+    for at in 0..draft.touched_len() {
+        let Some(id) = draft.touched_at(at) else {
+            unreachable!();
+        };
+        empty(draft, alloc, id)?;
+    }
+    Ok(())
+}
