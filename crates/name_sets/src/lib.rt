@@ -1,0 +1,6 @@
+//! Sets of names.
+#![tactic(auto)]
+
+mod set;
+
+pub use set::NameSet;
