@@ -4,7 +4,7 @@ use Rattle.data_model.specs.Changes.{renumbered}
 use Rattle.data_model.specs.Trees.{Trees, no_trees, tree, leaf, Content, append, count, size, find}
 use Rattle.node_table.proofs.Copies.{in-renumbered, renumbered-within}
 use Rattle.node_table.proofs.Ups.{same-ids}
-use Rattle.data_model.proofs.Weights.{weigh-append, append-append, eqb-same}
+use Rattle.data_model.proofs.Weights.{append-append, eqb-same}
 use Rattle.pending.specs.Texts.{merged, without_empty_texts, texts_within}
 use Rattle.data_model.specs.declared.node.Kind.{Kind}
 use Rattle.fault_codes.specs.declared.code.Code.{Code}
@@ -18,7 +18,8 @@ use Rattle.query_meaning.specs.Content as contents
 use Rattle.query_meaning.specs.Constructors as constructors
 use Rattle.meaning_laws.proofs.Keeps.{no_value}
 use Rattle.meaning_laws.proofs.Nodes.{merged_few, without_empty_few, two_parts}
-use Rattle.meaning_laws.proofs.Sound.{IsSound, AreThere, Ends, Holds, Comes, Given, one_item, same_value}
+use Rattle.update_meaning.specs.Brought.{new_trees}
+use Rattle.meaning_laws.proofs.Sound.{uses, both_counted, IsSound, AreThere, Ends, Passes, Holds, hold, Any, Comes, Given, one_item, same_value}
 
 -- trees whose nodes have distinct identities, of those from n on up to m
 pub record AreNew (n m : ℕ) (us : Trees) : Type 0 where
@@ -28,21 +29,28 @@ pub record AreNew (n m : ℕ) (us : Trees) : Type 0 where
 none_new : (n m : ℕ) → AreNew n m no_trees
 none_new n m = record { once = λ i. omega arith; within = λ i h. absurd (omega (arith, h)) }
 
+-- where the one are below n and the others are not, an identity is among one of them alone
+on_one_side : (i n x y : ℕ) → x ≤ 1 → y ≤ 1 → (0 < x → i < n) → (0 < y → n ≤ i) → x + y ≤ 1
+on_one_side i n zero y a b f l = omega (arith, b)
+on_one_side i n (suc x) zero a b f l = omega (arith, a)
+on_one_side i n (suc x) (suc y) a b f l = absurd (let u = f (omega arith) in let v = l (omega arith) in omega (arith, u, v))
+
+on_either_side : {P : Type 0} (x y : ℕ) → 0 < x + y → (0 < x → P) → (0 < y → P) → P
+on_either_side zero y h f l = l (omega (arith, h))
+on_either_side (suc x) y h f l = f (omega arith)
+
 -- those that come later are others
 both_new : (n m k : ℕ) (us vs : Trees) → n ≤ m → m ≤ k → AreNew n m us → AreNew m k vs → AreNew n k (append us vs)
-both_new n m k us vs h g a b = record { once = λ i. one i (count i us) (count i vs) (weigh-append (λ j. cond (eqb i j) 1 0) us vs) (a.once i) (b.once i) (a.within i) (b.within i); within = λ i there. in_one i there }
+both_new n m k us vs h g a b = record { once = once; within = within }
   where
-    one : (i x y : ℕ) → count i (append us vs) ≡ x + y → x ≤ 1 → y ≤ 1 → (0 < x → (n ≤ i) × (i < m)) → (0 < y → (m ≤ i) × (i < k)) → count i (append us vs) ≤ 1
-    one i zero y e p q f l = omega (arith, e, q)
-    one i (suc x) zero e p q f l = omega (arith, e, p)
-    one i (suc x) (suc y) e p q f l = absurd (let u = (f (omega arith)).1 in let v = (l (omega arith)).0 in omega (arith, u, v))
+    once : (i : ℕ) → count i (append us vs) ≤ 1
+    once i =
+        let one = on_one_side i m (count i us) (count i vs) (a.once i) (b.once i) (λ t. (a.within i t).1) (λ t. (b.within i t).0) in
+        omega (arith, both_counted i us vs, one)
 
-    of : (i x y : ℕ) → count i (append us vs) ≡ x + y → 0 < count i (append us vs) → (0 < x → (n ≤ i) × (i < m)) → (0 < y → (m ≤ i) × (i < k)) → (n ≤ i) × (i < k)
-    of i zero y e there f l = let v = l (omega (arith, e, there)) in (omega (arith, v.0, h), v.1)
-    of i (suc x) y e there f l = let u = f (omega arith) in (u.0, omega (arith, u.1, g))
-
-    in_one : (i : ℕ) → 0 < count i (append us vs) → (n ≤ i) × (i < k)
-    in_one i there = of i (count i us) (count i vs) (weigh-append (λ j. cond (eqb i j) 1 0) us vs) there (a.within i) (b.within i)
+    within : (i : ℕ) → 0 < count i (append us vs) → (n ≤ i) × (i < k)
+    within i there = on_either_side (count i us) (count i vs) (omega (arith, both_counted i us vs, there))
+        (λ t. (let u = a.within i t in (u.0, omega (arith, u.1, g)))) (λ t. (let v = b.within i t in (omega (arith, v.0, h), v.1)))
 
 copy_new : (n : ℕ) (us : Trees) → AreNew n (n + size us) (renumbered n us)
 copy_new n us = record { once = λ i. of i (count i (renumbered n us)) refl; within = λ i. renumbered-within n i us }
@@ -68,6 +76,7 @@ leaf_new n c h = record { once = λ i. once i (eqb i c.identity); within = λ i.
 pub record Makes (run : Run) (p : Trees × Run) : Type 0 where
   pub lent : p.1.shelf.lent ≡ run.shelf.lent
   pub own : p.1.shelf.own.trees ≡ run.shelf.own.trees
+  pub primitives : p.1.primitives ≡ run.primitives
   pub next : run.shelf.own.next ≤ p.1.shelf.own.next
   pub made : AreNew run.shelf.own.next p.1.shelf.own.next p.0
 
@@ -82,11 +91,16 @@ numbered_if : (n : ℕ) (g : ℕ → Trees) (run : Run) (p : Trees × Run) (b : 
     → and_then (if b then Ok (run.shelf.own.next, record run { shelf = record run.shelf { own = record run.shelf.own { next = run.shelf.own.next + n } } }) else Err PXQ0003) (λ i. pure (g i)) ≡ Ok p → Makes run p
 numbered_if n g run p true h e =
     subst (Makes run) (same_value (g run.shelf.own.next, record run { shelf = record run.shelf { own = record run.shelf.own { next = run.shelf.own.next + n } } }) p e)
-    (record { lent = refl; own = refl; next = omega arith; made = h })
+    (record { lent = refl; own = refl; primitives = refl; next = omega arith; made = h })
 numbered_if n g run p false h e = absurd (no_value PXQ0003 p e)
 
 numbered : (n : ℕ) (g : ℕ → Trees) → ((i : ℕ) → AreNew i (i + n) (g i)) → MakesNew (new_nodes n >>= (λ i. pure (g i)))
 numbered n g h run p e = numbered_if n g run p (nat_le (run.shelf.own.next + n) (run.shelf.lent.next + most_nodes)) (h run.shelf.own.next) e
+
+pub none_made : MakesNew (pure no_trees)
+none_made run p e =
+    subst (Makes run) (same_value (no_trees, run) p e)
+    (record { lent = refl; own = refl; primitives = refl; next = omega arith; made = none_new run.shelf.own.next run.shelf.own.next })
 
 pub text_made : (text : List ℕ) → MakesNew (contents.new_text text)
 text_made text = numbered 1 (contents.text_node text) (λ i. leaf_new i _ refl)
@@ -102,6 +116,7 @@ part_made (contents.node i) = copied_made i
 record MakesMore (n : ℕ) (run : Run) (p : Trees × Run) : Type 0 where
   pub lent : p.1.shelf.lent ≡ run.shelf.lent
   pub own : p.1.shelf.own.trees ≡ run.shelf.own.trees
+  pub primitives : p.1.primitives ≡ run.primitives
   pub next : run.shelf.own.next ≤ p.1.shelf.own.next
   pub made : AreNew n p.1.shelf.own.next p.0
 
@@ -109,7 +124,8 @@ abbrev put : ℕ → Trees → contents.Part → M Trees
 put k given x = contents.made x >>= (λ us. pure (append given us))
 
 all_made : (n k : ℕ) (xs : List contents.Part) (given : Trees) (run : Run) (p : Trees × Run) → n ≤ run.shelf.own.next → AreNew n run.shelf.own.next given → each put k xs given run ≡ Ok p → MakesMore n run p
-all_made n k [] given run p h g e = subst (MakesMore n run) (same_value (given, run) p e) (record { lent = refl; own = refl; next = omega arith; made = g })
+all_made n k [] given run p h g e =
+    subst (MakesMore n run) (same_value (given, run) p e) (record { lent = refl; own = refl; primitives = refl; next = omega arith; made = g })
 all_made n k (x ∷ xs) given run p h g e = of (contents.made x run) (part_made x run) (λ us after. all_made n (suc k) xs (append given us) after p) e
   where
     of : (r : Result (Trees × Run) Code) → ((q : Trees × Run) → r ≡ Ok q → Makes run q)
@@ -118,89 +134,109 @@ all_made n k (x ∷ xs) given run p h g e = of (contents.made x run) (part_made 
     of (Ok q) one rest e =
         let a = one q refl in
         let z = rest q.0 q.1 (omega (arith, h, a.next)) (both_new n run.shelf.own.next q.1.shelf.own.next given q.0 h a.next g a.made) e in
-        record { lent = z.lent ∙ a.lent; own = z.own ∙ a.own; next = omega (arith, z.next, a.next); made = z.made }
+        record {
+          lent = z.lent ∙ a.lent;
+          own = z.own ∙ a.own;
+          primitives = z.primitives ∙ a.primitives;
+          next = omega (arith, z.next, a.next);
+          made = z.made;
+        }
     of (Err c) one rest e = absurd (no_value c p e)
 
 pub content_made : (items : List Item) → MakesNew (contents.content items)
 content_made items run p e =
     let n = run.shelf.own.next in
     let z = all_made n 0 (contents.parts_of items) no_trees run p (omega arith) (none_new n n) e in
-    record { lent = z.lent; own = z.own; next = z.next; made = z.made }
+    record { lent = z.lent; own = z.own; primitives = z.primitives; next = z.next; made = z.made }
 
--- What stands after it.
+-- What is aside, and what stands, after it.
 
--- the counts of what stands, once one tree more does
-more_counted : (run after : Run) (t : Trees) → after.shelf.lent ≡ run.shelf.lent → after.shelf.own.trees ≡ run.shelf.own.trees
-    → (i : ℕ) → count i (append after.shelf.lent.trees (append after.shelf.own.trees t)) ≡ count i (trees_of run) + count i t
-more_counted run after t lent own i =
-    ap (λ g. count i (append g.trees (append after.shelf.own.trees t))) lent ∙ ap (λ us. count i (append run.shelf.lent.trees (append us t))) own
-    ∙ ap (count i) (sym (append-append run.shelf.lent.trees run.shelf.own.trees t)) ∙ weigh-append (λ j. cond (eqb i j) 1 0) (trees_of run) t
-
--- a step that makes trees, which then stand or are left
-pub made_sound : (run : Run) (p : Trees × Run) → IsSound run → Makes run p → Ends Trees (λ b t. Unit {0}) run p
-made_sound run p s h = record {
+-- new trees, which stand nowhere yet
+made_sound : (aside : ℕ → ℕ) (run : Run) (p : Trees × Run) → IsSound aside run → Makes run p
+    → Ends Trees Any (λ us i. aside i + count i us) run p
+made_sound aside run p s h = record {
   sound = record {
-    once = λ i. subst (λ n. n ≤ 1) (sym (same i)) (s.once i);
-    below = λ i there. (let k = s.below i (subst (λ n. 0 < n) (same i) there) in let n = h.next in omega (arith, k, n));
-    fresh = λ i there. subst (λ f. f.next ≤ i) (sym h.lent) (s.fresh i (subst (λ ts. 0 < count i ts) h.own there));
-    started = subst (λ f. f.next ≤ p.1.shelf.own.next) (sym h.lent) (let k = s.started in let n = h.next in omega (arith, k, n));
+    once = once;
+    below = below;
+    fresh = λ i there. subst (λ f. f.next ≤ i) (sym h.lent) (fresh i there);
+    started = subst (λ f. f.next ≤ p.1.shelf.own.next) (sym h.lent) (omega (arith, s.started, h.next));
     documents = subst (λ f. AreThere f.trees f.documents) (sym h.lent) s.documents;
   };
-  above = record { stand = λ i there. subst (λ n. 0 < n) (sym (same i)) there };
+  above = record { stand = λ i there. omega (arith, same i, there) };
   value = tt;
 }
   where
     same : (i : ℕ) → count i (trees_of p.1) ≡ count i (trees_of run)
     same i = ap (λ g. count i (append g.trees p.1.shelf.own.trees)) h.lent ∙ ap (λ us. count i (append run.shelf.lent.trees us)) h.own
 
+    brought : (i : ℕ) → count i (new_trees p.1.primitives) ≡ count i (new_trees run.primitives)
+    brought i = ap (λ qs. count i (new_trees qs)) h.primitives
+
+    once : (i : ℕ) → aside i + count i p.0 + uses i p.1 ≤ 1
+    once i =
+        let one = on_one_side i run.shelf.own.next (aside i + uses i run) (count i p.0) (s.once i) (h.made.once i) (s.below i)
+        (λ t. (h.made.within i t).0) in omega (arith, same i, brought i, one)
+
+    below : (i : ℕ) → 0 < aside i + count i p.0 + uses i p.1 → i < p.1.shelf.own.next
+    below i there = on_either_side (aside i + uses i run) (count i p.0) (omega (arith, same i, brought i, there))
+        (λ t. (let b = s.below i t in omega (arith, b, h.next))) (λ t. (h.made.within i t).1)
+
+    fresh : (i : ℕ) → 0 < aside i + count i p.0 + count i p.1.shelf.own.trees + count i (new_trees p.1.primitives) → run.shelf.lent.next ≤ i
+    fresh i there = on_either_side (aside i + count i run.shelf.own.trees + count i (new_trees run.primitives)) (count i p.0)
+        (omega (arith, ap (count i) h.own, brought i, there)) (s.fresh i) (λ t. (let v = (h.made.within i t).0 in omega (arith, v, s.started)))
+
+pub makes_aside : {r : Run} {m : M Trees} (aside : ℕ → ℕ) → MakesNew m → Passes r Trees Any m aside (λ us i. aside i + count i us)
+makes_aside aside h = record { passes = λ run s k p e. made_sound aside run p s (h run p e) }
+
 abbrev with_tree : Run → Trees → Run
 with_tree run t = record run { shelf = record run.shelf { own = record run.shelf.own { trees = append run.shelf.own.trees t } } }
 
--- a tree of new nodes stands
-pub stands_sound : (run after : Run) (t : Trees) (i : ℕ) (p : List Item × Run) → IsSound run → after.shelf.lent ≡ run.shelf.lent → after.shelf.own.trees ≡ run.shelf.own.trees
-    → run.shelf.own.next ≤ after.shelf.own.next → AreNew run.shelf.own.next after.shelf.own.next t → 0 < count i t → Comes (Ok (item.Node i ∷ [], with_tree after t)) p → Ends (List Item) Given run p
-stands_sound run after t i p s lent own next new there e = subst (Ends (List Item) Given run) (same_value (item.Node i ∷ [], with_tree after t) p e) (record {
-  sound = record {
-    once = λ j. (let c = counted j in one j (count j (trees_of run)) (count j t) c (s.once j) (new.once j) (s.below j) (new.within j));
-    below = λ j h. below j (count j (trees_of run)) (count j t) (counted j) h (s.below j) (new.within j);
-    fresh = λ j h. fresh j (count j after.shelf.own.trees) (count j t) (weigh-append (λ k. cond (eqb j k) 1 0) after.shelf.own.trees t) h (λ g. s.fresh j (subst (λ us. 0 < count j us) own g)) (new.within j);
-    started = subst (λ f. f.next ≤ after.shelf.own.next) (sym lent) (let k = s.started in omega (arith, k, next));
-    documents = subst (λ f. AreThere f.trees f.documents) (sym lent) s.documents;
-  };
-  above = record { stand = λ j h. (let c = counted j in omega (arith, c, h)) };
-  value = one_item (item.Node i) (let c = counted i in omega (arith, c, there));
-})
-  where
-    counted : (j : ℕ) → count j (trees_of (with_tree after t)) ≡ count j (trees_of run) + count j t
-    counted = more_counted run after t lent own
+-- the counts of what stands, once one tree more does
+more_counted : (run : Run) (t : Trees) (i : ℕ) → count i (trees_of (with_tree run t)) ≡ count i (trees_of run) + count i t
+more_counted run t i = ap (count i) (sym (append-append run.shelf.lent.trees run.shelf.own.trees t)) ∙ both_counted i (trees_of run) t
 
-    one : (j x y : ℕ) → count j (trees_of (with_tree after t)) ≡ x + y → x ≤ 1 → y ≤ 1 → (0 < x → j < run.shelf.own.next) → (0 < y → (run.shelf.own.next ≤ j) × (j < after.shelf.own.next)) → count j (trees_of (with_tree after t)) ≤ 1
-    one j zero y c a b f l = omega (arith, c, b)
-    one j (suc x) zero c a b f l = omega (arith, c, a)
-    one j (suc x) (suc y) c a b f l = absurd (let u = f (omega arith) in let v = (l (omega arith)).0 in omega (arith, u, v))
+-- a tree that was aside stands
+tree_sound : (aside : ℕ → ℕ) (run : Run) (t : Trees) → IsSound (λ i. aside i + count i t) run → IsSound aside (with_tree run t)
+tree_sound aside run t s = record {
+  once = λ i. omega (arith, more_counted run t i, s.once i);
+  below = λ i there. s.below i (omega (arith, more_counted run t i, there));
+  fresh = λ i there. s.fresh i (omega (arith, both_counted i run.shelf.own.trees t, there));
+  started = s.started;
+  documents = s.documents;
+}
 
-    below : (j x y : ℕ) → count j (trees_of (with_tree after t)) ≡ x + y → 0 < count j (trees_of (with_tree after t)) → (0 < x → j < run.shelf.own.next) → (0 < y → (run.shelf.own.next ≤ j) × (j < after.shelf.own.next)) → j < after.shelf.own.next
-    below j zero y c h f l = (l (omega (arith, c, h))).1
-    below j (suc x) y c h f l = let u = f (omega arith) in omega (arith, u, next)
+-- a tree of new nodes is made and stands
+stands_sound : (aside : ℕ → ℕ) (run after : Run) (t : Trees) (i : ℕ) (p : List Item × Run) → IsSound aside run → Makes run (t, after)
+    → 0 < count i t → Comes (Ok (item.Node i ∷ [], with_tree after t)) p → Ends (List Item) Given (λ _. aside) run p
+stands_sound aside run after t i p s makes there e =
+    let made = made_sound aside run (t, after) s makes in
+    subst (Ends (List Item) Given (λ _. aside) run) (same_value (item.Node i ∷ [], with_tree after t) p e) (record {
+      sound = tree_sound aside after t made.sound;
+      above = record { stand = λ j h. (let k = made.above.stand j h in omega (arith, more_counted after t j, k)) };
+      value = one_item (item.Node i) (omega (arith, more_counted after t i, there));
+    })
 
-    fresh : (j x y : ℕ) → count j (append after.shelf.own.trees t) ≡ x + y → 0 < count j (append after.shelf.own.trees t) → (0 < x → run.shelf.lent.next ≤ j) → (0 < y → (run.shelf.own.next ≤ j) × (j < after.shelf.own.next)) → after.shelf.lent.next ≤ j
-    fresh j x y c h f l = subst (λ g. g.next ≤ j) (sym lent) (of x y c h f l)
-      where
-        of : (x y : ℕ) → count j (append after.shelf.own.trees t) ≡ x + y → 0 < count j (append after.shelf.own.trees t) → (0 < x → run.shelf.lent.next ≤ j) → (0 < y → (run.shelf.own.next ≤ j) × (j < after.shelf.own.next)) → run.shelf.lent.next ≤ j
-        of zero y c h f l = let v = (l (omega (arith, c, h))).0 in let k = s.started in omega (arith, v, k)
-        of (suc x) y c h f l = f (omega arith)
+-- a run whose next identity is taken
+abbrev taken : Run → Run
+taken run = record run { shelf = record run.shelf { own = record run.shelf.own { next = run.shelf.own.next + 1 } } }
 
 -- a node with a text
-pub leaf_sound : {r : Run} (g : ℕ → Content) → ((i : ℕ) → (g i).identity ≡ i) → Holds r (List Item) Given (new_nodes 1 >>= (λ i. standing (leaf (g i)) >>= (λ _. pure (item.Node i ∷ []))))
-leaf_sound g same = record { holds = λ run s k p e. of run p (nat_le (run.shelf.own.next + 1) (run.shelf.lent.next + most_nodes)) s e }
+pub leaf_sound : {r : Run} (g : ℕ → Content) → ((i : ℕ) → (g i).identity ≡ i)
+    → Holds r (List Item) Given (new_nodes 1 >>= (λ i. standing (leaf (g i)) >>= (λ _. pure (item.Node i ∷ []))))
+leaf_sound g same = hold (λ aside run s k p e. of aside run p (nat_le (run.shelf.own.next + 1) (run.shelf.lent.next + most_nodes)) s e)
   where
-    of : (run : Run) (p : List Item × Run) (b : Bool) → IsSound run
-        → and_then (if b then Ok (run.shelf.own.next, record run { shelf = record run.shelf { own = record run.shelf.own { next = run.shelf.own.next + 1 } } }) else Err PXQ0003) (λ i. standing (leaf (g i)) >>= (λ _. pure (item.Node i ∷ []))) ≡ Ok p → Ends (List Item) Given run p
-    of run p true s e =
+    leaf_there : (n : ℕ) → 0 < count n (leaf (g n))
+    leaf_there n = subst (λ b. 0 < cond b 1 0 + 0 + 0 + 0) (sym (subst (λ j. eqb n j ≡ true) (sym (same n)) (eqb-same n))) (omega arith)
+
+    of : (aside : ℕ → ℕ) (run : Run) (p : List Item × Run) (b : Bool) → IsSound aside run
+        → and_then (if b then Ok (run.shelf.own.next, taken run) else Err PXQ0003) (λ i. standing (leaf (g i)) >>= (λ _. pure (item.Node i ∷ [])))
+        ≡ Ok p → Ends (List Item) Given (λ _. aside) run p
+    of aside run p true s e =
         let n = run.shelf.own.next in
-        stands_sound run (record run { shelf = record run.shelf { own = record run.shelf.own { next = n + 1 } } }) (leaf (g n)) n p s refl refl (omega arith) (leaf_new n (g n) (same n))
-        (subst (λ b. 0 < cond b 1 0 + 0 + 0 + 0) (sym (subst (λ j. eqb n j ≡ true) (sym (same n)) (eqb-same n))) (omega arith)) e
-    of run p false s e = absurd (no_value PXQ0003 p e)
+        let made = leaf_new n (g n) (same n) in
+        stands_sound aside run (taken run) (leaf (g n)) n p s
+        (record { lent = refl; own = refl; primitives = refl; next = omega arith; made = made }) (leaf_there n) e
+    of aside run p false s e = absurd (no_value PXQ0003 p e)
 
 -- A node of parts: itself, and then its copied content.
 
@@ -245,41 +281,49 @@ module _ (kind : Kind) (name : List ℕ) (has_fault : Trees → Option Code) whe
   abbrev node_of : ℕ → Trees → Trees
   node_of i parts = tree (node i) (contents.attributes parts) (contents.others parts) no_trees
 
-  abbrev closed : ℕ → Trees → M (List Item)
-  closed i us = come_to (contents.without_adjacent_texts us) >>= (λ parts. come_to (contents.unless_fault (has_fault parts) (node_of i parts)) >>= (λ t. constructors.rooted i t))
+  abbrev closed_with : ℕ → Trees → M (List Item)
+  closed_with i parts = come_to (contents.unless_fault (has_fault parts) (node_of i parts)) >>= (λ t. constructors.rooted i t)
 
-  -- the run from before the node's identity is taken, and the one after its content
-  closed_sound : (run after : Run) (us : Trees) (p : List Item × Run) → IsSound run → after.shelf.lent ≡ run.shelf.lent → after.shelf.own.trees ≡ run.shelf.own.trees → run.shelf.own.next + 1 ≤ after.shelf.own.next
-      → AreNew (run.shelf.own.next + 1) after.shelf.own.next us → closed run.shelf.own.next us after ≡ Ok p → Ends (List Item) Given run p
-  closed_sound run after us p s lent own next new e = of_parts (contents.without_adjacent_texts us) refl e
+  abbrev closed : ℕ → Trees → M (List Item)
+  closed i us = come_to (contents.without_adjacent_texts us) >>= closed_with i
+
+  -- the run from before the node's identity is taken, and what its content makes after that
+  closed_sound : (aside : ℕ → ℕ) (run after : Run) (us : Trees) (p : List Item × Run) → IsSound aside run → Makes (taken run) (us, after)
+      → closed run.shelf.own.next us after ≡ Ok p → Ends (List Item) Given (λ _. aside) run p
+  closed_sound aside run after us p s makes e = of_parts (contents.without_adjacent_texts us) refl e
     where
-      of_tree : (parts : Trees) → ((j : ℕ) → count j parts ≤ count j us) → (x : Result Trees Code) → contents.unless_fault (has_fault parts) (node_of run.shelf.own.next parts) ≡ x
-          → and_then (come_to x after) (λ t. constructors.rooted run.shelf.own.next t) ≡ Ok p → Ends (List Item) Given run p
+      of_tree : (parts : Trees) → ((j : ℕ) → count j parts ≤ count j us) → (x : Result Trees Code)
+          → contents.unless_fault (has_fault parts) (node_of run.shelf.own.next parts) ≡ x
+          → and_then (come_to x after) (λ t. constructors.rooted run.shelf.own.next t) ≡ Ok p → Ends (List Item) Given (λ _. aside) run p
       of_tree parts few (Ok t) is e =
-          let same = faultless (has_fault parts) (node_of run.shelf.own.next parts) t is in
-          stands_sound run after t run.shelf.own.next p s lent own (omega (arith, next)) (subst (AreNew run.shelf.own.next after.shelf.own.next) same (node_new run.shelf.own.next after.shelf.own.next (node run.shelf.own.next) us parts refl next new few))
-          (subst (λ u. 0 < count run.shelf.own.next u) same (node_there (node run.shelf.own.next) (contents.attributes parts) (contents.others parts))) e
+          let n = run.shelf.own.next in
+          let same = faultless (has_fault parts) (node_of n parts) t is in
+          let new = subst (AreNew n after.shelf.own.next) same (node_new n after.shelf.own.next (node n) us parts refl makes.next makes.made few) in
+          let there = subst (λ u. 0 < count n u) same (node_there (node n) (contents.attributes parts) (contents.others parts)) in
+          let more = makes.next in
+          stands_sound aside run after t n p s
+          (record { lent = makes.lent; own = makes.own; primitives = makes.primitives; next = omega (arith, more); made = new }) there e
       of_tree parts few (Err c) is e = absurd (no_value c p e)
 
       of_parts : (x : Result Trees Code) → contents.without_adjacent_texts us ≡ x
-          → and_then (come_to x after) (λ parts. come_to (contents.unless_fault (has_fault parts) (node_of run.shelf.own.next parts)) >>= (λ t. constructors.rooted run.shelf.own.next t)) ≡ Ok p → Ends (List Item) Given run p
-      of_parts (Ok parts) is e = of_tree parts (parts_few us parts is) (contents.unless_fault (has_fault parts) (node_of run.shelf.own.next parts)) refl e
+          → and_then (come_to x after) (closed_with run.shelf.own.next) ≡ Ok p → Ends (List Item) Given (λ _. aside) run p
+      of_parts (Ok parts) is e =
+          of_tree parts (parts_few us parts is) (contents.unless_fault (has_fault parts) (node_of run.shelf.own.next parts)) refl e
       of_parts (Err c) is e = absurd (no_value c p e)
 
   pub assembled_sound : {r : Run} (items : List Item) → Holds r (List Item) Given (constructors.assembled kind name has_fault items)
-  assembled_sound items = record { holds = λ run s k p e. of run p s (nat_le (run.shelf.own.next + 1) (run.shelf.lent.next + most_nodes)) e }
+  assembled_sound items =
+      hold (λ aside run s k p e. of aside run p s (nat_le (run.shelf.own.next + 1) (run.shelf.lent.next + most_nodes)) e)
     where
-      of_content : (run first : Run) (p : List Item × Run) → IsSound run → first ≡ record run { shelf = record run.shelf { own = record run.shelf.own { next = run.shelf.own.next + 1 } } }
-          → (x : Result (Trees × Run) Code) → contents.content items first ≡ x → and_then x (closed run.shelf.own.next) ≡ Ok p → Ends (List Item) Given run p
-      of_content run first p s is (Ok q) made e =
-          let z = content_made items first q made in
-          let new = subst (λ (f : Run). AreNew f.shelf.own.next q.1.shelf.own.next q.0) is z.made in
-          closed_sound run q.1 q.0 p s (z.lent ∙ ap (λ (f : Run). f.shelf.lent) is) (z.own ∙ ap (λ (f : Run). f.shelf.own.trees) is) (subst (λ (f : Run). f.shelf.own.next ≤ q.1.shelf.own.next) is z.next) new e
-      of_content run first p s is (Err c) made e = absurd (no_value c p e)
+      of_content : (aside : ℕ → ℕ) (run first : Run) (p : List Item × Run) → IsSound aside run → first ≡ taken run
+          → (x : Result (Trees × Run) Code) → contents.content items first ≡ x → and_then x (closed run.shelf.own.next) ≡ Ok p
+          → Ends (List Item) Given (λ _. aside) run p
+      of_content aside run first p s is (Ok q) made e =
+          closed_sound aside run q.1 q.0 p s (subst (λ (f : Run). Makes f q) is (content_made items first q made)) e
+      of_content aside run first p s is (Err c) made e = absurd (no_value c p e)
 
-      of : (run : Run) (p : List Item × Run) → IsSound run → (b : Bool)
-          → and_then (if b then Ok (run.shelf.own.next, record run { shelf = record run.shelf { own = record run.shelf.own { next = run.shelf.own.next + 1 } } }) else Err PXQ0003) (λ i. contents.content items >>= closed i) ≡ Ok p → Ends (List Item) Given run p
-      of run p s true e =
-          let first = record run { shelf = record run.shelf { own = record run.shelf.own { next = run.shelf.own.next + 1 } } } in
-          of_content run first p s refl (contents.content items first) refl e
-      of run p s false e = absurd (no_value PXQ0003 p e)
+      of : (aside : ℕ → ℕ) (run : Run) (p : List Item × Run) → IsSound aside run → (b : Bool)
+          → and_then (if b then Ok (run.shelf.own.next, taken run) else Err PXQ0003) (λ i. contents.content items >>= closed i) ≡ Ok p
+          → Ends (List Item) Given (λ _. aside) run p
+      of aside run p s true e = of_content aside run (taken run) p s refl (contents.content items (taken run)) refl e
+      of aside run p s false e = absurd (no_value PXQ0003 p e)

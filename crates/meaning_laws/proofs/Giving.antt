@@ -1,16 +1,11 @@
 -- Each form gives at most as many items as there may be, and nodes that stand, where its parts do.
-use Rattle.std.proofs.Common.{◌≡◌, ℕ, suc, ◌+◌, ◌≤◌, ◌<◌, ℤ, pos, neg_ℤ, ◌+ℤ◌, Bool, true, false, not, ◌&&◌, ◌||◌, nat_le, nat_lt, eqb, cond, if◌then◌else◌, List, [], ◌∷◌, ◌++◌, length, map, reverse, filter, Option, Some, None, is_some, Result, Ok, Err, refl, ap, subst, sym, arith}
+use Rattle.std.proofs.Common.{◌≡◌, ℕ, suc, ◌+◌, ◌≤◌, ◌<◌, ℤ, pos, neg_ℤ, ◌+ℤ◌, Bool, true, false, not, ◌&&◌, ◌||◌, nat_le, nat_lt, if◌then◌else◌}
+use Rattle.std.proofs.Common.{List, [], ◌∷◌, ◌++◌, length, map, reverse, filter, Option, Some, None, Result, Ok, Err, refl, ap, subst, sym, arith}
 use Rattle.std.proofs.lemmas.Bool.{ltb-false, leb-true}
 use Rattle.std.proofs.lemmas.Grind.{reverse_onto}
 use Rattle.std.proofs.lemmas.List.{length-append, length-map, length-reverse}
 use Rattle.std.specs.List.{list_any}
-use Rattle.data_model.proofs.Weights.{weigh-append}
 use Rattle.values.specs.Comparisons.{as_string, same_type_cmp}
-use Rattle.pending.specs.Primitives.{PrimitiveTerm, insert_before, insert_after, insert_into, insert_into_as_first, insert_into_as_last, insert_attributes}
-use Rattle.pending.specs.Primitives.{delete as delete_node, replace_node as replace_by, replace_value as replace_text, replace_element_content, rename as rename_to}
-use Rattle.query_grammar.specs.declared.ast.Place.{Place}
-use Rattle.query_grammar.specs.declared.ast.Place.TheVariants as place
-use Rattle.query_meaning.specs.Updates as updates
 use Rattle.data_model.proofs.Firsts.{held-identities}
 use Rattle.std.proofs.lemmas.List.FromFn.{length-map-range_with_len}
 use Rattle.std.specs.Ordering.{is_lt}
@@ -22,8 +17,7 @@ use Rattle.std.specs.List.{starts_with, ends_with, concat}
 use Rattle.std.specs.Prelude.{◌==◌, chars}
 use Rattle.data_model.specs.Order.{identities, precedes}
 use Rattle.data_model.specs.Axes.{is_in, is_on, on_axis}
-use Rattle.data_model.specs.Tidy.{is_document}
-use Rattle.data_model.specs.Trees.{Trees, no_trees, tree, Place as Standing, Content, find, size, count as count_of}
+use Rattle.data_model.specs.Trees.{Trees, find, size, count as count_of}
 use Rattle.data_model.specs.Walks.{root_of}
 use Rattle.data_model.specs.declared.axis.Axis.{Axis}
 use Rattle.data_model.specs.declared.node.Kind.{Kind}
@@ -44,7 +38,6 @@ use Rattle.query_grammar.specs.declared.ast.Binary.TheVariants as binary
 use Rattle.query_grammar.specs.declared.ast.Binding.{Binding}
 use Rattle.query_grammar.specs.declared.ast.Clause.{Clause}
 use Rattle.query_grammar.specs.declared.ast.Clause.TheVariants as clause
-use Rattle.query_grammar.specs.declared.ast.Expr.{Expr}
 use Rattle.query_grammar.specs.declared.ast.Name.{Name}
 use Rattle.query_grammar.specs.declared.ast.Name.TheVariants.{Written, Computed}
 use Rattle.query_grammar.specs.declared.ast.NodeTest.{NodeTest}
@@ -53,9 +46,8 @@ use Rattle.query_grammar.specs.declared.ast.Quantifier.{Quantifier}
 use Rattle.query_grammar.specs.declared.ast.Sign.{Sign}
 use Rattle.query_grammar.specs.declared.ast.Sign.TheVariants.{Plus, Minus}
 use Rattle.query_grammar.specs.declared.ast.SortKey.{SortKey}
-use Rattle.query_meaning.specs.Running.{Run, M, trees_of, pure, ◌>>=◌, come_to, atoms, each, turn, adding, joined, most_items}
+use Rattle.query_meaning.specs.Running.{Run, M, trees_of, pure, ◌>>=◌, come_to, atoms, each, turn, joined, most_items}
 use Rattle.query_meaning.specs.Environment.{Environment, Focus, Bound, no_environment, value_in, with_variable, with_focus}
-use Rattle.query_meaning.specs.Meaning.{mean}
 use Rattle.query_meaning.specs.Sequences as sequences
 use Rattle.query_meaning.specs.Sequences.{Meaning, one, focus_of, Tuple}
 use Rattle.query_meaning.specs.Operators as operators
@@ -67,11 +59,10 @@ use Rattle.query_meaning.specs.Strings.{limited, one_text, spaced, separated, te
 use Rattle.meaning_laws.specs.Given.{Stands, AllStand}
 use Rattle.meaning_laws.proofs.Keeps.{Each, no_value}
 use Rattle.static_checks.specs.Parts.{source_of}
-use Rattle.meaning_laws.proofs.Expressions.{Forms}
-use Rattle.meaning_laws.proofs.Expressions as expressions
 use Rattle.meaning_laws.proofs.Nodes.{nodes_stand, listed, filtered as in_filter, members, root_stands}
-use Rattle.meaning_laws.proofs.Sound.{same_value, fault_, both_stand, IsAbove, same_run, up, Holds, IsStable, Any, pure_, fault_, come, come_any, see, bind, loop, turn_, turns_, add, Upto, Given, stands_up, stand_up, upto_up, given_up, no_items, one_item, limit, join, AreThere}
-use Rattle.meaning_laws.proofs.Fresh.{content_made, text_made, made_sound, leaf_sound, assembled_sound}
+use Rattle.meaning_laws.proofs.Sound.{same_value, fault_, both_stand, IsAbove, same_run, up, Holds, IsStable, Any, pure_, fault_, come, come_any, see}
+use Rattle.meaning_laws.proofs.Sound.{bind, loop, turn_, turns_, hold, both_counted, Upto, Given, stands_up, stand_up, upto_up, given_up, no_items, one_item, limit, join, AreThere}
+use Rattle.meaning_laws.proofs.Fresh.{leaf_sound, assembled_sound}
 
 abbrev FocusStands : Run → Option Focus → Type 0
 FocusStands run None = Unit {0}
@@ -85,7 +76,7 @@ pub record Knows (run : Run) (env : Environment) : Type 0 where
 pub knows_nothing : (run : Run) → Knows run no_environment
 knows_nothing run = record { focus = tt; variables = tt }
 
-knows_up : IsStable Environment Knows
+pub knows_up : IsStable Environment Knows
 knows_up a b env k h = record { focus = focus env.focus h.focus; variables = variables env.variables h.variables }
   where
     focus : (o : Option Focus) → FocusStands a o → FocusStands b o
@@ -134,10 +125,10 @@ among : {A : Type 0} (P : A → Type 0) (run : Run) (env : Environment) → Know
 among P run env h [] g = tt
 among P run env h (x ∷ xs) g = ((h, g.0), among P run env h xs g.1)
 
-any_up : {A : Type 0} → IsStable A Any
+pub any_up : {A : Type 0} → IsStable A Any
 any_up a b x k h = tt
 
-all_any : {A : Type 0} (run : Run) (xs : List A) → Each (Any {A = A} run) xs
+pub all_any : {A : Type 0} (run : Run) (xs : List A) → Each (Any {A = A} run) xs
 all_any run [] = tt
 all_any run (x ∷ xs) = (tt, all_any run xs)
 
@@ -287,10 +278,11 @@ atoms_from ts (x ∷ xs) values e = of (atom_of ts x) (atomized ts xs) refl (ato
     of (Err c) s is few e = absurd (no_value c values e)
 
 few_atoms : {r : Run} (items : List Item) → Holds r (List Atom) (λ b values. length values ≤ length items) (atoms items)
-few_atoms {r = r} items = record { holds = λ run s k p e. (come {r = r} (atomized (trees_of run) items) (λ values is b j. atoms_from (trees_of run) items values is)).holds run s k p e }
+few_atoms {r = r} items = hold (λ aside run s k p e.
+    ((come {r = r} (atomized (trees_of run) items) (λ values is b j. atoms_from (trees_of run) items values is)).holds aside).passes run s k p e)
 
-any_atoms : {r : Run} (items : List Item) → Holds r (List Atom) Any (atoms items)
-any_atoms {r = r} items = record { holds = λ run s k p e. (come_any {r = r} (atomized (trees_of run) items)).holds run s k p e }
+pub any_atoms : {r : Run} (items : List Item) → Holds r (List Atom) Any (atoms items)
+any_atoms {r = r} items = hold (λ aside run s k p e. ((come_any {r = r} (atomized (trees_of run) items)).holds aside).passes run s k p e)
 
 key_in : {r : Run} (env : Environment) (given : List (Option Atom)) (key : SortKey Meaning) → GoodKey key → Knows r env → Holds r (List (Option Atom)) Any (sequences.key_in env given key)
 key_in {r = r} env given key g h =
@@ -351,9 +343,9 @@ integers_given None = no_items
 integers_given (Some z) = atom_given (atom.Integer z)
 
 compared_by_pairs : (op : Comparison) → GivesBoth (operators.compared_by_pairs op)
-compared_by_pairs op r xs ys = record {
-  holds = λ run s k p e. (bind {r = r} (come_any (general_compared op xs ys run.turns)) (λ b _ t _. bind (turns_ (tried (pairs_compared op xs ys))) (λ c _ _ _. one_atom (atom.Boolean t)))).holds run s k p e;
-}
+compared_by_pairs op r xs ys = hold (λ aside run s k p e.
+    ((bind {r = r} (come_any (general_compared op xs ys run.turns)) (λ b _ t _.
+    bind (turns_ (tried (pairs_compared op xs ys))) (λ c _ _ _. one_atom (atom.Boolean t)))).holds aside).passes run s k p e)
 
 compared_by_value : (op : Comparison) → GivesBoth (operators.compared_by_value op)
 compared_by_value op r xs ys = bind (come_any (value_compared op xs ys)) (λ b k o _. pure_ (operators.booleans o) (λ c j. booleans_given o))
@@ -448,7 +440,8 @@ signed signs m g r env h = bind (bind (g r env h) (λ b _ items _. any_atoms ite
 -- Paths.
 
 weaken : {r : Run} {A : Type 0} {Q S : Run → A → Type 0} {m : M A} → Holds r A Q m → ((b : Run) (a : A) → Q b a → S b a) → Holds r A S m
-weaken h f = record { holds = λ run s k p e. (let z = h.holds run s k p e in record { sound = z.sound; above = z.above; value = f p.1 p.0 z.value }) }
+weaken h f = hold (λ aside run s k p e.
+    (let z = (h.holds aside).passes run s k p e in record { sound = z.sound; above = z.above; value = f p.1 p.0 z.value }))
 
 upto_more : (n m : ℕ) (b : Run) (items : List Item) → n ≤ m → Upto n b items → Upto m b items
 upto_more n m b items le h = record { few = (let f = h.few in omega (arith, f, le)); stand = h.stand }
@@ -519,7 +512,7 @@ all_found {r = r} found xs h =
 concluded : {r : Run} (is : List ℕ) (values : List Atom) → length is + length values ≤ most_items → Holds r (List Item) Given (paths.concluded is values)
 concluded is [] h = see (λ ts. operators.nodes (filter (λ i. is_in i is) (identities ts))) (λ b s k. record {
   few =
-      (let m = members is (identities (trees_of b)) (λ i. subst (λ n. n ≤ 1) (sym (held-identities i (trees_of b))) (s.once i)) in
+      (let m = members is (identities (trees_of b)) (λ i. subst (λ n. n ≤ 1) (sym (held-identities i (trees_of b))) (s i)) in
       let l = length-map (filter (λ i. is_in i is) (identities (trees_of b))) (λ i. item.Node i) in omega (arith, m, l, h));
   stand = nodes_stand (trees_of b) _ (in_filter (trees_of b) (λ i. is_in i is) (identities (trees_of b)) (listed (trees_of b)));
 })
@@ -578,12 +571,19 @@ document_there ts name (d ∷ ds) i h e = of (bytes_eq name d.0) (document_there
     of true k e = subst (λ j. 0 < count_of j ts) (same_Some d.1 i e) h.0
     of false k e = k e
 
+-- the run's documents stand
+documents_stand : (run : Run) (name : List ℕ) (i : ℕ) → AreThere run.shelf.lent.trees run.shelf.lent.documents
+    → or_fault code.FODC0002 (functions.document_in name run.shelf.lent.documents) ≡ Ok i → 0 < count_of i (trees_of run)
+documents_stand run name i there e =
+    let found = found_value code.FODC0002 (functions.document_in name run.shelf.lent.documents) i e in
+    let stands = document_there run.shelf.lent.trees name run.shelf.lent.documents i there found in
+    omega (arith, both_counted i run.shelf.lent.trees run.shelf.own.trees, stands)
+
 document : {r : Run} (name : List ℕ) → Holds r (List Item) Given (functions.document name)
-document {r = r} name = record {
-  holds = λ run s k p e.
-      (bind {r = run} (come {Q = λ b i. 0 < count_of i (trees_of b)} (or_fault code.FODC0002 (functions.document_in name run.shelf.lent.documents)) (λ i w b j. j.stand i (let c = weigh-append (λ x. cond (eqb i x) 1 0) run.shelf.lent.trees run.shelf.own.trees in let d = document_there run.shelf.lent.trees name run.shelf.lent.documents i s.documents (found_value code.FODC0002 (functions.document_in name run.shelf.lent.documents) i w) in omega (arith, c, d))))
-      (λ b j i there. pure_ (item.Node i ∷ []) (λ c l. one_item (item.Node i) (l.stand i there)))).holds run s same_run p e;
-}
+document name = hold (λ aside run s k p e.
+    ((bind {r = run} (come {Q = λ b i. 0 < count_of i (trees_of b)} (or_fault code.FODC0002 (functions.document_in name run.shelf.lent.documents))
+    (λ i w b j. j.stand i (documents_stand run name i s.documents w)))
+    (λ b j i there. pure_ (item.Node i ∷ []) (λ c l. one_item (item.Node i) (l.stand i there)))).holds aside).passes run s same_run p e)
 
 doc_of : {r : Run} (xs : List Atom) → Holds r (List Item) Given (functions.doc_of xs)
 doc_of [] = pure_ [] (λ b k. no_items)
@@ -769,13 +769,7 @@ call name ms gs r env h =
 
 -- Constructors.
 
-any_content : {r : Run} (items : List Item) → Holds r Trees Any (contents.content items)
-any_content items = record { holds = λ run s k p e. made_sound run p s (content_made items run p e) }
-
-any_text : {r : Run} (text : List ℕ) → Holds r Trees Any (contents.new_text text)
-any_text text = record { holds = λ run s k p e. made_sound run p s (text_made text run p e) }
-
-named : {r : Run} (kind : Kind) (m : Meaning) → Good m → (env : Environment) → Knows r env → Holds r (List ℕ) Any (constructors.named kind m env)
+pub named : {r : Run} (kind : Kind) (m : Meaning) → Good m → (env : Environment) → Knows r env → Holds r (List ℕ) Any (constructors.named kind m env)
 named {r = r} kind m g env h = bind (g r env h) (λ b _ items _. bind (any_atoms items) (λ c _ values _. bind (come_any (one_text values)) (λ d _ text _. come_any (constructors.name_for kind text))))
 
 abbrev pub GoodName : Name Meaning → Type 0
@@ -814,121 +808,3 @@ comment m g r env h = bind (text_of m g env h) (λ b _ given _. bind (come_any (
 pub instruction : (n : Name Meaning) (m : Meaning) → GoodName n → Good m → Good (constructors.instruction n m)
 instruction n m gn g r env h =
     bind (name_of kind.Instruction n gn env h) (λ b k name _. bind (text_of m g env (knows_up r b env k h)) (λ c _ given _. bind (come_any (constructors.instruction_text given)) (λ d _ text _. with_text kind.Instruction name text)))
-
--- Updating expressions, which give no items.
-
-nothing : {r : Run} → Holds r (List Item) Given (pure [])
-nothing = pure_ [] (λ b k. no_items)
-
-must : {r : Run} (b : Bool) (e : Code) → Holds r (Unit {0}) Any (updates.must b e)
-must true e = pure_ tt (λ b k. tt)
-must false e = come_any (Err e)
-
-target_of : {r : Run} (may : Kind → Bool) (e : Code) (items : List Item) → Holds r Standing Any (updates.target_of may e items)
-target_of may e [] = come_any (Err code.XUDY0027)
-target_of may e (item.Node i ∷ []) = bind (see {Q = Any} (find i) (λ b s k. tt)) (λ b _ x _. come_any (updates.of_kinds may e x))
-target_of may e (item.Node i ∷ x ∷ xs) = come_any (Err e)
-target_of may e (item.Atomic a ∷ xs) = come_any (Err e)
-
-adding_trees : {r : Run} (g : Trees → PrimitiveTerm) (us : Trees) → Holds r (Unit {0}) Any (updates.adding_trees g us)
-adding_trees g no_trees = pure_ tt (λ b k. tt)
-adding_trees g (tree x bs cs rest) = add (g (tree x bs cs rest))
-
-adding_insertions : {r : Run} (i : ℕ) (g : Trees → PrimitiveTerm) (us : Trees) → Holds r (List Item) Given (updates.adding_insertions i g us)
-adding_insertions i g us = bind (adding_trees (insert_attributes i) (contents.attributes us)) (λ b _ _ _. bind (adding_trees g (contents.others us)) (λ c _ _ _. nothing))
-
-inserted_into : {r : Run} (g : ℕ → Trees → PrimitiveTerm) (us : Trees) (items : List Item) → Holds r (List Item) Given (updates.inserted_into g us items)
-inserted_into g us items =
-    bind (target_of updates.has_children code.XUTY0005 items) (λ b _ (x : Standing) _.
-    bind (must (updates.is_none (contents.attributes us) || not (is_document x.content.kind)) code.XUTY0022) (λ c _ _ _. adding_insertions x.content.identity (g x.content.identity) us))
-
-inserted_beside : {r : Run} (g : ℕ → Trees → PrimitiveTerm) (us : Trees) (items : List Item) → Holds r (List Item) Given (updates.inserted_beside g us items)
-inserted_beside g us items =
-    bind (target_of updates.may_be_sibling code.XUTY0006 items) (λ b _ (x : Standing) _. bind (come_any (or_fault code.XUDY0029 x.parent)) (λ c _ parent _. bind (see {Q = Any} (find parent) (λ d s k. tt)) (λ d _ above _.
-    bind (must (updates.is_none (contents.attributes us) || not (updates.is_document_at above)) code.XUDY0030) (λ e _ _ _. adding_insertions parent (g x.content.identity) us))))
-
-inserted : {r : Run} (at : Place) (us : Trees) (items : List Item) → Holds r (List Item) Given (updates.inserted at us items)
-inserted place.Into us items = inserted_into insert_into us items
-inserted place.FirstInto us items = inserted_into insert_into_as_first us items
-inserted place.LastInto us items = inserted_into insert_into_as_last us items
-inserted place.Before us items = inserted_beside insert_before us items
-inserted place.After us items = inserted_beside insert_after us items
-
-pub insert : (source : Meaning) (at : Place) (target : Meaning) → Good source → Good target → Good (updates.insert source at target)
-insert source at target gs gt r env h =
-    bind (gs r env h) (λ b k items _. bind (any_content items) (λ c j us _. bind (must (contents.has_attributes_first us) code.XUTY0004) (λ d l _ _. bind (gt d env (knows_up r d env (up k (up j l)) h)) (λ e _ found _. inserted at us found))))
-
-pub delete : (target : Meaning) → Good target → Good (updates.delete target)
-delete target g r env h =
-    bind (g r env h) (λ b k items _. bind (come_any (operators.all_nodes code.XUTY0007 items))
-    (λ c _ is _. loop {P = Any} {f = λ _ given i. adding (delete_node i) >>= (λ _. pure given)} any_up given_up (λ n d given i v _. bind (add (delete_node i)) (λ e j _ _. pure_ given (λ o l. given_up d o given (up j l) v))) 0 c is (all_any c is) [] no_items))
-
-replaces : {r : Run} (kind : Kind) (us : Trees) → Holds r (Unit {0}) Any (updates.replaces kind us)
-replaces kind.Attribute us = must (contents.are_all contents.is_attribute us) code.XUTY0011
-replaces kind.Document us = must (contents.are_all contents.is_other us) code.XUTY0010
-replaces kind.Element us = must (contents.are_all contents.is_other us) code.XUTY0010
-replaces kind.Text us = must (contents.are_all contents.is_other us) code.XUTY0010
-replaces kind.Comment us = must (contents.are_all contents.is_other us) code.XUTY0010
-replaces kind.Instruction us = must (contents.are_all contents.is_other us) code.XUTY0010
-
-pub replace_node : (target source : Meaning) → Good target → Good source → Good (updates.replace_node target source)
-replace_node target source gt gs r env h =
-    bind (gt r env h) (λ b k found _. bind (target_of updates.may_be_replaced code.XUTY0008 found) (λ c j (x : Standing) _. bind (must (is_some x.parent) code.XUDY0009) (λ d l _ _.
-    bind (gs d env (knows_up r d env (up k (up j l)) h)) (λ e _ items _. bind (any_content items) (λ o _ us _. bind (replaces x.content.kind us) (λ y _ _ _. bind (add (replace_by x.content.identity us)) (λ z _ _ _. nothing)))))))
-
-new_text_of : {r : Run} (values : List Atom) → Holds r Trees Any (updates.text_of_values values)
-new_text_of [] = pure_ no_trees (λ b k. tt)
-new_text_of (a ∷ more) = bind (come_any (spaced (a ∷ more))) (λ b _ text _. any_text text)
-
-value_replaced : {r : Run} (x : Content) (us : Trees) → Holds r (List Item) Given (updates.value_replaced x us)
-value_replaced x us = bind (come_any (updates.text_for x.kind (updates.first_text us))) (λ b _ text _. bind (add (replace_text x.identity text)) (λ c _ _ _. nothing))
-
-content_replaced : {r : Run} (x : Content) (us : Trees) → Holds r (List Item) Given (updates.content_replaced x us)
-content_replaced x us = bind (add (replace_element_content x.identity us)) (λ b _ _ _. nothing)
-
-either : {r : Run} (b : Bool) (x : Content) (us : Trees) → Holds r (List Item) Given (if b then updates.content_replaced x us else updates.value_replaced x us)
-either true x us = content_replaced x us
-either false x us = value_replaced x us
-
-pub replace_value : (target source : Meaning) → Good target → Good source → Good (updates.replace_value target source)
-replace_value target source gt gs r env h =
-    bind (gt r env h) (λ b k found _. bind (target_of updates.may_be_replaced code.XUTY0008 found) (λ c j (x : Standing) _.
-    bind (gs c env (knows_up r c env (up k j) h)) (λ d _ items _. bind (any_atoms items) (λ e _ values _. bind (new_text_of values) (λ o _ us _. either _ x.content us)))))
-
-pub rename : (target name : Meaning) → Good target → Good name → Good (updates.rename target name)
-rename target name gt gn r env h =
-    bind (gt r env h) (λ b k found _. bind (target_of updates.has_name code.XUTY0012 found) (λ c j (x : Standing) _.
-    bind (named x.content.kind name gn env (knows_up r c env (up k j) h)) (λ d _ given _. bind (add (rename_to x.content.identity given)) (λ e _ _ _. nothing))))
-
-forms : Forms Good
-forms = record {
-  number = number;
-  string = string;
-  variable = variable;
-  context_item = context_item;
-  sequence = sequence;
-  call = call;
-  document_node = document_node;
-  element = element;
-  attribute = attribute;
-  text = text;
-  comment = comment;
-  instruction = instruction;
-  axis_step = axis_step;
-  filter_of = filter_of;
-  path = path;
-  signed = signed;
-  chain = chain;
-  conditional = conditional;
-  quantified = quantified;
-  flwor = flwor;
-  insert = insert;
-  delete = delete;
-  replace_node = replace_node;
-  replace_value = replace_value;
-  rename = rename;
-  copy = λ r env h. fault_ code.XPST0003;
-}
-
-pub every : (x : Expr) → Good (mean x)
-every = expressions.every Good forms

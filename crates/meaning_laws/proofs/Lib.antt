@@ -11,4 +11,5 @@ pub mod Sound
 pub mod Nodes
 pub mod Fresh
 pub mod Giving
+pub mod Bringing
 pub mod Numbering

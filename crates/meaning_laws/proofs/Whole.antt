@@ -1,20 +1,22 @@
 -- A whole evaluation.
-use Rattle.std.proofs.Common.{◌≡◌, ◌≤◌, ◌<◌, ◌+◌, ℕ, eqb, cond, List, [], ◌∷◌, length, Option, Some, None, IsSome, Result, Ok, Err, ap, subst, sym, refl, arith}
+use Rattle.std.proofs.Common.{◌≡◌, ◌≤◌, ◌<◌, ◌+◌, ℕ, List, [], ◌∷◌, length, Option, Some, None, IsSome, Result, Ok, Err, ap, subst, sym, refl, arith}
 use Rattle.trees.specs.Forest.{ForestTerm, IsForest, AreDocuments}
-use Rattle.data_model.specs.Trees.{Trees, Place, append, count, find, IsAt}
+use Rattle.data_model.specs.Trees.{Trees, no_trees, Place, append, count, find, IsAt}
 use Rattle.data_model.specs.declared.node.Kind.TheVariants.{Document}
 use Rattle.data_model.proofs.Climbs.{there-counts}
-use Rattle.data_model.proofs.Weights.{append-none, weigh-append}
+use Rattle.data_model.proofs.Weights.{append-none}
 use Rattle.fault_codes.specs.declared.code.Code.{Code}
 use Rattle.values.specs.declared.atom.Item.{Item}
 use Rattle.query_grammar.specs.declared.ast.Expr.{Expr}
 use Rattle.query_meaning.specs.Environment.{no_environment}
 use Rattle.query_meaning.specs.Meaning.{mean, evaluated, start, outcome, Outcome}
 use Rattle.query_meaning.specs.Running.{Run, most_nodes, most_items}
+use Rattle.update_meaning.specs.Brought.{new_trees}
 use Rattle.meaning_laws.proofs.Updating.{every}
 use Rattle.meaning_laws.specs.Given.{AllStand}
-use Rattle.meaning_laws.proofs.Giving.{knows_nothing, every as given}
-use Rattle.meaning_laws.proofs.Sound.{IsSound, AreThere, Ends, Given, same_run, same_value}
+use Rattle.meaning_laws.proofs.Giving.{knows_nothing}
+use Rattle.meaning_laws.proofs.Bringing.{every as given}
+use Rattle.meaning_laws.proofs.Sound.{IsSound, AreThere, Ends, Given, same_run, same_value, both_counted}
 use Rattle.meaning_laws.proofs.Keeps.{no_value}
 use Rattle.meaning_laws.proofs.Steady.{Numbers, numbers, same_forest, SameForest}
 
@@ -48,42 +50,77 @@ all_there ts (d ∷ ds) h = (there (find d.1 ts) refl h.0.1, all_there ts ds h.1
     there None e k = absurd k
     there (Some x) e k = there-counts d.1 ts (subst IsSome (sym e) refl)
 
-start_sound : (lent : ForestTerm) → IsForest lent → IsSound (start lent)
+start_sound : (lent : ForestTerm) → IsForest lent → IsSound (λ i. 0) (start lent)
 start_sound lent h = record {
-  once = λ i. subst (λ ts. count i ts ≤ 1) (sym (append-none lent.trees)) (h.distinct i);
-  below = λ i there. h.below i (subst (λ ts. 0 < count i ts) (append-none lent.trees) there);
+  once = λ i. omega (arith, same i, h.distinct i);
+  below = λ i there. h.below i (omega (arith, same i, there));
   fresh = λ i there. absurd (omega (arith, there));
   started = omega arith;
   documents = all_there lent.trees lent.documents h.standing;
 }
+  where
+    same : (i : ℕ) → count i (append lent.trees no_trees) ≡ count i lent.trees
+    same i = ap (count i) (append-none lent.trees)
 
 -- what stands after an evaluation
 pub record Stands (lent : ForestTerm) (o : Outcome) : Type 0 where
   pub few : length o.items ≤ most_items
   pub stand : AllStand (append lent.trees o.trees) o.items
-  pub new : (i : ℕ) → (count i (append lent.trees o.trees) ≤ 1) × (0 < count i o.trees → (lent.next ≤ i) × (i < o.next))
+  pub new : (i : ℕ) → (count i (append lent.trees (append o.trees (new_trees o.primitives))) ≤ 1)
+      × (0 < count i (append o.trees (new_trees o.primitives)) → (lent.next ≤ i) × (i < o.next))
 
-of_run : (lent : ForestTerm) (p : List Item × Run) → p.1.shelf.lent ≡ lent → Ends (List Item) Given (start lent) p
-    → Stands lent (record { items = p.0; primitives = p.1.primitives; trees = p.1.shelf.own.trees; next = p.1.shelf.own.next })
+abbrev given_by : List Item × Run → Outcome
+given_by p = record { items = p.0; primitives = p.1.primitives; trees = p.1.shelf.own.trees; next = p.1.shelf.own.next }
+
+three_counted : (i : ℕ) (ts us vs : Trees) → count i (append ts (append us vs)) ≡ count i ts + count i us + count i vs
+three_counted i ts us vs = omega (arith, both_counted i ts (append us vs), both_counted i us vs)
+
+-- the new trees of a run, and those that its primitives bring
+abbrev new_in : Run → Trees
+new_in run = append run.shelf.own.trees (new_trees run.primitives)
+
+once_each : (run : Run) → IsSound (λ i. 0) run → (i : ℕ) → count i (append run.shelf.lent.trees (new_in run)) ≤ 1
+once_each run s i =
+    let stood = both_counted i run.shelf.lent.trees run.shelf.own.trees in
+    omega (arith, three_counted i run.shelf.lent.trees run.shelf.own.trees (new_trees run.primitives), stood, s.once i)
+
+in_range : (run : Run) → IsSound (λ i. 0) run → (i : ℕ) → 0 < count i (new_in run) → (run.shelf.lent.next ≤ i) × (i < run.shelf.own.next)
+in_range run s i there =
+    let new = both_counted i run.shelf.own.trees (new_trees run.primitives) in
+    let stood = both_counted i run.shelf.lent.trees run.shelf.own.trees in
+    (s.fresh i (omega (arith, new, there)), s.below i (omega (arith, new, stood, there)))
+
+of_run : (lent : ForestTerm) (p : List Item × Run) → p.1.shelf.lent ≡ lent → Ends (List Item) Given (λ _ i. 0) (start lent) p
+    → Stands lent (given_by p)
 of_run lent p same e = record {
   few = e.value.few;
   stand = subst (λ (f : ForestTerm). AllStand (append f.trees p.1.shelf.own.trees) p.0) same e.value.stand;
   new = λ i. (
-    subst (λ (f : ForestTerm). count i (append f.trees p.1.shelf.own.trees) ≤ 1) same (e.sound.once i),
-    λ there. (
-      subst (λ (f : ForestTerm). f.next ≤ i) same (e.sound.fresh i there),
-      e.sound.below i (let c = weigh-append (λ j. cond (eqb i j) 1 0) p.1.shelf.lent.trees p.1.shelf.own.trees in omega (arith, c, there)),
-    ),
+    subst (λ (f : ForestTerm). count i (append f.trees (new_in p.1)) ≤ 1) same (once_each p.1 e.sound i),
+    λ there. (let range = in_range p.1 e.sound i there in (subst (λ (f : ForestTerm). f.next ≤ i) same range.0, range.1)),
   );
 }
 
 standing_of : (x : Expr) (lent : ForestTerm) (o : Outcome) (r : Result (List Item × Run) Code) → IsForest lent → mean x no_environment (start lent) ≡ r → outcome r ≡ Ok o → Stands lent o
 standing_of x lent o (Ok p) h e w =
-    let ends = (given x (start lent) no_environment (knows_nothing (start lent))).holds (start lent) (start_sound lent h) same_run p e in
+    let knows = knows_nothing (start lent) in
+    let ends = ((given x (start lent) no_environment knows).holds (λ i. 0)).passes (start lent) (start_sound lent h) same_run p e in
     let same = (every SameForest same_forest x no_environment).kept (start lent) p e in
-    subst (Stands lent) (same_value (record { items = p.0; primitives = p.1.primitives; trees = p.1.shelf.own.trees; next = p.1.shelf.own.next }) o w) (of_run lent p same ends)
+    subst (Stands lent) (same_value (given_by p) o w) (of_run lent p same ends)
 standing_of x lent o (Err c) h e w = absurd (no_value c o w)
 
 pub standing : (x : Expr) (lent : ForestTerm) (o : Outcome) → IsForest lent → evaluated x lent ≡ Ok o → Stands lent o
 unfolding evaluated
 standing x lent o h w = standing_of x lent o (mean x no_environment (start lent)) h refl w
+
+-- the new trees alone, without those that primitives bring
+own_of_standing : (lent : ForestTerm) (o : Outcome) → Stands lent o
+    → (i : ℕ) → (count i (append lent.trees o.trees) ≤ 1) × (0 < count i o.trees → (lent.next ≤ i) × (i < o.next))
+own_of_standing lent o s i =
+    let all = three_counted i lent.trees o.trees (new_trees o.primitives) in
+    let more = both_counted i o.trees (new_trees o.primitives) in
+    (omega (arith, both_counted i lent.trees o.trees, all, (s.new i).0), λ there. (s.new i).1 (omega (arith, more, there)))
+
+pub own_trees : (x : Expr) (lent : ForestTerm) (o : Outcome) → IsForest lent → evaluated x lent ≡ Ok o
+    → (i : ℕ) → (count i (append lent.trees o.trees) ≤ 1) × (0 < count i o.trees → (lent.next ≤ i) × (i < o.next))
+own_trees x lent o h w = own_of_standing lent o (standing x lent o h w)

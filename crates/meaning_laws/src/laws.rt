@@ -15,6 +15,7 @@ ghost use Rattle.query_meaning.specs.Content.{content};
 ghost use Rattle.query_meaning.specs.Paths.{path};
 ghost use Rattle.query_meaning.specs.Running.{Run, trees_of, most_nodes, most_items};
 ghost use Rattle.query_meaning.specs.Sequences.{Meaning, sequence};
+ghost use Rattle.update_meaning.specs.Brought.{new_trees};
 ghost use Rattle.meaning_laws.specs.Given.{AllStand};
 ghost use Rattle.meaning_laws.specs.Order.{IsInOrder, IsAtomic};
 
@@ -43,6 +44,13 @@ pub fn identities_are_limited()
 pub fn identities_are_new()
     ensures { (x : Expr) (lent : ForestTerm) (o : Outcome) → IsForest lent → evaluated x lent ≡ Ok o
         → (i : ℕ) → (count i (append lent.trees o.trees) ≤ 1) × (0 < count i o.trees → (lent.next ≤ i) × (i < o.next)) }
+{}
+
+/// What update primitives bring has identities of its own too: no other new node, no stored one and no other primitive has them.
+pub fn primitives_bring_new_nodes()
+    ensures { (x : Expr) (lent : ForestTerm) (o : Outcome) → IsForest lent → evaluated x lent ≡ Ok o
+        → (i : ℕ) → (count i (append lent.trees (append o.trees (new_trees o.primitives))) ≤ 1)
+        × (0 < count i (append o.trees (new_trees o.primitives)) → (lent.next ≤ i) × (i < o.next)) }
 {}
 
 /// Copied content takes the identities from the next one on, in document order and without a gap.

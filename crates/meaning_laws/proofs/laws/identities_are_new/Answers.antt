@@ -1,5 +1,5 @@
-use Rattle.meaning_laws.proofs.Whole.{standing}
+use Rattle.meaning_laws.proofs.Whole.{own_trees}
 use Rattle.meaning_laws.proofs.laws.identities_are_new.Goals as goal
 
 pub returns : goal.returns
-returns c = λ x lent o forest h. (standing x lent o forest h).new
+returns c = own_trees
