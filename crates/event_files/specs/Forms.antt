@@ -5,8 +5,7 @@ use Rattle.std.specs.Option.{option_map}
 use Rattle.std.specs.Str.{bytes_eq, is_utf8}
 use Rattle.ballots.specs.Terms.{Request as RequestTerm}
 use Rattle.document_names.specs.Names.{are_document_names}
-use Rattle.query_forms.specs.Forms.{◌>>=◌}
-use Rattle.line_parts.specs.Parts.{has_text_length, is_space, number_below}
+use Rattle.line_parts.specs.Parts.{has_text_length, is_space, number_below, ◌>>=◌}
 use Rattle.world.specs.declared.event.Event.TheVariants as event
 use Rattle.world.specs.declared.event.Step.{Step}
 use Rattle.world.specs.declared.event.Step.TheVariants as step

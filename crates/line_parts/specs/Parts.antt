@@ -1,6 +1,7 @@
 -- What parts of lines say.
-use Rattle.std.specs.Prelude.{ℕ, ◌+◌, ◌*◌, ◌-◌, Bool, ◌&&◌, nat_lt, nat_le, ◌==◌, if◌then◌else◌, List, length, fold, Option, Some, None}
-use Rattle.std.specs.List.{list_all}
+use Rattle.std.specs.Prelude.{ℕ, ◌+◌, ◌*◌, ◌-◌, Bool, ◌&&◌, nat_eq, nat_lt, nat_le, ◌==◌, if◌then◌else◌, List, length, drop, fold, Option, Some, None}
+use Rattle.std.specs.List.{list_all, starts_with}
+use Rattle.std.specs.Option.{option_and_then}
 use Rattle.document_names.specs.Characters.{is_digit}
 
 -- the number that digits stand for
@@ -18,3 +19,12 @@ is_space b = b == 32
 -- 1 to 4,096 bytes
 abbrev pub has_text_length : List ℕ → Bool
 has_text_length text = nat_lt 0 (length text) && nat_le (length text) 4096
+
+-- what stands after that beginning, of a text that begins so
+unfoldable pub text_after : List ℕ → List ℕ → Option (List ℕ)
+text_after beginning text = if starts_with nat_eq text beginning then Some (drop (length beginning) text) else None
+
+infixl 10 ◌>>=◌
+-- what the function makes of the value, where there is one
+abbrev pub ◌>>=◌ : {A B : Type 0} → Option A → (A → Option B) → Option B
+o >>= f = option_and_then f o

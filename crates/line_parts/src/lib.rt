@@ -3,4 +3,7 @@
 
 mod parts;
 
-pub use parts::{cut_at, has_text_length, new_request, read_client, read_names, read_number};
+pub use parts::{
+    cut_at, has_text_length, new_request, read_client, read_floor, read_names, read_number,
+    text_after,
+};

@@ -2,11 +2,12 @@
 
 ghost use Rattle.std.specs.Prelude.{◌≡◌, ◌==◌, ◌≤◌, ◌<◌, ◌^◌, false, true, length, map, string_bytes, IfOk, IsErrOf, OnOk};
 ghost use Rattle.std.specs.List.{after_first, before_first, list_all, slice_split};
+ghost use Rattle.std.specs.Option.{option_copied};
 ghost use Rattle.document_names.specs.Characters.{is_digit};
 ghost use Rattle.document_names.specs.Names.{are_document_names};
-ghost use Rattle.line_parts.specs.Parts.{has_text_length, is_space, number_below};
+ghost use Rattle.line_parts.specs.Parts.{has_text_length, is_space, number_below, text_after};
 
-use ballots::limits::MOST_BYTES;
+use ballots::limits::{MOST_BYTES, POSITIONS};
 use ballots::{Request, RequestFault};
 use document_names::{Names, NamesFault};
 use std::alloc::{AllocError, Global};
@@ -25,6 +26,13 @@ pub fn cut_at(mark: char, text: &str) -> (&str, &str)
         Some(parts) => parts,
         None => (text, ""),
     }
+}
+
+/// What follows `beginning`, of a text that begins so.
+pub fn text_after<'a>(beginning: &str, text: &'a str) -> Option<&'a str>
+    ensures { option_copied result ≡ text_after beginning.now text.now }
+{
+    text.strip_prefix(beginning)
 }
 
 /// A request of a text that is not too long, at the language level 1. It fails where memory is refused.
@@ -59,6 +67,16 @@ pub fn read_client(digits: &str) -> Option<u32>
         digits.parse::<u32>().ok()
     } else {
         None
+    }
+}
+
+/// A number of positions, up to 1,000,000, in decimal and without a sign; leading zeros are taken.
+pub fn read_floor(digits: &str) -> Option<u32>
+    ensures { result ≡ number_below 1000001 digits.now }
+{
+    match read_client(digits) {
+        Some(floor) if floor <= POSITIONS => Some(floor),
+        _ => None,
     }
 }
 

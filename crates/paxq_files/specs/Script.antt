@@ -1,16 +1,16 @@
 -- The script that a text is: lines that end with line feeds, each a command.
-use Rattle.std.specs.Prelude.{ℕ, ◌+◌, ◌*◌, ◌^◌, ◌-◌, Bool, ◌&&◌, not, nat_lt, nat_le, ◌==◌, if◌then◌else◌, List, [], ◌∷◌, ◌++◌, length, filter, fold, codes, Option, Some, None, is_some}
+use Rattle.std.specs.Prelude.{ℕ, ◌^◌, Bool, ◌&&◌, not, nat_lt, ◌==◌, if◌then◌else◌, List, [], ◌∷◌, ◌++◌, length, filter, codes, Option, Some, None}
 use Rattle.std.specs.Option.{option_map, option_map_or}
-use Rattle.std.specs.List.{list_all, slice_split, before_first, after_first, enumerate_from, starts_with}
+use Rattle.std.specs.List.{slice_split, before_first, after_first, enumerate_from, starts_with}
 use Rattle.document_names.specs.Names.{are_document_names}
-use Rattle.line_parts.specs.Parts.{number_below, is_space, has_text_length}
-use Rattle.query_forms.specs.Forms.{insertion_of, path_of, text_after, ◌>>=◌}
+use Rattle.line_parts.specs.Parts.{number_below, is_space, has_text_length, text_after, ◌>>=◌}
 use Rattle.ballots.specs.Terms.{Request as RequestTerm}
 
 -- what a line asks for
 pub data Command : Type 0 where
   submit : RequestTerm → Command
   ask : List ℕ → Command
+  ask_at : (floor : ℕ) → List ℕ → Command
 
 -- the names of the documents, and the commands in order
 pub record ScriptTerm : Type 0 where
@@ -22,10 +22,10 @@ pub data ScriptRead : Type 0 where
   script : ScriptTerm → ScriptRead
   wrong : ℕ → ScriptRead
 
--- a request at level 1, whose text is an insertion
+-- a request at level 1
 abbrev pub submit_with : ℕ → ℕ → List ℕ → Option Command
 submit_with client number text =
-    if has_text_length text && is_some (insertion_of text) then Some (submit (record { client = client; number = number; level = 1; text = text })) else None
+    if has_text_length text then Some (submit (record { client = client; number = number; level = 1; text = text })) else None
 
 -- `CLIENT NUMBER TEXT`
 abbrev pub submit_of : List ℕ → Option Command
@@ -34,13 +34,20 @@ submit_of parts = do
   number ← number_below (2 ^ 64) (before_first is_space (after_first is_space parts))
   submit_with client number (after_first is_space (after_first is_space parts))
 
--- a question at level 1, which is a path
+-- a question at level 1
 abbrev pub ask_of : List ℕ → Option Command
-ask_of text = if has_text_length text && is_some (path_of text) then Some (ask text) else None
+ask_of text = if has_text_length text then Some (ask text) else None
 
--- `submit CLIENT NUMBER TEXT` or `ask TEXT`
+-- `FLOOR TEXT`: the same, to be answered where so many positions are applied
+abbrev pub ask_at_with : ℕ → List ℕ → Option Command
+ask_at_with floor text = if has_text_length text then Some (ask_at floor text) else None
+
+abbrev pub ask_at_of : List ℕ → Option Command
+ask_at_of parts = number_below 1000001 (before_first is_space parts) >>= λ floor. ask_at_with floor (after_first is_space parts)
+
+-- `submit CLIENT NUMBER TEXT`, `askat FLOOR TEXT` or `ask TEXT`
 unfoldable pub command_of : List ℕ → Option Command
-command_of line = option_map_or submit_of (text_after (codes "submit ") line) (text_after (codes "ask ") line >>= ask_of)
+command_of line = option_map_or submit_of (text_after (codes "submit ") line) (option_map_or ask_at_of (text_after (codes "askat ") line) (text_after (codes "ask ") line >>= ask_of))
 
 -- the names of a line `docs NAME ..`
 abbrev pub docs_of : List ℕ → Option (List (List ℕ))

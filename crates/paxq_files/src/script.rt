@@ -7,11 +7,11 @@ ghost use Rattle.paxq_files.specs.Lines.{lines_after};
 ghost use Rattle.line_parts.specs.Parts.{is_space};
 ghost use Rattle.paxq_files.specs.Script.{after_docs, commands_from, script, script_of};
 
-use crate::line::{read_command, text_after};
+use crate::line::read_command;
 use crate::lines::{Line, first_line};
 use ballots::Request;
 use document_names::{Names, NamesFault};
-use line_parts::read_names;
+use line_parts::{read_names, text_after};
 use std::alloc::{AllocError, Global};
 use std::collections::VecDeque;
 use std::marker::Model;
@@ -23,6 +23,8 @@ pub enum Command {
     Submit(Request),
     /// `ask TEXT`: a question, at the language level 1.
     Ask(String),
+    /// `askat FLOOR TEXT`: the same, to be answered where so many positions are applied.
+    AskAt(u32, String),
 }
 
 /// The documents' names, and the commands in order.
@@ -34,7 +36,7 @@ pub struct Script {
 
 impl Model for Script {
     ghost use Rattle.std.specs.Prelude.{map};
-    ghost use Rattle.paxq_files.specs.Commands.{command_term, AreFormed};
+    ghost use Rattle.paxq_files.specs.Commands.{command_term};
     ghost use Rattle.paxq_files.specs.Script.{ScriptTerm};
     ghost use Rattle.paxq_files.specs.ScriptCode.{script_code};
 
@@ -43,8 +45,6 @@ impl Model for Script {
     ghost coded = { script_code };
 
     ghost view = { λ a. record { names = a.names; commands = map command_term a.commands.items } };
-
-    ghost invariant = { λ a. AreFormed (map command_term a.commands.items) };
 }
 
 /// Why a text is no script.
@@ -67,8 +67,8 @@ impl From<AllocError> for ScriptFault {
 }
 
 impl Script {
-    ghost use Rattle.std.specs.Prelude.{◌≡◌, ◌∷◌, [], MatchOption, IfSome};
-    ghost use Rattle.paxq_files.specs.Commands.{command_term, IsFormed};
+    ghost use Rattle.std.specs.Prelude.{◌≡◌, ◌∷◌, [], MatchOption};
+    ghost use Rattle.paxq_files.specs.Commands.{command_term};
 
     /// The names of the documents, in order.
     pub fn names(&self) -> &Names
@@ -78,12 +78,9 @@ impl Script {
     }
 
     /// Takes the next command out of the script, if there is one.
-    ///
-    /// The text of a request is an insertion, and that of a question a path.
     pub fn next_command(&mut self) -> Option<Command>
         ensures taken { MatchOption result ((self.old.commands ≡ []) × (self.new ≡ self.old))
             (λ command. self.old ≡ record self.new { commands = command_term command ∷ self.new.commands }) }
-        ensures formed { IfSome result (λ command. IsFormed (command_term command)) }
     {
         self.commands.pop_front()
     }
@@ -93,10 +90,9 @@ impl Script {
 ///
 /// Empty lines and lines that begin with `#` are skipped. The first other line may be
 /// `docs NAME ..`, which gives the names of the documents as [`Names`] takes them; without it there
-/// is the one document `db`. Each further line is `submit CLIENT NUMBER TEXT` or `ask TEXT`. Single
-/// spaces stand between the parts. CLIENT (up to 2^32 - 1) and NUMBER (up to 2^64 - 1) are decimal
-/// numbers without a sign, and TEXT, the rest of the line, is 1 to 4,096 bytes that
-/// [`query_forms::read_insertion`] reads after `submit`, and [`query_forms::read_path`] after `ask`.
+/// is the one document `db`. Each further line is `submit CLIENT NUMBER TEXT`, `ask TEXT` or `askat FLOOR TEXT`.
+/// Single spaces stand between the parts. CLIENT (up to 2^32 - 1), NUMBER (up to 2^64 - 1) and FLOOR (up to 1,000,000)
+/// are decimal numbers without a sign, and TEXT, the rest of the line, is 1 to 4,096 bytes.
 ///
 /// Any other text ends in [`ScriptFault::Line`], with the number of its first wrong line, and in
 /// [`ScriptFault::Memory`] where memory is refused before that line.

@@ -8,8 +8,7 @@ use Rattle.ballots.specs.declared.value.Value.{Value}
 use Rattle.ballots.specs.declared.value.Value.TheVariants.{Request}
 use Rattle.ballots.specs.Terms.{Request as RequestTerm}
 use Rattle.sessions.specs.Terms.{id_of}
-use Rattle.sessions.specs.Run.{run}
-use Rattle.sessions.specs.Meaning.{kept_reply, store_of, reply_for}
+use Rattle.sessions.specs.Meaning.{request_ran, kept_reply, store_of, reply_for}
 use Rattle.sessions.specs.Session.{SessionTerm, Means, reply_in}
 use Rattle.sessions.proofs.Meanings.{reply-new}
 use Rattle.paxq_files.specs.Script.{submit}
@@ -29,7 +28,7 @@ pub turn-new : (names : List (List ℕ)) (values : List Value) (s : SessionTerm)
 turn-new names values s r reply means absent room kept =
     let none : kept_reply names values (id_of r) ≡ None = sym (means.replies (id_of r)) ∙ absent in
     let few : nat_lt (length values) 1000000 ≡ true = (let e : s.applied ≡ length values = means.applied in grind (arith, nat_tests)) in
-    let same : reply_for (run (store_of names values) r.text).outcome (length values + 1) ≡ reply = (λ i. reply_for (run (sym means.store i) r.text).outcome (sym means.applied i + 1)) ∙ some-same _ _ (sym (reply-new names values s means r absent) ∙ kept) in
+    let same : reply_for (request_ran (store_of names values) r).ending (length values + 1) ≡ reply = (λ i. reply_for (request_ran (sym means.store i) r).ending (sym means.applied i + 1)) ∙ some-same _ _ (sym (reply-new names values s means r absent) ∙ kept) in
     rw (none, few) (λ i. record { printed = reply_text (same i); values = values ++ Request r ∷ []; goes_on = true })
 
 -- a request that has a reply

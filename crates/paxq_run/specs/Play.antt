@@ -12,15 +12,14 @@ use Rattle.ballots.specs.declared.value.Value.TheVariants.{Request}
 use Rattle.fault_codes.specs.Codes.{code_name}
 use Rattle.ballots.specs.Terms.{Request as RequestTerm}
 use Rattle.sessions.specs.Terms.{id_of}
-use Rattle.sessions.specs.Run.{run}
-use Rattle.sessions.specs.Meaning.{store_of, kept_reply, reply_for}
+use Rattle.sessions.specs.Meaning.{request_ran, store_of, kept_reply, reply_for}
 use Rattle.sessions.specs.Session.{SessionTerm, Means}
 use Rattle.ballots.specs.Replies.{Answered, text, fault}
-use Rattle.sessions.specs.Answers.{answer}
+use Rattle.questions.specs.Answers.{answer}
 use Rattle.paxq_run.specs.declared.run.Stop.{Stop}
 use Rattle.paxq_run.specs.declared.run.Stop.TheVariants.{Memory, Output}
 use Rattle.program_reports.specs.Reports.{line_feed, Run, Ran, unreadable_run}
-use Rattle.paxq_files.specs.Script.{Command, submit, ask, ScriptRead, script, wrong, script_of}
+use Rattle.paxq_files.specs.Script.{Command, submit, ask, ask_at, ScriptRead, script, wrong, script_of}
 
 -- ---- lines
 -- `done P` or `fault CODE P`
@@ -38,6 +37,10 @@ answer_text position (text []) = codes "at " ++ decimal position ++ line_feed
 answer_text position (text (b ∷ bs)) = codes "at " ++ decimal position ++ line_feed ++ indented (b ∷ bs)
 answer_text position (fault code) = codes "at " ++ decimal position ++ codes " fault " ++ code_name code ++ line_feed
 
+-- `behind P`
+abbrev pub behind_text : ℕ → List ℕ
+behind_text position = codes "behind " ++ decimal position ++ line_feed
+
 -- ---- one command
 -- what is printed, the values that are applied then, and whether the run goes on
 pub record Turn : Type 0 where
@@ -49,13 +52,18 @@ pub record Turn : Type 0 where
 abbrev pub new_turn : List (List ℕ) → List Value → RequestTerm → Turn
 new_turn names values r =
     cond (nat_lt (length values) 1000000)
-    (record { printed = reply_text (reply_for (run (store_of names values) r.text).outcome (length values + 1)); values = values ++ Request r ∷ []; goes_on = true })
+    (record { printed = reply_text (reply_for (request_ran (store_of names values) r).ending (length values + 1)); values = values ++ Request r ∷ []; goes_on = true })
     (record { printed = codes "no answer" ++ line_feed; values = values; goes_on = false })
 
--- a request that has a reply gets it and no position; a question is answered from the store
+-- a question is answered from the store, at the level 1
+abbrev pub asked_turn : List (List ℕ) → List Value → List ℕ → Turn
+asked_turn names values question = record { printed = answer_text (length values) (answer (store_of names values) 1 question); values = values; goes_on = true }
+
+-- a request that has a reply gets it and no position; a question is answered, unless fewer values are applied than its floor
 abbrev pub turn_of : List (List ℕ) → List Value → Command → Turn
 turn_of names values (submit r) = option_map_or (λ reply. record { printed = reply_text reply; values = values; goes_on = true }) (kept_reply names values (id_of r)) (new_turn names values r)
-turn_of names values (ask question) = record { printed = answer_text (length values) (answer (store_of names values) question); values = values; goes_on = true }
+turn_of names values (ask question) = asked_turn names values question
+turn_of names values (ask_at floor question) = cond (nat_lt (length values) floor) (record { printed = behind_text (length values); values = values; goes_on = true }) (asked_turn names values question)
 
 -- ---- a run
 abbrev pub after : List ℕ → Run → Run

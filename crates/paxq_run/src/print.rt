@@ -3,7 +3,7 @@
 ghost use Rattle.std.specs.Prelude.{◌≡◌, ◌++◌, IfOk, OnOk, codes, string_bytes};
 ghost use Rattle.std.specs.Fmt.{decimal};
 ghost use Rattle.ballots.specs.Replies.{answered, fault};
-ghost use Rattle.paxq_run.specs.Play.{reply_text, answer_text, indented};
+ghost use Rattle.paxq_run.specs.Play.{reply_text, answer_text, behind_text, indented};
 
 use ballots::{Answer, Reply};
 use fault_codes::Code;
@@ -37,6 +37,13 @@ pub(crate) fn answer_text(
             Ok(out)
         }
     }
+}
+
+/// `behind P`, with its line feed.
+pub(crate) fn behind_text(alloc: Global, position: u32) -> Result<String, AllocError>
+    ensures { IfOk result (λ text. string_bytes text ≡ behind_text position) }
+{
+    format!(in alloc; "behind {position}\n")
 }
 
 /// `at P fault CODE`, with its line feed.

@@ -7,12 +7,12 @@ ghost use Rattle.std.specs.Io.KnownBytes.{Appends, Keeps};
 ghost use Rattle.ballots.specs.declared.value.Value.{Value as ValueTerm};
 ghost use Rattle.ballots.specs.Terms.{Request as RequestTerm};
 ghost use Rattle.sessions.specs.Session.{Means};
-ghost use Rattle.paxq_files.specs.Commands.{command_term, IsFormed};
-ghost use Rattle.paxq_files.specs.Script.{submit, ask};
+ghost use Rattle.paxq_files.specs.Commands.{command_term};
+ghost use Rattle.paxq_files.specs.Script.{submit, ask, ask_at};
 ghost use Rattle.program_reports.specs.Reports.{Ran, line_feed};
 ghost use Rattle.paxq_run.specs.Play.{turn_of, commands_run, text_run, IsTurn, IsPlayed, IsCut, IfMemory, FileRan, BytesRan};
 
-use super::print::{answer_text, reply_text};
+use super::print::{answer_text, behind_text, reply_text};
 use ballots::limits::POSITIONS;
 use ballots::{Request, Value};
 use paxq_files::{Command, Script, ScriptFault, read_script};
@@ -74,18 +74,17 @@ struct Turn {
 
 /// Runs a command.
 fn take_turn(alloc: Global, state: &mut State, command: Command) -> Result<Turn, NoMemory>
-    requires { IsFormed (command_term command) }
     ensures { IfOk result (λ turn. (names : List (List ℕ)) (values : List ValueTerm) → Means names values state.old → IsTurn names (turn_of names values (command_term command)) (string_bytes turn.text) turn.goes_on state.new) }
 {
     match command {
         Command::Submit(request) => submit(alloc, state, request),
         Command::Ask(question) => ask(alloc, state, &question),
+        Command::AskAt(floor, question) => ask_at(alloc, state, floor, &question),
     }
 }
 
 /// Submits a request: one that has a reply gets it; a new one is applied at the next position.
 fn submit(alloc: Global, state: &mut State, request: Request) -> Result<Turn, NoMemory>
-    requires { IsFormed (submit request) }
     ensures { IfOk result (λ turn. (names : List (List ℕ)) (values : List ValueTerm) → Means names values state.old → IsTurn names (turn_of names values (submit request)) (string_bytes turn.text) turn.goes_on state.new) }
 {
     let id = request.id();
@@ -101,11 +100,21 @@ fn submit(alloc: Global, state: &mut State, request: Request) -> Result<Turn, No
 
 /// Asks a question.
 fn ask(alloc: Global, state: &State, question: &String) -> Result<Turn, NoMemory>
-    requires { IsFormed (ask (string_bytes question.now)) }
     ensures { IfOk result (λ turn. (names : List (List ℕ)) (values : List ValueTerm) → Means names values state.now → IsTurn names (turn_of names values (ask (string_bytes question.now))) (string_bytes turn.text) turn.goes_on state.now) }
 {
     let answer = state.answer(alloc, LEVEL, question.as_str())?;
     printed(answer_text(alloc, state.applied(), &answer))
+}
+
+/// Asks a question that is to be answered where so many positions are applied.
+fn ask_at(alloc: Global, state: &State, floor: u32, question: &String) -> Result<Turn, NoMemory>
+    ensures { IfOk result (λ turn. (names : List (List ℕ)) (values : List ValueTerm) → Means names values state.now → IsTurn names (turn_of names values (ask_at floor (string_bytes question.now))) (string_bytes turn.text) turn.goes_on state.now) }
+{
+    let applied = state.applied();
+    if applied < floor {
+        return printed(behind_text(alloc, applied));
+    }
+    ask(alloc, state, question)
 }
 
 /// A turn after which the run goes on.

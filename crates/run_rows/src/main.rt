@@ -1,11 +1,10 @@
-//! `run_rows FILE`: prints each row of a file with what comes of it: texts of the two forms, scripts and event files that are read, what
-//! runs of them print, and what calls of states give.
+//! `run_rows FILE`: prints each row of a file with what comes of it: scripts and event files that are read, what runs of them print, and
+//! what calls of states give.
 #![tactic(auto)]
 
 mod bytes;
 mod events;
 mod failing;
-mod forms;
 mod reading;
 mod running;
 mod simulating;
@@ -54,8 +53,6 @@ fn result_of(alloc: Global, name: &str, words: &mut Words<'_>) -> Result<String,
 /// The result of an operation at these bytes.
 fn result_at(alloc: Global, name: &str, bytes: &[u8]) -> Result<String, RowFault> {
     match name {
-        "insertion" => forms::insertion(alloc, bytes),
-        "path" => forms::path(alloc, bytes),
         "script" => reading::script(alloc, bytes),
         "run" => running::run(alloc, bytes),
         "unread" => running::unread(alloc, bytes),

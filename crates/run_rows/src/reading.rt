@@ -43,6 +43,10 @@ fn push_next(text: &mut String, script: &mut Script) -> Result<bool, AllocError>
             write!(text, " | ask {question:?}")?;
             Ok(true)
         }
+        Some(Command::AskAt(floor, question)) => {
+            write!(text, " | askat {floor} {question:?}")?;
+            Ok(true)
+        }
         None => Ok(false),
     }
 }

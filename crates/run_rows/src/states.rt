@@ -9,7 +9,6 @@
 use ballots::{Answer, Reply, Request, RequestFault, RequestId, Value};
 use document_names::NamesFault;
 use line_parts::read_names;
-use query_forms::{read_insertion, read_path};
 use rows::{RowFault, Words};
 use sessions::State;
 use std::alloc::{AllocError, Global};
@@ -106,21 +105,12 @@ fn submit(alloc: Global, state: &mut State, words: &mut Words<'_>) -> Result<Str
     apply(alloc, state, &Value::Request(request))
 }
 
-/// Applies a value, and gives its reply, if memory is not refused. Fault: `NotARow` at the limit of values, and at a request that is no
-/// insertion.
+/// Applies a value, and gives its reply, if memory is not refused. Fault: `NotARow` at the limit of values.
 fn run(alloc: Global, state: &mut State, value: &Value) -> Result<Option<Reply>, RowFault> {
     if state.applied() >= 1_000_000 {
         return Err(RowFault::NotARow);
     }
-    match value {
-        Value::NoOp => Ok(state.run(alloc, value).ok()),
-        Value::Request(request) => {
-            if read_insertion(request.text()).is_none() {
-                return Err(RowFault::NotARow);
-            }
-            Ok(state.run(alloc, value).ok())
-        }
-    }
+    Ok(state.run(alloc, value).ok())
 }
 
 /// The reply that is kept for a value.
@@ -193,9 +183,6 @@ fn kept(alloc: Global, state: &State, words: &mut Words<'_>) -> Result<String, R
 
 /// The answer to a question. Fault: `NotARow` where the text is none.
 fn answer_to(alloc: Global, state: &State, question: &str) -> Result<Answer, RowFault> {
-    if read_path(question).is_none() {
-        return Err(RowFault::NotARow);
-    }
     state
         .answer(alloc, 1, question)
         .ok()

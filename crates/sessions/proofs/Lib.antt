@@ -1,6 +1,2 @@
 pub mod Meanings
-pub mod Insertions
-pub mod Printing
-pub mod Children
-pub mod Runs
-pub mod Asked
+pub mod Opening

@@ -10,23 +10,22 @@ use Rattle.ballots.specs.declared.request.RequestId.{RequestId}
 use Rattle.ballots.specs.declared.reply.Reply.{Reply}
 use Rattle.ballots.specs.Terms.{Request as RequestTerm}
 use Rattle.sessions.specs.Terms.{id_of, is_same, is_of}
-use Rattle.sessions.specs.Run.{run}
-use Rattle.sessions.specs.Meaning.{new_texts, once_after, once, all_run, store_of, reply_for, text_of_value, reply_after, kept_reply}
+use Rattle.sessions.specs.Meaning.{new_requests, once_after, once, request_ran, all_run, store_of, reply_for, value_ran, reply_after, kept_reply}
 use Rattle.sessions.specs.Session.{SessionTerm, reply_in, Means, after_repeat, after_new, reply_to_new}
 
 -- ---- the store
-once_after-push : (before vs : List Value) (v : Value) → once_after before (vs ++ v ∷ []) ≡ once_after before vs ++ new_texts (before ++ vs) v
-once_after-push before [] v = append-nil (new_texts before v) ∙ ap (λ b. new_texts b v) (sym (append-nil before))
+once_after-push : (before vs : List Value) (v : Value) → once_after before (vs ++ v ∷ []) ≡ once_after before vs ++ new_requests (before ++ vs) v
+once_after-push before [] v = append-nil (new_requests before v) ∙ ap (λ b. new_requests b v) (sym (append-nil before))
 once_after-push before (w ∷ vs) v = rw (once_after-push (before ++ w ∷ []) vs v, append_assoc, append_assoc)
 
-all_run-append : (f : ForestTerm) (xs ys : List (List ℕ)) → all_run f (xs ++ ys) ≡ all_run (all_run f xs) ys
+all_run-append : (f : ForestTerm) (xs ys : List RequestTerm) → all_run f (xs ++ ys) ≡ all_run (all_run f xs) ys
 all_run-append f [] ys = refl
-all_run-append f (x ∷ xs) ys = all_run-append (run f x).forest xs ys
+all_run-append f (x ∷ xs) ys = all_run-append (request_ran f x).forest xs ys
 
 -- the store that one value more means
-pub store_of-push : (names : List (List ℕ)) (values : List Value) (v : Value) → store_of names (values ++ v ∷ []) ≡ all_run (store_of names values) (new_texts values v)
+pub store_of-push : (names : List (List ℕ)) (values : List Value) (v : Value) → store_of names (values ++ v ∷ []) ≡ all_run (store_of names values) (new_requests values v)
 unfolding store_of
-store_of-push names values v = ap (all_run (opening_forest names)) (once_after-push [] values v) ∙ all_run-append (opening_forest names) (once values) (new_texts values v)
+store_of-push names values v = ap (all_run (opening_forest names)) (once_after-push [] values v) ∙ all_run-append (opening_forest names) (once values) (new_requests values v)
 
 -- ---- the replies
 -- the one, or else the other
@@ -40,7 +39,7 @@ or_else-cond false x a b = refl
 
 -- the reply to a value, where that is the request
 abbrev last_reply : List (List ℕ) → List Value → Value → RequestId → Option Reply
-last_reply names before v id = cond (is_of id v) (Some (reply_for (run (store_of names before) (text_of_value v)).outcome (length before + 1))) None
+last_reply names before v id = cond (is_of id v) (Some (reply_for (value_ran (store_of names before) v).ending (length before + 1))) None
 
 reply_after-push : (names : List (List ℕ)) (before vs : List Value) (v : Value) (id : RequestId) → reply_after names before (vs ++ v ∷ []) id ≡ or_else (reply_after names before vs id) (last_reply names (before ++ vs) v id)
 reply_after-push names before [] v id = ap (λ b. last_reply names b v id) (sym (append-nil before))
@@ -111,8 +110,8 @@ module _ (names : List (List ℕ)) (values : List Value) (s : SessionTerm) (mean
     seen : list_any (is_of (id_of r)) values ≡ is_some (reply_in s (id_of r))
     seen = sym (kept_reply-some names values (id_of r)) ∙ ap is_some (sym (means.replies (id_of r)))
 
-    texts : new_texts values (Request r) ≡ cond (is_some (reply_in s (id_of r))) [] (r.text ∷ [])
-    texts = ap (λ b. cond b [] (r.text ∷ [])) seen
+    texts : new_requests values (Request r) ≡ cond (is_some (reply_in s (id_of r))) [] (r ∷ [])
+    texts = ap (λ b. cond b [] (r ∷ [])) seen
 
     module _ (reply : Reply) (found : reply_in s (id_of r) ≡ Some reply) where
       kept : kept_reply names values (id_of r) ≡ Some reply
@@ -128,7 +127,7 @@ module _ (names : List (List ℕ)) (values : List Value) (s : SessionTerm) (mean
       -- after a later occurrence of a request
       pub Means-repeat : Means names (values ++ Request r ∷ []) (after_repeat s)
       Means-repeat = record {
-        store = means.store ∙ sym (store_of-push names values (Request r) ∙ ap (all_run (store_of names values)) (texts ∙ ap (λ (o : Option Reply). cond (is_some o) [] (r.text ∷ [])) found));
+        store = means.store ∙ sym (store_of-push names values (Request r) ∙ ap (all_run (store_of names values)) (texts ∙ ap (λ (o : Option Reply). cond (is_some o) [] (r ∷ [])) found));
         applied = ap (λ n. n + 1) means.applied ∙ sym (length-push (Request r));
         replies = λ id. means.replies id ∙ sym (same-replies id);
       }
@@ -140,8 +139,8 @@ module _ (names : List (List ℕ)) (values : List Value) (s : SessionTerm) (mean
       unkept : kept_reply names values (id_of r) ≡ None
       unkept = sym (means.replies (id_of r)) ∙ absent
 
-      same-reply : reply_for (run (store_of names values) r.text).outcome (length values + 1) ≡ reply_to_new s r
-      same-reply = λ i. reply_for (run (sym means.store i) r.text).outcome (sym means.applied i + 1)
+      same-reply : reply_for (request_ran (store_of names values) r).ending (length values + 1) ≡ reply_to_new s r
+      same-reply = λ i. reply_for (request_ran (sym means.store i) r).ending (sym means.applied i + 1)
 
       new-replies : (id : RequestId) → reply_in (after_new s r) id ≡ kept_reply names (values ++ Request r ∷ []) id
       new-replies id =
@@ -149,7 +148,7 @@ module _ (names : List (List ℕ)) (values : List Value) (s : SessionTerm) (mean
 
       pub Means-new : Means names (values ++ Request r ∷ []) (after_new s r)
       Means-new = record {
-        store = ap (λ f. (run f r.text).forest) means.store ∙ sym (store_of-push names values (Request r) ∙ ap (all_run (store_of names values)) (texts ∙ ap (λ (o : Option Reply). cond (is_some o) [] (r.text ∷ [])) absent));
+        store = ap (λ f. (request_ran f r).forest) means.store ∙ sym (store_of-push names values (Request r) ∙ ap (all_run (store_of names values)) (texts ∙ ap (λ (o : Option Reply). cond (is_some o) [] (r ∷ [])) absent));
         applied = ap (λ n. n + 1) means.applied ∙ sym (length-push (Request r));
         replies = new-replies;
       }
@@ -191,16 +190,16 @@ or-false true b e = cc
 or-false false b e = (refl, e)
 
 reply_after-first : (names : List (List ℕ)) (prior before : List Value) (v : Value) (after : List Value) (id : RequestId) → list_any (is_of id) before ≡ false → is_of id v ≡ true
-    → reply_after names prior (before ++ v ∷ after) id ≡ Some (reply_for (run (store_of names (prior ++ before)) (text_of_value v)).outcome (length (prior ++ before) + 1))
-reply_after-first names prior [] v after id none is = some-true (is_of id v) _ _ is ∙ ap (λ b. Some (reply_for (run (store_of names b) (text_of_value v)).outcome (length b + 1))) (sym (append-nil prior))
+    → reply_after names prior (before ++ v ∷ after) id ≡ Some (reply_for (value_ran (store_of names (prior ++ before)) v).ending (length (prior ++ before) + 1))
+reply_after-first names prior [] v after id none is = some-true (is_of id v) _ _ is ∙ ap (λ b. Some (reply_for (value_ran (store_of names b) v).ending (length b + 1))) (sym (append-nil prior))
 reply_after-first names prior (w ∷ ws) v after id none is =
     let parts = or-false (is_of id w) (list_any (is_of id) ws) none in
-    ap (λ t. cond t (Some (reply_for (run (store_of names prior) (text_of_value w)).outcome (length prior + 1))) (reply_after names (prior ++ w ∷ []) (ws ++ v ∷ after) id)) parts.0
-    ∙ reply_after-first names (prior ++ w ∷ []) ws v after id parts.1 is ∙ ap (λ b. Some (reply_for (run (store_of names b) (text_of_value v)).outcome (length b + 1))) (append_assoc prior (w ∷ []) ws)
+    ap (λ t. cond t (Some (reply_for (value_ran (store_of names prior) w).ending (length prior + 1))) (reply_after names (prior ++ w ∷ []) (ws ++ v ∷ after) id)) parts.0
+    ∙ reply_after-first names (prior ++ w ∷ []) ws v after id parts.1 is ∙ ap (λ b. Some (reply_for (value_ran (store_of names b) v).ending (length b + 1))) (append_assoc prior (w ∷ []) ws)
 
 -- the reply to a first occurrence
 pub kept_reply-first : (names : List (List ℕ)) (before : List Value) (v : Value) (after : List Value) (id : RequestId) → list_any (is_of id) before ≡ false → is_of id v ≡ true
-    → kept_reply names (before ++ v ∷ after) id ≡ Some (reply_for (run (store_of names before) (text_of_value v)).outcome (length before + 1))
+    → kept_reply names (before ++ v ∷ after) id ≡ Some (reply_for (value_ran (store_of names before) v).ending (length before + 1))
 unfolding kept_reply
 kept_reply-first names before v after id none is = reply_after-first names [] before v after id none is
 

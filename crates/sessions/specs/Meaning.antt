@@ -7,46 +7,52 @@ use Rattle.ballots.specs.declared.value.Value.TheVariants.{NoOp, Request}
 use Rattle.ballots.specs.declared.request.RequestId.{RequestId}
 use Rattle.ballots.specs.declared.reply.Reply.{Reply}
 use Rattle.ballots.specs.declared.reply.Reply.TheVariants as reply
+use Rattle.ballots.specs.Terms.{Request as RequestTerm}
+use Rattle.requests.specs.Requests.{Ran, run}
+use Rattle.requests.specs.declared.running.Ending.{Ending}
+use Rattle.requests.specs.declared.running.Ending.TheVariants as ending
 use Rattle.sessions.specs.Terms.{id_of, is_of}
-use Rattle.sessions.specs.Run.{run}
-use Rattle.sessions.specs.declared.execute.Outcome.{Outcome}
-use Rattle.sessions.specs.declared.execute.Outcome.TheVariants as outcome
 
--- the texts of a value that comes after others: its text where it is the first occurrence of its request, none where it is a later one or no request
-abbrev pub new_texts : List Value → Value → List (List ℕ)
-new_texts before NoOp = []
-new_texts before (Request r) = cond (list_any (is_of (id_of r)) before) [] (r.text ∷ [])
+-- the requests of a value that comes after others: its own where it is the first occurrence of that, none where it is a later one or no request
+abbrev pub new_requests : List Value → Value → List RequestTerm
+new_requests before NoOp = []
+new_requests before (Request r) = cond (list_any (is_of (id_of r)) before) [] (r ∷ [])
 
-abbrev pub once_after : List Value → List Value → List (List ℕ)
+abbrev pub once_after : List Value → List Value → List RequestTerm
 once_after before [] = []
-once_after before (v ∷ vs) = new_texts before v ++ once_after (before ++ v ∷ []) vs
+once_after before (v ∷ vs) = new_requests before v ++ once_after (before ++ v ∷ []) vs
 
--- the texts of a list of values, without its no-ops and without every later occurrence of a request
-abbrev pub once : List Value → List (List ℕ)
+-- the requests of a list of values, without every later occurrence of one
+abbrev pub once : List Value → List RequestTerm
 once = once_after []
 
--- the store after requests of those texts
-abbrev pub all_run : ForestTerm → List (List ℕ) → ForestTerm
+-- what a request does to a store
+abbrev pub request_ran : ForestTerm → RequestTerm → Ran
+request_ran forest r = run forest r.level r.text
+
+-- the store after requests
+abbrev pub all_run : ForestTerm → List RequestTerm → ForestTerm
 all_run forest [] = forest
-all_run forest (text ∷ texts) = all_run (run forest text).forest texts
+all_run forest (r ∷ rs) = all_run (request_ran forest r).forest rs
 
 -- the store that a list of values means
 unfoldable pub store_of : List (List ℕ) → List Value → ForestTerm
 store_of names values = all_run (opening_forest names) (once values)
 
-abbrev pub reply_for : Outcome → ℕ → Reply
-reply_for outcome.Done position = reply.Done position
-reply_for (outcome.Fault code) position = reply.Fault code position
+abbrev pub reply_for : Ending → ℕ → Reply
+reply_for ending.Done position = reply.Done position
+reply_for (ending.Fault code) position = reply.Fault code position
 
-abbrev pub text_of_value : Value → List ℕ
-text_of_value NoOp = []
-text_of_value (Request r) = r.text
+-- what a value does to a store: a request is run, and a no-op does nothing
+abbrev pub value_ran : ForestTerm → Value → Ran
+value_ran forest NoOp = record { forest = forest; ending = ending.Done }
+value_ran forest (Request r) = request_ran forest r
 
 -- the reply to the first occurrence of a request in a list, which comes after other values
 abbrev pub reply_after : List (List ℕ) → List Value → List Value → RequestId → Option Reply
 reply_after names before [] id = None
 reply_after names before (v ∷ vs) id =
-    cond (is_of id v) (Some (reply_for (run (store_of names before) (text_of_value v)).outcome (length before + 1))) (reply_after names (before ++ v ∷ []) vs id)
+    cond (is_of id v) (Some (reply_for (value_ran (store_of names before) v).ending (length before + 1))) (reply_after names (before ++ v ∷ []) vs id)
 
 -- the reply that is kept for a request: how its first occurrence ended, with the position of that in the whole list
 unfoldable pub kept_reply : List (List ℕ) → List Value → RequestId → Option Reply

@@ -12,8 +12,7 @@ use Rattle.ballots.specs.contracts.request.RequestId as id
 use Rattle.ballots.specs.contracts.reply.Reply as reply
 use Rattle.sessions.specs.Terms.{id_of, is_same}
 use Rattle.ballots.specs.Terms.{Request as RequestTerm}
-use Rattle.sessions.specs.Run.{run}
-use Rattle.sessions.specs.Meaning.{store_of, kept_reply, reply_for}
+use Rattle.sessions.specs.Meaning.{request_ran, store_of, kept_reply, reply_for}
 
 -- a store, the replies that are kept, and how many values were applied
 pub record SessionTerm : Type 0 where
@@ -35,11 +34,11 @@ after_repeat s = record s { applied = s.applied + 1 }
 
 -- the reply to a request that occurs for the first time
 abbrev pub reply_to_new : SessionTerm → RequestTerm → Reply
-reply_to_new s r = reply_for (run s.forest r.text).outcome (s.applied + 1)
+reply_to_new s r = reply_for (request_ran s.forest r).ending (s.applied + 1)
 
 -- the state after such a request
 abbrev pub after_new : SessionTerm → RequestTerm → SessionTerm
-after_new s r = record { forest = (run s.forest r.text).forest; replies = s.replies ++ (id_of r, reply_to_new s r) ∷ []; applied = s.applied + 1 }
+after_new s r = record { forest = (request_ran s.forest r).forest; replies = s.replies ++ (id_of r, reply_to_new s r) ∷ []; applied = s.applied + 1 }
 
 -- the state is what the values mean, from a store with those documents
 pub record Means (names : List (List ℕ)) (values : List Value) (s : SessionTerm) : Type 0 where

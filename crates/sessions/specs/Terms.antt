@@ -1,6 +1,5 @@
 -- Values as contracts see them.
-use Rattle.std.specs.Prelude.{Bool, false, ◌&&◌, ◌==◌, IsSome}
-use Rattle.query_forms.specs.Forms.{insertion_of}
+use Rattle.std.specs.Prelude.{Bool, false, ◌&&◌, ◌==◌}
 use Rattle.ballots.specs.Terms.{Request as RequestTerm}
 use Rattle.ballots.specs.declared.value.Value.{Value}
 use Rattle.ballots.specs.declared.value.Value.TheVariants.{NoOp, Request}
@@ -18,8 +17,3 @@ is_same a b = (a.client == b.client) && (a.number == b.number)
 abbrev pub is_of : RequestId → Value → Bool
 is_of id NoOp = false
 is_of id (Request r) = is_same id (id_of r)
-
--- a request's text is an insertion
-abbrev pub HasForm : Value → Type 0
-HasForm NoOp = Unit {0}
-HasForm (Request r) = IsSome (insertion_of r.text)

@@ -4,8 +4,6 @@
 //! replies and reads no earlier value again.
 #![tactic(auto)]
 
-mod answer;
-mod execute;
 pub mod laws;
 mod state;
 

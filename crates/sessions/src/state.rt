@@ -1,20 +1,18 @@
 //! The state of one member: its store, the replies that it keeps, and how many values it has applied.
 
-ghost use Rattle.std.specs.Prelude.{◌≡◌, ℕ, ◌<◌, IfOk, OnOk, OnErr, IsSome, Some, None, List, [], ◌∷◌, ◌++◌};
-ghost use Rattle.query_forms.specs.Forms.{insertion_of, path_of};
+ghost use Rattle.std.specs.Prelude.{◌≡◌, ℕ, ◌<◌, IfOk, OnOk, OnErr, Some, None, List, [], ◌∷◌, ◌++◌};
 ghost use Rattle.ballots.specs.declared.value.Value.{Value as ValueTerm};
-ghost use Rattle.sessions.specs.Terms.{HasForm, id_of};
+ghost use Rattle.sessions.specs.Terms.{id_of};
 ghost use Rattle.sessions.specs.Session.{Means, IsReplyTo, reply_in, after_repeat, after_new, reply_to_new};
 ghost use Rattle.ballots.specs.Replies.{answered};
-ghost use Rattle.sessions.specs.Answers.{answer};
+ghost use Rattle.questions.specs.Answers.{answer};
 ghost use Rattle.sessions.specs.Meaning.{kept_reply, store_of, reply_for};
 ghost use Rattle.ballots.specs.declared.reply.Reply.{Reply as ReplyTerm};
 
-use super::answer::answer_text;
-use super::execute::{Outcome, execute};
 use ballots::{Answer, Reply, Request, RequestId, Value};
 use document_names::Names;
 use indexmap::IndexMap;
+use requests::Ending;
 use std::alloc::Global;
 use std::marker::Model;
 use trees::Forest;
@@ -68,7 +66,6 @@ impl State {
     /// A no-op changes nothing, and is done. After a refusal nothing counts as applied.
     pub fn run(&mut self, alloc: Global, value: &Value) -> Result<Reply, NoMemory>
         requires room { self.old.applied < 1000000 }
-        requires form { HasForm value.now }
         ensures means { OnOk result ((names : List (List ℕ)) (values : List ValueTerm) → Means names values self.old → Means names (values ++ value.now ∷ []) self.new) }
         ensures replies { IfOk result (λ reply. (names : List (List ℕ)) (values : List ValueTerm) → Means names values self.old → IsReplyTo names values value.now reply) }
         ensures refused { OnErr result (self.new ≡ self.old) }
@@ -85,7 +82,6 @@ impl State {
     /// Applies a request.
     fn run_request(&mut self, alloc: Global, request: &Request) -> Result<Reply, NoMemory>
         requires room { self.old.applied < 1000000 }
-        requires form { IsSome (insertion_of request.now.text) }
         ensures repeat { IfOk result (λ reply. (kept : ReplyTerm) → reply_in self.old (id_of request.now) ≡ Some kept → (reply ≡ kept) × (self.new ≡ after_repeat self.old)) }
         ensures first { IfOk result (λ reply. reply_in self.old (id_of request.now) ≡ None → (reply ≡ reply_to_new self.old request.now) × (self.new ≡ after_new self.old request.now)) }
         ensures refused { OnErr result (self.new ≡ self.old) }
@@ -103,7 +99,6 @@ impl State {
     /// Applies a request that occurs for the first time.
     fn run_new(&mut self, alloc: Global, request: &Request) -> Result<Reply, NoMemory>
         requires room { self.old.applied < 1000000 }
-        requires form { IsSome (insertion_of request.now.text) }
         requires absent { reply_in self.old (id_of request.now) ≡ None }
         ensures reply { IfOk result (λ reply. reply ≡ reply_to_new self.old request.now) }
         ensures after { OnOk result (self.new ≡ after_new self.old request.now) }
@@ -113,7 +108,8 @@ impl State {
         if self.replies.reserve(1).is_err() {
             return Err(NoMemory);
         }
-        let Ok(ending) = execute(alloc, &mut self.forest, request.text()) else {
+        let level = request.level();
+        let Ok(ending) = requests::run(alloc, &mut self.forest, level, request.text()) else {
             return Err(NoMemory);
         };
         self.applied += 1;
@@ -144,14 +140,12 @@ impl State {
         &self.forest
     }
 
-    /// What a question of that text gives at the language level 1.
+    /// What a question of that text gives at a level of the language (1 or 2).
     pub fn answer(&self, alloc: Global, level: u8, text: &str) -> Result<Answer, NoMemory>
-        requires known { level ≡ 1 }
-        requires form { IsSome (path_of text.now) }
-        ensures answered { IfOk result (λ a. answered a ≡ answer self.now.forest text.now) }
-        ensures means { IfOk result (λ a. (names : List (List ℕ)) (values : List ValueTerm) → Means names values self.now → answered a ≡ answer (store_of names values) text.now) }
+        ensures answered { IfOk result (λ a. answered a ≡ answer self.now.forest level text.now) }
+        ensures means { IfOk result (λ a. (names : List (List ℕ)) (values : List ValueTerm) → Means names values self.now → answered a ≡ answer (store_of names values) level text.now) }
     {
-        match answer_text(alloc, &self.forest, text) {
+        match questions::answer(alloc, &self.forest, level, text) {
             Ok(answer) => Ok(answer),
             Err(_) => Err(NoMemory),
         }
@@ -159,11 +153,11 @@ impl State {
 }
 
 /// The reply to a request that ended so at that position.
-fn reply_at(ending: Outcome, position: u32) -> Reply
+fn reply_at(ending: Ending, position: u32) -> Reply
     ensures { result ≡ reply_for ending position }
 {
     match ending {
-        Outcome::Done => Reply::Done(position),
-        Outcome::Fault(code) => Reply::Fault(code, position),
+        Ending::Done => Reply::Done(position),
+        Ending::Fault(code) => Reply::Fault(code, position),
     }
 }

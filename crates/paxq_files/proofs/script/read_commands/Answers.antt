@@ -1,9 +1,8 @@
-use Rattle.std.proofs.Common.{◌≡◌, ◌++◌, ◌∷◌, [], map, Some, rules, sym, ap, ◌∙◌, subst}
+use Rattle.std.proofs.Common.{◌≡◌, ◌++◌, ◌∷◌, [], map, Some, rules, sym, ap, ◌∙◌}
 use Rattle.std.proofs.lemmas.List.{map-append}
 use Rattle.std.specs.Option.{option_map}
 use Rattle.paxq_files.specs.Script.{command_of}
-use Rattle.paxq_files.specs.Commands.{command_term, AreFormed}
-use Rattle.paxq_files.proofs.Formed.{line-formed, AreFormed-push}
+use Rattle.paxq_files.specs.Commands.{command_term}
 use Rattle.paxq_files.proofs.script.read_commands.Goals as goal
 
 pub loop-line-preserved : goal.loop-line-preserved
@@ -15,6 +14,5 @@ loop-line-preserved c =
     record {
       is_text = search rules;
       read = search rules;
-      formed = subst AreFormed (sym terms) (AreFormed-push (map command_term c.loop-line.commands.items) (command_term c.in-Some-2.command) c.loop-line.invariant.formed (line-formed line _ command));
       room = search rules;
     }

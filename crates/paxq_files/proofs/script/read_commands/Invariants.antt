@@ -1,7 +1,7 @@
 use Rattle.std.proofs.Common.{◌≡◌, ◌+◌, ◌^◌, ◌<◌, [], length, map}
 use denote.Text.{Utf8}
 use denote.Shadow.{shadow}
-use Rattle.paxq_files.specs.Commands.{command_term, AreFormed}
+use Rattle.paxq_files.specs.Commands.{command_term}
 use Rattle.paxq_files.specs.Lines.{lines_after}
 use Rattle.paxq_files.specs.Script.{commands_from}
 use Rattle.paxq_files.proofs.script.read_commands.Given as goal
@@ -11,7 +11,6 @@ invariant-loop-line l =
     record {
       is_text : shadow (Utf8 l.rest);
       read : commands_from l.fn.names (map command_term l.commands.items) (lines_after l.number l.rest) ≡ commands_from l.fn.names [] (lines_after l.before l.text);
-      formed : AreFormed (map command_term l.commands.items);
       room : l.number + length l.rest < 2 ^ 64;
     }
 

@@ -11,7 +11,7 @@ pub returns-clause-no_op : goal.returns-clause-no_op
 returns-clause-no_op c = λ names values. store_of-push names values NoOp
 
 pub returns-clause-again : goal.returns-clause-again
-returns-clause-again c = λ names values r e. store_of-push names values (Request r) ∙ ap (λ b. all_run (store_of names values) (cond b [] (r.text ∷ []))) e
+returns-clause-again c = λ names values r e. store_of-push names values (Request r) ∙ ap (λ b. all_run (store_of names values) (cond b [] (r ∷ []))) e
 
 pub returns-clause-first : goal.returns-clause-first
-returns-clause-first c = λ names values r e. store_of-push names values (Request r) ∙ ap (λ b. all_run (store_of names values) (cond b [] (r.text ∷ []))) e
+returns-clause-first c = λ names values r e. store_of-push names values (Request r) ∙ ap (λ b. all_run (store_of names values) (cond b [] (r ∷ []))) e

@@ -1,5 +1,0 @@
-use Rattle.query_forms.proofs.Texts.{text_after_is}
-use Rattle.paxq_files.proofs.line.text_after.Goals as goal
-
-pub returns : goal.returns
-returns c = text_after_is _ _ c.strip_prefix.result c.strip_prefix.ensures.cases
