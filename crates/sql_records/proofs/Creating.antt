@@ -28,33 +28,33 @@ use Rattle.sql_records.specs.Created.{AreEmpty, FirstIsEmpty, Makes, half_schema
 use Rattle.sql_records.proofs.Means.{meta_is, votes_is}
 use Rattle.sql_records.proofs.Update.{went, same_value, cast_int, cast_null}
 
-abbrev Compiles : Schema → List ℕ → Type 0
+abbrev pub Compiles : Schema → List ℕ → Type 0
 Compiles before text = (command_of (understood before text) ≡ CreateTable) × (statement_of text (understood before text) ≡ text)
 
-meta_creates : Compiles no_schema meta_text
+pub meta_creates : Compiles no_schema meta_text
 unfolding understood everything
 meta_creates = (refl, refl)
 
-meta_plain : IsPlain (understood no_schema meta_text)
+pub meta_plain : IsPlain (understood no_schema meta_text)
 unfolding understood everything
 meta_plain = (refl, refl)
 
-votes_creates : Compiles half_schema votes_text
+pub votes_creates : Compiles half_schema votes_text
 unfolding understood everything
 votes_creates = (refl, refl)
 
-votes_plain : IsPlain (understood half_schema votes_text)
+pub votes_plain : IsPlain (understood half_schema votes_text)
 unfolding understood everything
 votes_plain = (refl, refl)
 
-abbrev member_terms : List Term
+abbrev pub member_terms : List Term
 member_terms = lit (Int (pos 1)) ∷ lit Null ∷ lit (Int (pos 1)) ∷ col 0 0 ∷ col 0 1 ∷ col 0 2 ∷ col 0 3 ∷ lit (Int (pos 0)) ∷ lit (Int (pos 0)) ∷ []
 
-member_inserts : command_of (understood schema member_text) ≡ Insert 0 (Values member_terms 9)
+pub member_inserts : command_of (understood schema member_text) ≡ Insert 0 (Values member_terms 9)
 unfolding understood everything
 member_inserts = refl
 
-member_plain : IsPlain (understood schema member_text)
+pub member_plain : IsPlain (understood schema member_text)
 unfolding understood everything
 member_plain = (refl, refl)
 
@@ -94,7 +94,7 @@ module _ (old new : State) where
     abbrev pub member_params : Row
     member_params = Int (pos o.group) ∷ Int (pos o.member) ∷ Int (pos o.members) ∷ Text (joined o.names) ∷ []
 
-    abbrev member_shown : Row
+    abbrev pub member_shown : Row
     member_shown = Int (pos 1) ∷ Null ∷ Int (pos 1) ∷ Int (pos o.group) ∷ Int (pos o.member) ∷ Int (pos o.members) ∷ Text (joined o.names) ∷ Int (pos 0) ∷ Int (pos 0) ∷ []
 
     row_put : (db : Trees) → db 0 ≡ [] → edited db (edit_of db meta [] Chosen 0 (member_shown ∷ [])) ≡ meta_row o 0 0 ∷ []

@@ -1,4 +1,4 @@
--- Why a query on the tables of a record fails.
+-- Why a statement on the tables of a record fails.
 use Rattle.std.proofs.Common.{◌≡◌, ◌≢◌, inl, inr, ℕ, ◌≤◌, List, [], length, Option, false, Ok, Err, Result, IsSome, refl, sym, ap, subst, ◌∙◌, arith}
 use Rattle.std.specs.Prelude.{IfErr}
 use Rattle.sqlite_disk.specs.Disk.{MoreFaults}
@@ -7,6 +7,8 @@ use Rattle.sqlite_trees.specs.declared.error.StoreError.TheVariants.{OutOfMemory
 use Rattle.sqlite.specs.declared.error.ErrorCode.TheVariants as code
 use Rattle.sqlite.specs.declared.error.Error.{Error}
 use Rattle.sqlite.specs.declared.error.Error.TheVariants.{SqliteFailure}
+use Rattle.sqlite_schema.specs.declared.schema.Schema.{Schema}
+use Rattle.sqlite.specs.Order.{Row}
 use Rattle.sqlite_resolve.specs.declared.compiled.Compiled.{Compiled}
 use Rattle.sqlite_resolve.specs.declared.error.CompileError.{CompileError}
 use Rattle.sqlite_tied.specs.Compute.{everything}
@@ -21,18 +23,18 @@ use Rattle.sql_records.specs.Faults.{StoreFailed}
 use Rattle.sql_records.specs.Texts.{schema, load_text, votes_load_text}
 use Rattle.sql_records.proofs.Means.{load_query, load_is, load_plain, votes_query, votes_query_is, votes_plain}
 
--- it is the whole text, and has no parameters
-abbrev IsBare : ℕ → Result Compiled CompileError → Type 0
-IsBare n (Ok c) = (n ≤ c.tail) × (c.names ≡ [])
-IsBare n (Err e) = ⊥
+-- it is the whole text, and has so many parameters
+abbrev pub IsWhole : (bytes parameters : ℕ) → Result Compiled CompileError → Type 0
+IsWhole n count (Ok c) = (n ≤ c.tail) × (count ≡ length c.names)
+IsWhole n count (Err e) = ⊥
 
-load_bare : IsBare (length load_text) (understood schema load_text)
+load_whole : IsWhole (length load_text) 0 (understood schema load_text)
 unfolding understood everything
-load_bare = (omega arith, refl)
+load_whole = (omega arith, refl)
 
-votes_bare : IsBare (length votes_load_text) (understood schema votes_load_text)
+votes_whole : IsWhole (length votes_load_text) 0 (understood schema votes_load_text)
 unfolding understood everything
-votes_bare = (omega arith, refl)
+votes_whole = (omega arith, refl)
 
 -- only a limit on the steps refuses it
 abbrev IsRefusedByLimit : Option ℕ → Query → Type 0
@@ -52,35 +54,36 @@ votes_limited limit db e (inr (inr h)) = h.1
 
 module _ (old new : State) where
   -- a failure for want of memory is told as that
-  pub cause_of : (cause : StoreError) (e : Error) → e ≡ store_error cause → HasCause old new ⊥ cause → e ≢ SqliteFailure code.OutOfMemory → StoreFailed old new
-  cause_of OutOfMemory e is h other = absurd (other is)
-  cause_of Io e is h other = inl h
-  cause_of Corrupt e is h other = inl h
-  cause_of Full e is h other = inl h
-  cause_of Broken e is h other = inr (inl h)
-  cause_of Unstorable e is h other = absurd h
+  pub cause_of : {TooBig : Type 0} (big : TooBig → StoreFailed old new) (cause : StoreError) (e : Error) → e ≡ store_error cause → HasCause old new TooBig cause → e ≢ SqliteFailure code.OutOfMemory → StoreFailed old new
+  cause_of big OutOfMemory e is h other = absurd (other is)
+  cause_of big Io e is h other = inl h
+  cause_of big Corrupt e is h other = inl h
+  cause_of big Full e is h other = inl h
+  cause_of big Broken e is h other = inr (inl h)
+  cause_of big Unstorable e is h other = big h
 
-  pub fails_by : (e : Error) → Fails old new ⊥ e → e ≢ SqliteFailure code.OutOfMemory → StoreFailed old new
-  fails_by e h other = cause_of h.0 e h.1 h.2 other
+  pub fails_by : {TooBig : Type 0} (big : TooBig → StoreFailed old new) (e : Error) → Fails old new TooBig e → e ≢ SqliteFailure code.OutOfMemory → StoreFailed old new
+  fails_by big e h other = cause_of big h.0 e h.1 h.2 other
 
-  module _ (sql : List ℕ) (has : old.now.schema ≡ schema) (plain : IsPlain (understood schema sql)) (bare : IsBare (length sql) (understood schema sql)) where
-    no_statement : (e : Error) → ¬ IsNoStatement old sql [] e
+  module _ (sql : List ℕ) (params : Row) (before : Schema) (has : old.now.schema ≡ before) (plain : IsPlain (understood before sql)) (whole : IsWhole (length sql) (length params) (understood before sql)) where
+    no_statement : (e : Error) → ¬ IsNoStatement old sql params e
     no_statement e (inl h) = subst IsPlain (sym (ap (λ s. understood s sql) has) ∙ h.1) plain
     no_statement e (inr h) =
         let known = sym (ap (λ s. understood s sql) has) ∙ h.1 in
         let p = subst IsPlain known plain in
-        let b = subst (IsBare (length sql)) known bare in
+        let w = subst (IsWhole (length sql) (length params)) known whole in
         elim h.2 [
-          | inl k ↦ k.0 b.0
-          | inr (inl k) ↦ k.0 (sym (ap length b.1))
+          | inl k ↦ k.0 w.0
+          | inr (inl k) ↦ k.0 w.1
           | inr (inr k) ↦ k.0 p.1
         ]
 
-    not_run : (e : Error) → IsNotRun old new sql [] e → e ≢ SqliteFailure code.OutOfMemory → StoreFailed old new
+    pub not_run : (e : Error) → IsNotRun old new sql params e → e ≢ SqliteFailure code.OutOfMemory → StoreFailed old new
     unfolding IsNotRun
     not_run e (inl h) other = absurd (no_statement e h.0)
-    not_run e (inr h) other = fails_by e h other
+    not_run e (inr h) other = fails_by (λ none. absurd none) e h other
 
+  module _ (sql : List ℕ) (has : old.now.schema ≡ schema) (plain : IsPlain (understood schema sql)) (whole : IsWhole (length sql) 0 (understood schema sql)) where
     module _ (q : Query) (names : List (List ℕ)) (is : command_of (understood schema sql) ≡ Select (record { lets = []; body = q }) names) (unlisted : reads_listing schema sql ≡ false)
         (limited : IsRefusedByLimit old.step_limit q) where
       refused : (db : Database) (e : Error) → db.schema ≡ schema → RefusesQuery old.step_limit db (record { lets = []; body = q }) [] e → IsSome old.step_limit
@@ -88,7 +91,7 @@ module _ (old new : State) where
 
       pub store_failed : (e : Error) → FailsToQuery sql [] old new e → e ≢ SqliteFailure code.OutOfMemory → StoreFailed old new
       unfolding FailsToQuery
-      store_failed e (inl h) other = not_run e h other
+      store_failed e (inl h) other = not_run sql [] schema has plain whole e h other
       store_failed e (inr h) other =
           let known = sym h.1.is ∙ ap (λ s. understood s sql) has in
           let p = subst IsPlain (sym known) plain in
@@ -97,10 +100,10 @@ module _ (old new : State) where
           inr (inr (refused it.0 e (ap (λ (d : Database). d.schema) db ∙ has) (subst (λ k. RefusesToRead old.step_limit k it.0 [] e) (ap command_of known ∙ is) it.2)))
 
 pub load_failed : (old new : State) → old.now.schema ≡ schema → (e : Error) → FailsToQuery load_text [] old new e → e ≢ SqliteFailure code.OutOfMemory → StoreFailed old new
-load_failed old new has e h other = store_failed old new load_text has load_plain load_bare load_query _ load_is.0 load_is.1 (load_limited old.step_limit) e h other
+load_failed old new has e h other = store_failed old new load_text has load_plain load_whole load_query _ load_is.0 load_is.1 (load_limited old.step_limit) e h other
 
 pub votes_failed : (old new : State) → old.now.schema ≡ schema → (e : Error) → FailsToQuery votes_load_text [] old new e → e ≢ SqliteFailure code.OutOfMemory → StoreFailed old new
-votes_failed old new has e h other = store_failed old new votes_load_text has votes_plain votes_bare votes_query _ votes_query_is.0 votes_query_is.1 (votes_limited old.step_limit) e h other
+votes_failed old new has e h other = store_failed old new votes_load_text has votes_plain votes_whole votes_query _ votes_query_is.0 votes_query_is.1 (votes_limited old.step_limit) e h other
 
 more_since : (a b c : ℕ) → a ≤ b → MoreFaults b c → MoreFaults a c
 more_since a b c low more = grind (arith, low, more)

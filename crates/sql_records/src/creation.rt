@@ -1,11 +1,14 @@
 //! Making the tables of a new member.
 
-ghost use Rattle.std.specs.Prelude.{◌≡◌, ◌⊎◌, ◌≤◌, true, false, IfOk, IsErrOf, OnOk};
+ghost use Rattle.std.specs.Prelude.{◌≡◌, ◌≢◌, ◌⊎◌, ◌≤◌, true, false, IfErr, IfOk, IsErrOf, OnOk};
 ghost use Rattle.sqlite.specs.State.{HasCleanDisk, Survives};
 ghost use Rattle.sqlite.specs.Held.{state};
 ghost use Rattle.sqlite.specs.Tree.{Trees};
 ghost use Rattle.sqlite_trees.specs.View.{doubt};
+ghost use Rattle.sqlite.specs.declared.error.ErrorCode.TheVariants.{OutOfMemory};
+ghost use Rattle.document_names.specs.Names.{are_document_names};
 ghost use Rattle.sql_records.specs.Created.{AreEmpty, FirstIsEmpty, Makes, MakesOnly, half_schema, new_record};
+ghost use Rattle.sql_records.specs.Faults.{StoreFailed};
 ghost use Rattle.sql_records.specs.Holds.{Holds};
 ghost use Rattle.sql_records.specs.Stored.{IsStored, joined};
 ghost use Rattle.sql_records.specs.Texts.{no_schema, schema};
@@ -21,6 +24,7 @@ use std::alloc::Global;
 fn make_meta<S: Alter>(tx: &mut Transaction<'_, S>) -> Result<usize, Error>
     ensures same_reference { tx.new.conn.ghost_name ≡ tx.old.conn.ghost_name }
     ensures made { HasCleanDisk (state S.Store tx.new.conn.now) → Makes (state S.Store tx.old.conn.now) no_schema (λ _. Unit {0}) → OnOk result (Makes (state S.Store tx.new.conn.now) half_schema FirstIsEmpty) }
+    ensures store { HasCleanDisk (state S.Store tx.new.conn.now) → Makes (state S.Store tx.old.conn.now) no_schema (λ _. Unit {0}) → IfErr result (λ e. e ≢ Error.SqliteFailure OutOfMemory → StoreFailed (state S.Store tx.old.conn.now) (state S.Store tx.new.conn.now)) }
     ensures survives { Survives (state S.Store tx.old.conn.now) (state S.Store tx.new.conn.now) (λ _. ⊥) }
 {
     tx.execute(
@@ -33,12 +37,20 @@ fn make_meta<S: Alter>(tx: &mut Transaction<'_, S>) -> Result<usize, Error>
 fn make_votes<S: Alter>(tx: &mut Transaction<'_, S>) -> Result<usize, Error>
     ensures same_reference { tx.new.conn.ghost_name ≡ tx.old.conn.ghost_name }
     ensures made { HasCleanDisk (state S.Store tx.new.conn.now) → Makes (state S.Store tx.old.conn.now) half_schema FirstIsEmpty → OnOk result (Makes (state S.Store tx.new.conn.now) schema AreEmpty) }
+    ensures store { HasCleanDisk (state S.Store tx.new.conn.now) → Makes (state S.Store tx.old.conn.now) half_schema FirstIsEmpty → IfErr result (λ e. e ≢ Error.SqliteFailure OutOfMemory → StoreFailed (state S.Store tx.old.conn.now) (state S.Store tx.new.conn.now)) }
     ensures survives { Survives (state S.Store tx.old.conn.now) (state S.Store tx.new.conn.now) (λ _. ⊥) }
 {
     tx.execute(
         "CREATE TABLE votes (position INTEGER PRIMARY KEY, round INTEGER NOT NULL, leader INTEGER NOT NULL, value BLOB NOT NULL) STRICT",
         &[],
     )
+}
+
+/// The names of a setup are names of documents, so their text is short.
+fn are_names(setup: &Setup)
+    ensures { are_document_names setup.now.names ≡ true }
+{
+    let _names = setup.names().as_slice();
 }
 
 /// Puts in the row of the member, with no promise.
@@ -50,8 +62,10 @@ fn put_member<S: Alter>(
     requires { docs.now ≡ joined setup.now.names }
     ensures same_reference { tx.new.conn.ghost_name ≡ tx.old.conn.ghost_name }
     ensures made { HasCleanDisk (state S.Store tx.new.conn.now) → Makes (state S.Store tx.old.conn.now) schema AreEmpty → OnOk result (Makes (state S.Store tx.new.conn.now) schema (λ db. IsStored setup.now db new_record)) }
+    ensures store { HasCleanDisk (state S.Store tx.new.conn.now) → Makes (state S.Store tx.old.conn.now) schema AreEmpty → IfErr result (λ e. e ≢ Error.SqliteFailure OutOfMemory → StoreFailed (state S.Store tx.old.conn.now) (state S.Store tx.new.conn.now)) }
     ensures survives { Survives (state S.Store tx.old.conn.now) (state S.Store tx.new.conn.now) (λ _. ⊥) }
 {
+    are_names(setup);
     let group = setup.group();
     let member = u32::from(setup.member());
     let members = u32::from(setup.members().count());
@@ -66,6 +80,7 @@ fn fill<S: Alter>(tx: &mut Transaction<'_, S>, setup: &Setup, docs: &str) -> Res
     requires { docs.now ≡ joined setup.now.names }
     ensures same_reference { tx.new.conn.ghost_name ≡ tx.old.conn.ghost_name }
     ensures made { HasCleanDisk (state S.Store tx.new.conn.now) → Makes (state S.Store tx.old.conn.now) no_schema (λ _. Unit {0}) → OnOk result (Makes (state S.Store tx.new.conn.now) schema (λ db. IsStored setup.now db new_record)) }
+    ensures store { HasCleanDisk (state S.Store tx.new.conn.now) → Makes (state S.Store tx.old.conn.now) no_schema (λ _. Unit {0}) → IfErr result (λ e. e ≢ Error.SqliteFailure OutOfMemory → StoreFailed (state S.Store tx.old.conn.now) (state S.Store tx.new.conn.now)) }
     ensures survives { Survives (state S.Store tx.old.conn.now) (state S.Store tx.new.conn.now) (λ _. ⊥) }
 {
     make_meta(tx)?;
@@ -85,6 +100,7 @@ pub(super) fn create<S: Alter>(
     ensures made { HasCleanDisk (state S.Store connection.new) → OnOk result (Holds (state S.Store connection.new) setup.now new_record new_record) }
     ensures not_other { IsErrOf result OpenFault.Other → ⊥ }
     ensures not_damaged { IsErrOf result OpenFault.Damaged → ⊥ }
+    ensures store { HasCleanDisk (state S.Store connection.new) → IsErrOf result OpenFault.Store → StoreFailed (state S.Store connection.old) (state S.Store connection.new) }
     ensures makes { MakesOnly setup.now (state S.Store connection.old) (state S.Store connection.new) }
     ensures clean { doubt (state S.Store connection.old).is_clean ≤ doubt (state S.Store connection.new).is_clean }
 {

@@ -62,7 +62,7 @@ fn prepare<S: Alter>(
     ensures ours { (state S.Store connection.old).now.schema ≢ no_schema → OnOk result ((state S.Store connection.old).now.schema ≡ our_schema) }
     ensures other { HasCleanDisk (state S.Store connection.new) → IsErrOf result OpenFault.Other → IsAnothers setup.now (state S.Store connection.old).now }
     ensures damaged { HasCleanDisk (state S.Store connection.new) → IsErrOf result OpenFault.Damaged → (state S.Store connection.old).in_transaction ≡ false → IsDamaged setup.now (state S.Store connection.old).now }
-    ensures store { HasCleanDisk (state S.Store connection.new) → (state S.Store connection.old).now.schema ≢ no_schema → IsErrOf result OpenFault.Store → StoreFailed (state S.Store connection.old) (state S.Store connection.new) }
+    ensures store { HasCleanDisk (state S.Store connection.new) → IsErrOf result OpenFault.Store → StoreFailed (state S.Store connection.old) (state S.Store connection.new) }
     ensures makes { MakesOnly setup.now (state S.Store connection.old) (state S.Store connection.new) }
     ensures clean { doubt (state S.Store connection.old).is_clean ≤ doubt (state S.Store connection.new).is_clean }
 {
@@ -95,7 +95,7 @@ impl<S: Alter> SqlRecords<S> {
         ensures ours { (state S.Store connection).now.schema ≢ no_schema → OnOk result ((state S.Store connection).now.schema ≡ our_schema) }
         ensures other { IfErr result (λ e. HasCleanDisk (state S.Store e.1) → e.0 ≡ OpenFault.Other → IsAnothers setup.now (state S.Store connection).now) }
         ensures damaged { (state S.Store connection).in_transaction ≡ false → IfErr result (λ e. HasCleanDisk (state S.Store e.1) → e.0 ≡ OpenFault.Damaged → IsDamaged setup.now (state S.Store connection).now) }
-        ensures store { (state S.Store connection).now.schema ≢ no_schema → IfErr result (λ e. HasCleanDisk (state S.Store e.1) → e.0 ≡ OpenFault.Store → StoreFailed (state S.Store connection) (state S.Store e.1)) }
+        ensures store { IfErr result (λ e. HasCleanDisk (state S.Store e.1) → e.0 ≡ OpenFault.Store → StoreFailed (state S.Store connection) (state S.Store e.1)) }
         ensures whose { IfOk result (λ s. owner s ≡ setup.now) }
     {
         let mut connection = connection;

@@ -2,6 +2,7 @@ use Rattle.sqlite.specs.State.{ExecutesInside}
 use Rattle.sqlite.specs.Held.{state}
 use Rattle.sql_records.specs.Texts.{member_text}
 use Rattle.sql_records.proofs.Creating.{member_params, member_put}
+use Rattle.sql_records.proofs.MemberFaults.{member_failed}
 use Rattle.sql_records.proofs.creation.put_member.Goals as goal
 
 pub returns-clause-made : goal.returns-clause-made
@@ -11,3 +12,11 @@ returns-clause-made g c clean m =
     let ran : ExecutesInside 0 member_text (member_params before after c.args.setup.now) before after c.execute.result =
     rw (c.params-to_sql.ensures, c.params-to_sql-2.ensures, c.params-to_sql-3.ensures, c.params-to_sql-4.ensures, c.from-member.ensures, c.from-members.ensures, c.group-group.ensures, c.member.ensures.member, c.count.ensures.count, c.members.ensures, c.requires) at (c.execute.ensures.runs clean m.mode) in
     member_put before after c.args.setup.now c.execute.result m ran
+
+pub returns-clause-store : goal.returns-clause-store
+returns-clause-store g c clean m =
+    let before = state g.S.Store c.args.tx.now.conn.now in
+    let after = state g.S.Store c.execute.new.self.conn.now in
+    let ran : ExecutesInside 0 member_text (member_params before after c.args.setup.now) before after c.execute.result =
+    rw (c.params-to_sql.ensures, c.params-to_sql-2.ensures, c.params-to_sql-3.ensures, c.params-to_sql-4.ensures, c.from-member.ensures, c.from-members.ensures, c.group-group.ensures, c.member.ensures.member, c.count.ensures.count, c.members.ensures, c.requires) at (c.execute.ensures.runs clean m.mode) in
+    member_failed before after c.args.setup.now c.are_names.ensures m c.execute.result ran
