@@ -7,18 +7,14 @@ ghost use Rattle.std.specs.Prelude.{◌≡◌, ◌≤◌, true};
 ghost use Rattle.ballots.specs.Ballot.{IsBallot};
 ghost use Rattle.ballots.specs.Values.{positions};
 
-use super::opening::{first_setup, opened, shown};
+use super::opening::{accepting, first_setup, in_memory, shown};
+use super::results::keeping;
 use acceptor::Acceptor;
 use ballots::limits::{LAST_ROUND, MOST_MEMBERS, POSITIONS};
 use ballots::{Ballot, Entry, Value, Vote, Window};
 use records::{Records, RecordsFault};
 use rows::{RowFault, Words};
-use sql_records::SqlRecords;
-use sqlite::MemStore;
 use std::alloc::Global;
-
-/// An acceptor over a database in memory.
-pub(super) type Kept = Acceptor<SqlRecords<MemStore>>;
 
 /// Whether there may be that ballot.
 #[tactic(auto, unfolding(ballots::specs::Ballot::last_round))]
@@ -63,18 +59,40 @@ fn vote(ballot: Ballot) -> Vote
 pub(super) fn plays(alloc: Global, mut words: Words) -> Result<String, RowFault> {
     let text = words.text(alloc)?;
     let setup = first_setup(alloc)?;
-    let mut acceptor = opened(alloc, &setup)?;
     let mut answers = String::new(alloc);
-    for call in text.lines() {
-        play(alloc, &mut acceptor, call, &mut answers)?;
-    }
-    let connection = acceptor.into_records().into_connection();
-    answers.push_str(shown(alloc, connection, &setup)?.as_str())?;
+    let acceptor = accepting(alloc, in_memory(alloc)?, &setup)?;
+    let records = played(alloc, acceptor, &text, &mut answers)?;
+    let standing = shown(alloc, records.into_connection(), &setup)?;
+    answers.push_str(standing.as_str())?;
     Ok(answers)
 }
 
+/// Makes the calls of a text, appends the answers, and gives the acceptor's records back. Faults: `NotARow`, and `Memory`.
+pub(super) fn played<R: Records + Drop>(
+    alloc: Global,
+    mut acceptor: Acceptor<R>,
+    calls: &str,
+    answers: &mut String,
+) -> Result<R, RowFault> {
+    let done = play_all(alloc, &mut acceptor, calls, answers);
+    keeping(done, acceptor.into_records())
+}
+
+/// Makes the calls of a text, one in each line, and appends the answers. Faults: `NotARow`, and `Memory`.
+fn play_all<R: Records + Drop>(
+    alloc: Global,
+    acceptor: &mut Acceptor<R>,
+    calls: &str,
+    answers: &mut String,
+) -> Result<(), RowFault> {
+    for call in calls.lines() {
+        play(alloc, acceptor, call, answers)?;
+    }
+    Ok(())
+}
+
 /// Makes one call, and appends the answer. Faults: `NotARow`, and `Memory`.
-pub(super) fn play<R: Records + Drop>(
+fn play<R: Records + Drop>(
     alloc: Global,
     acceptor: &mut Acceptor<R>,
     call: &str,
@@ -138,10 +156,23 @@ fn prepare<R: Records + Drop>(
 /// The votes of a window.
 fn window_text(alloc: Global, window: &Window) -> Result<String, RowFault> {
     let mut text = String::from_str(alloc, "promised")?;
-    for entry in window.entries.as_slice() {
-        push_vote(alloc, &mut text, entry)?;
-    }
+    push_votes(alloc, &mut text, window)?;
     Ok(text)
+}
+
+/// Appends the votes of a window, and up to where they are all.
+pub(super) fn push_votes(
+    alloc: Global,
+    text: &mut String,
+    window: &Window,
+) -> Result<(), RowFault> {
+    let covered = window.covered;
+    let all = format!(in alloc; ", votes up to {covered}:")?;
+    text.push_str(all.as_str())?;
+    for entry in window.entries.as_slice() {
+        push_vote(alloc, text, entry)?;
+    }
+    Ok(())
 }
 
 /// Appends a vote's position and ballot.

@@ -1,17 +1,32 @@
 //! Databases on disks in memory: disks that fail from some call on, and files that are cut or changed.
 
-use super::calls::play;
+use super::calls::played;
 use super::opening::{first_setup, refused, shown};
+use super::results::{both, keeping, or_memory};
 use acceptor::Acceptor;
-use records::RecordsFault;
+use ballots::Setup;
+use records::{Records, RecordsFault};
 use rows::{RowFault, Words};
-use sql_records::SqlRecords;
-use sqlite::{Alter, Connection, FileStore, Files, Options};
+use sql_records::{OpenFault, SqlRecords};
+use sqlite::{Connection, FileStore, Files, Options};
 use sqlite_disk::{Crash, Disk, Fuse, Memory};
 use std::alloc::Global;
 
+/// A promise, and a vote by a ballot above it.
+const PROMISE_AND_VOTE: &str = "begin 1 3\naccept 5 3 2";
+
 /// A file in memory that fails from some call on, and its log.
 type Fused = Files<Fuse<Memory>>;
+
+/// The connection to files, or the files again where there is none.
+type Connected<D> = Result<Connection<FileStore<D>>, Files<D>>;
+
+/// The bytes of a log and of its database.
+#[derive(Drop)]
+struct Written {
+    log: Vec<u8>,
+    database: Vec<u8>,
+}
 
 /// A disk with these bytes, which passes so many calls on and fails each one after.
 fn disk(alloc: Global, bytes: &[u8], calls: u64) -> Result<Fuse<Memory>, RowFault> {
@@ -22,7 +37,34 @@ fn disk(alloc: Global, bytes: &[u8], calls: u64) -> Result<Fuse<Memory>, RowFaul
     Ok(Fuse::new(memory, calls))
 }
 
-/// The number of calls that a row says, and which file it speaks of: whether it is the log.
+/// Empty files, of which each passes so many calls on.
+fn empty_files(alloc: Global, log: u64, database: u64) -> Result<Fused, RowFault> {
+    let (log, db) = both(
+        disk(alloc, b"".as_slice(), log),
+        disk(alloc, b"".as_slice(), database),
+    )?;
+    Ok(Files { log, db })
+}
+
+/// Files with these bytes.
+fn files_with(alloc: Global, written: &Written) -> Result<Fused, RowFault> {
+    let (log, db) = both(
+        disk(alloc, written.log.as_slice(), u64::MAX),
+        disk(alloc, written.database.as_slice(), u64::MAX),
+    )?;
+    Ok(Files { log, db })
+}
+
+/// The bytes of files.
+fn bytes_of(alloc: Global, files: &Fused) -> Result<Written, RowFault> {
+    let mut log = Vec::new(alloc);
+    log.extend_from_slice(files.log.inner().bytes())?;
+    let mut database = Vec::new(alloc);
+    database.extend_from_slice(files.db.inner().bytes())?;
+    Ok(Written { log, database })
+}
+
+/// The number that a row says, and which file it speaks of: whether it is the log.
 fn read_file(words: &mut Words) -> Result<(bool, u64), RowFault> {
     let is_log = match words.plain()? {
         "log" => true,
@@ -32,28 +74,40 @@ fn read_file(words: &mut Words) -> Result<(bool, u64), RowFault> {
     Ok((is_log, words.number()?))
 }
 
+/// The calls of an acceptor that the rest of a row says, or those of a promise and a vote.
+fn read_calls(alloc: Global, words: &mut Words) -> Result<String, RowFault> {
+    if words.is_empty() {
+        return Ok(String::from_str(alloc, PROMISE_AND_VOTE)?);
+    }
+    words.text(alloc)
+}
+
 /// What becomes of new records whose log or database fails from a call on, and what is found after: where all that was written is still
 /// there, and where a crash takes what was not synced.
 pub(super) fn fuse(alloc: Global, mut words: Words) -> Result<String, RowFault> {
-    let (is_log, calls) = read_file(&mut words)?;
-    let (log, db) = if is_log {
-        (calls, u64::MAX)
+    let (is_log, last) = read_file(&mut words)?;
+    let calls = read_calls(alloc, &mut words)?;
+    let (log, database) = if is_log {
+        (last, u64::MAX)
     } else {
-        (u64::MAX, calls)
+        (u64::MAX, last)
     };
+    let setup = first_setup(alloc)?;
     let mut text = String::new(alloc);
-    let files = Files {
-        log: disk(alloc, b"".as_slice(), log)?,
-        db: disk(alloc, b"".as_slice(), db)?,
-    };
-    let files = played(alloc, files, &mut text)?;
-    let written = Files {
-        log: disk(alloc, files.log.inner().bytes(), u64::MAX)?,
-        db: disk(alloc, files.db.inner().bytes(), u64::MAX)?,
-    };
-    push_found(alloc, written, &mut text)?;
+    let files = empty_files(alloc, log, database)?;
+    let files = used(alloc, files, &calls, &setup, &mut text)?;
+    let after = found_after(alloc, files, &setup)?;
+    text.push_str(after.as_str())?;
+    Ok(text)
+}
+
+/// What is found in files where all that was written is still there, and where a crash takes what was not synced.
+fn found_after(alloc: Global, files: Fused, setup: &Setup) -> Result<String, RowFault> {
+    let written = bytes_of(alloc, &files);
+    let left = found(alloc, connected(alloc, crashed(files)), setup);
+    let mut text = found_with(alloc, &written?, setup)?;
     text.push_str("; ")?;
-    push_found(alloc, crashed(files), &mut text)?;
+    text.push_str(left?.as_str())?;
     Ok(text)
 }
 
@@ -65,7 +119,7 @@ fn crashed(mut files: Fused) -> Fused {
 }
 
 /// A connection to files, or the files again.
-fn connected(alloc: Global, files: Fused) -> Result<Connection<FileStore<Fuse<Memory>>>, Fused> {
+fn connected<D: Disk + Drop>(alloc: Global, files: Files<D>) -> Connected<D> {
     if !files.may_be_used() {
         return Err(files);
     }
@@ -75,126 +129,158 @@ fn connected(alloc: Global, files: Fused) -> Result<Connection<FileStore<Fuse<Me
     }
 }
 
-/// Appends what stands in files that are opened again, or why they are not opened.
-fn push_found(alloc: Global, files: Fused, text: &mut String) -> Result<(), RowFault> {
-    let setup = first_setup(alloc)?;
-    match connected(alloc, files) {
-        Ok(connection) => text.push_str(shown(alloc, connection, &setup)?.as_str())?,
-        Err(_) => text.push_str("no connection")?,
+/// What stands in files that are opened again, or that they are not opened.
+fn found<D: Disk + Drop>(
+    alloc: Global,
+    connected: Connected<D>,
+    setup: &Setup,
+) -> Result<String, RowFault> {
+    match connected {
+        Ok(connection) => shown(alloc, connection, setup),
+        Err(_) => said(alloc, "no connection"),
     }
+}
+
+/// What is found in files with these bytes.
+fn found_with(alloc: Global, written: &Written, setup: &Setup) -> Result<String, RowFault> {
+    let files = files_with(alloc, written)?;
+    found(alloc, connected(alloc, files), setup)
+}
+
+/// A text.
+fn said(alloc: Global, text: &str) -> Result<String, RowFault> {
+    Ok(String::from_str(alloc, text)?)
+}
+
+/// Appends a part of an answer.
+fn say(text: &mut String, part: &str) -> Result<(), RowFault> {
+    text.push_str(part)?;
+    text.push_str("; ")?;
     Ok(())
 }
 
-/// Promises and votes over files, as long as they don't fail, and gives them back with no more calls.
-fn played(alloc: Global, files: Fused, text: &mut String) -> Result<Fused, RowFault> {
-    let setup = first_setup(alloc)?;
-    let connection = match connected(alloc, files) {
-        Ok(connection) => connection,
-        Err(files) => {
-            text.push_str("no connection; ")?;
-            return Ok(files);
-        }
-    };
-    let connection = match SqlRecords::open(alloc, connection, &setup) {
-        Ok(records) => accepted(alloc, records, text)?,
-        Err((fault, connection)) => {
-            text.push_str(refused(alloc, fault)?.as_str())?;
-            text.push_str("; ")?;
-            connection
-        }
-    };
-    Ok(connection.into_store().close())
+/// Appends the number of a fault.
+fn say_refused(alloc: Global, text: &mut String, fault: OpenFault) -> Result<(), RowFault> {
+    let number = refused(alloc, fault)?;
+    say(text, number.as_str())
 }
 
-/// Promises 1,3 and votes at position 5 by 3,2 over records, and gives their connection back.
-fn accepted<S: Alter + Drop>(
+/// Makes an acceptor's calls over files, as long as they don't fail, and gives them back with no more calls.
+fn used<D: Disk + Drop>(
     alloc: Global,
-    records: SqlRecords<S>,
+    files: Files<D>,
+    calls: &str,
+    setup: &Setup,
     text: &mut String,
-) -> Result<Connection<S>, RowFault> {
-    match Acceptor::open(alloc, records) {
-        Ok(mut acceptor) => {
-            play(alloc, &mut acceptor, "begin 1 3", text)?;
-            play(alloc, &mut acceptor, "accept 5 3 2", text)?;
-            Ok(acceptor.into_records().into_connection())
+) -> Result<Files<D>, RowFault> {
+    match connected(alloc, files) {
+        Ok(connection) => {
+            let opened = SqlRecords::open(alloc, connection, setup);
+            used_records(alloc, opened, calls, text)
         }
-        Err((RecordsFault::Memory, _)) => Err(RowFault::Memory),
-        Err((RecordsFault::Store, records)) => {
-            text.push_str("not loaded; ")?;
-            Ok(records.into_connection())
-        }
+        Err(files) => keeping(say(text, "no connection"), files),
     }
 }
 
-/// The bytes of the log, or of the database into which its log was copied, after a promise and a vote.
-fn bytes_of(alloc: Global, is_log: bool) -> Result<(Vec<u8>, Fused), RowFault> {
-    let mut text = String::new(alloc);
-    let files = Files {
-        log: disk(alloc, b"".as_slice(), u64::MAX)?,
-        db: disk(alloc, b"".as_slice(), u64::MAX)?,
-    };
-    let files = played(alloc, files, &mut text)?;
-    let mut bytes = Vec::new(alloc);
-    if is_log {
-        bytes.extend_from_slice(files.log.inner().bytes())?;
-        return Ok((bytes, files));
-    }
-    let files = copied(alloc, files)?;
-    bytes.extend_from_slice(files.db.inner().bytes())?;
-    Ok((bytes, files))
-}
-
-/// The files, where the log was copied into the database.
-fn copied(alloc: Global, files: Fused) -> Result<Fused, RowFault> {
-    let Ok(connection) = connected(alloc, files) else {
-        return Err(RowFault::Memory);
-    };
-    match connection.close_files() {
-        Ok(files) => Ok(files),
-        Err(_) => Err(RowFault::Memory),
-    }
-}
-
-/// What is found in files whose log, or whose database with no log, has these bytes.
-fn found_with(
+/// Makes an acceptor's calls over records, if they were opened, and gives their files back.
+fn used_records<D: Disk + Drop>(
     alloc: Global,
-    is_log: bool,
-    bytes: &[u8],
-    files: &Fused,
-) -> Result<String, RowFault> {
-    let (log, db) = if is_log {
-        (bytes, files.db.inner().bytes())
-    } else {
-        (b"".as_slice(), bytes)
-    };
-    let files = Files {
-        log: disk(alloc, log, u64::MAX)?,
-        db: disk(alloc, db, u64::MAX)?,
-    };
-    let mut text = String::new(alloc);
-    push_found(alloc, files, &mut text)?;
-    Ok(text)
-}
-
-/// What is found where a file is cut after so many bytes.
-pub(super) fn cut(alloc: Global, mut words: Words) -> Result<String, RowFault> {
-    let (is_log, length) = read_file(&mut words)?;
-    let (bytes, files) = bytes_of(alloc, is_log)?;
-    let length = usize::try_from(length).ok().ok_or(RowFault::NotARow)?;
-    match bytes.as_slice().get(..length) {
-        Some(start) => found_with(alloc, is_log, start, &files),
-        None => Err(RowFault::NotARow),
+    opened: Result<SqlRecords<FileStore<D>>, (OpenFault, Connection<FileStore<D>>)>,
+    calls: &str,
+    text: &mut String,
+) -> Result<Files<D>, RowFault> {
+    match opened {
+        Ok(records) => {
+            let loaded = Acceptor::open(alloc, records);
+            let records = accepted(alloc, loaded, calls, text)?;
+            Ok(files_of(records.into_connection()))
+        }
+        Err((fault, connection)) => {
+            keeping(say_refused(alloc, text, fault), files_of(connection))
+        }
     }
 }
 
-/// What is found where a byte of a file is another one.
-pub(super) fn changed_byte(alloc: Global, mut words: Words) -> Result<String, RowFault> {
-    let (is_log, at) = read_file(&mut words)?;
-    let (mut bytes, files) = bytes_of(alloc, is_log)?;
+/// The files of a connection.
+fn files_of<D: Disk + Drop>(connection: Connection<FileStore<D>>) -> Files<D> {
+    connection.into_store().close()
+}
+
+/// Makes an acceptor's calls, if its records were loaded, and gives them back.
+fn accepted<R: Records + Drop>(
+    alloc: Global,
+    loaded: Result<Acceptor<R>, (RecordsFault, R)>,
+    calls: &str,
+    text: &mut String,
+) -> Result<R, RowFault> {
+    match loaded {
+        Ok(acceptor) => played(alloc, acceptor, calls, text),
+        Err((RecordsFault::Memory, _)) => Err(RowFault::Memory),
+        Err((RecordsFault::Store, records)) => keeping(say(text, "not loaded"), records),
+    }
+}
+
+/// The files after a promise and a vote.
+fn voted(alloc: Global) -> Result<Fused, RowFault> {
+    let setup = first_setup(alloc)?;
+    let mut text = String::new(alloc);
+    let files = empty_files(alloc, u64::MAX, u64::MAX)?;
+    used(alloc, files, PROMISE_AND_VOTE, &setup, &mut text)
+}
+
+/// The bytes of the log and of the database after a promise and a vote; or of the database into which its log was copied, and no log.
+fn bytes_after(alloc: Global, has_log: bool) -> Result<Written, RowFault> {
+    let files = voted(alloc)?;
+    if has_log {
+        return bytes_of(alloc, &files);
+    }
+    let connection = or_memory(connected(alloc, files))?;
+    let files = or_memory(connection.close_files())?;
+    let mut written = bytes_of(alloc, &files)?;
+    written.log.clear();
+    Ok(written)
+}
+
+/// Cuts bytes off. Fault: `NotARow` where there are not so many.
+fn cut_to(bytes: &mut Vec<u8>, length: u64) -> Result<(), RowFault> {
+    let length = usize::try_from(length).ok().ok_or(RowFault::NotARow)?;
+    if bytes.len() < length {
+        return Err(RowFault::NotARow);
+    }
+    bytes.truncate(length);
+    Ok(())
+}
+
+/// Makes the byte at an offset another one. Fault: `NotARow` where there is none.
+fn change_at(bytes: &mut Vec<u8>, at: u64) -> Result<(), RowFault> {
     let at = usize::try_from(at).ok().ok_or(RowFault::NotARow)?;
     match bytes.as_mut_slice().get_mut(at) {
         Some(byte) => *byte = !*byte,
         None => return Err(RowFault::NotARow),
     }
-    found_with(alloc, is_log, bytes.as_slice(), &files)
+    Ok(())
+}
+
+/// What is found where a file is cut after so many bytes.
+pub(super) fn cut(alloc: Global, mut words: Words) -> Result<String, RowFault> {
+    let (is_log, length) = read_file(&mut words)?;
+    let mut written = bytes_after(alloc, is_log)?;
+    if is_log {
+        cut_to(&mut written.log, length)?;
+    } else {
+        cut_to(&mut written.database, length)?;
+    }
+    found_with(alloc, &written, &first_setup(alloc)?)
+}
+
+/// What is found where a byte of a file is another one.
+pub(super) fn changed_byte(alloc: Global, mut words: Words) -> Result<String, RowFault> {
+    let (is_log, at) = read_file(&mut words)?;
+    let mut written = bytes_after(alloc, is_log)?;
+    if is_log {
+        change_at(&mut written.log, at)?;
+    } else {
+        change_at(&mut written.database, at)?;
+    }
+    found_with(alloc, &written, &first_setup(alloc)?)
 }

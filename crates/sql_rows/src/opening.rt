@@ -1,10 +1,11 @@
 //! Databases that are opened.
 
-use super::calls::{Kept, play};
+use super::calls::{played, push_votes};
+use super::results::{keeping, unless_failed, unless_refused};
 use acceptor::Acceptor;
 use ballots::{Setup, SetupFault};
 use document_names::{Names, NamesFault};
-use records::{Records, RecordsFault};
+use records::{Record, Records, RecordsFault};
 use rows::{RowFault, Words};
 use sql_records::{OpenFault, SqlRecords};
 use sqlite::{Alter, Connection, MemStore};
@@ -32,7 +33,7 @@ pub(super) fn first_setup(alloc: Global) -> Result<Setup, RowFault> {
 }
 
 /// The setup that the last three words of a row say.
-fn read_setup(alloc: Global, words: &mut Words) -> Result<Setup, RowFault> {
+pub(super) fn read_setup(alloc: Global, words: &mut Words) -> Result<Setup, RowFault> {
     let group = u32::try_from(words.number()?)
         .ok()
         .ok_or(RowFault::NotARow)?;
@@ -44,21 +45,19 @@ fn read_setup(alloc: Global, words: &mut Words) -> Result<Setup, RowFault> {
     setup(alloc, group, member, members)
 }
 
-/// An empty database, opened as the setup's member's.
-pub(super) fn opened(alloc: Global, setup: &Setup) -> Result<Kept, RowFault> {
-    let connection = Connection::open_in_memory(alloc)?;
-    match SqlRecords::open(alloc, connection, setup) {
-        Ok(records) => accepting(alloc, records),
-        Err(_) => Err(RowFault::Memory),
-    }
+/// An empty database in memory.
+pub(super) fn in_memory(alloc: Global) -> Result<Connection<MemStore>, RowFault> {
+    Ok(Connection::open_in_memory(alloc)?)
 }
 
-/// The acceptor over records.
-fn accepting(alloc: Global, records: SqlRecords<MemStore>) -> Result<Kept, RowFault> {
-    match Acceptor::open(alloc, records) {
-        Ok(acceptor) => Ok(acceptor),
-        Err(_) => Err(RowFault::Memory),
-    }
+/// An acceptor over the setup's member's records in a database. Faults: `Memory`, and `NotARow` where they are not opened or not loaded.
+pub(super) fn accepting<S: Alter + Drop>(
+    alloc: Global,
+    connection: Connection<S>,
+    setup: &Setup,
+) -> Result<Acceptor<SqlRecords<S>>, RowFault> {
+    let records = unless_refused(SqlRecords::open(alloc, connection, setup))?;
+    unless_failed(Acceptor::open(alloc, records))
 }
 
 /// What stands in a database, or why it is not opened as this member's.
@@ -67,26 +66,40 @@ pub(super) fn shown<S: Alter + Drop>(
     connection: Connection<S>,
     setup: &Setup,
 ) -> Result<String, RowFault> {
-    match SqlRecords::open(alloc, connection, setup) {
+    found(alloc, SqlRecords::open(alloc, connection, setup))
+}
+
+/// What stands in records that were opened, or why they were not.
+fn found<R: Records + Drop, C: Drop>(
+    alloc: Global,
+    opened: Result<R, (OpenFault, C)>,
+) -> Result<String, RowFault> {
+    match opened {
         Ok(mut records) => standing(alloc, &mut records),
-        Err((fault, _connection)) => refused(alloc, fault),
+        Err((fault, _)) => refused(alloc, fault),
     }
 }
 
-/// The promise of records, and how many failures there were.
-fn standing<S: Alter>(alloc: Global, records: &mut SqlRecords<S>) -> Result<String, RowFault> {
+/// What records hold, or how many failures there were.
+fn standing<R: Records>(alloc: Global, records: &mut R) -> Result<String, RowFault> {
     match records.load(alloc) {
-        Ok(record) => {
-            let promise = record.promise();
-            let (round, member) = (promise.round, promise.member);
-            Ok(format!(in alloc; "opened, promised {round},{member}")?)
-        }
+        Ok(record) => record_text(alloc, &record),
         Err(RecordsFault::Memory) => Err(RowFault::Memory),
         Err(RecordsFault::Store) => {
             let failures = records.failures();
             Ok(format!(in alloc; "opened, failures {failures}")?)
         }
     }
+}
+
+/// The promise of a record, and its first votes.
+fn record_text(alloc: Global, record: &Record) -> Result<String, RowFault> {
+    let promise = record.promise();
+    let (round, member) = (promise.round, promise.member);
+    let mut text = format!(in alloc; "opened, promised {round},{member}")?;
+    let window = record.window(alloc, promise, 1)?;
+    push_votes(alloc, &mut text, &window)?;
+    Ok(text)
 }
 
 /// The number of the fault.
@@ -101,7 +114,7 @@ pub(super) fn refused(alloc: Global, fault: OpenFault) -> Result<String, RowFaul
 }
 
 /// Runs statements. Fault: `NotARow` where one fails.
-fn run(connection: &mut Connection<MemStore>, sql: &str) -> Result<(), RowFault> {
+pub(super) fn run<S: Alter>(connection: &mut Connection<S>, sql: &str) -> Result<(), RowFault> {
     match connection.execute_batch(sql) {
         Ok(()) => Ok(()),
         Err(_) => Err(RowFault::NotARow),
@@ -112,35 +125,32 @@ fn run(connection: &mut Connection<MemStore>, sql: &str) -> Result<(), RowFault>
 pub(super) fn made(alloc: Global, mut words: Words) -> Result<String, RowFault> {
     let sql = words.text(alloc)?;
     let setup = read_setup(alloc, &mut words)?;
-    let connection = Connection::open_in_memory(alloc)?;
-    changed(alloc, connection, &sql, &setup)
+    changed(alloc, in_memory(alloc)?, &sql, &setup)
 }
 
 /// What becomes of records in which statements were run.
 pub(super) fn kept(alloc: Global, mut words: Words) -> Result<String, RowFault> {
     let sql = words.text(alloc)?;
     let setup = read_setup(alloc, &mut words)?;
-    let connection = voted(alloc)?;
-    changed(alloc, connection, &sql, &setup)
+    changed(alloc, voted(alloc)?, &sql, &setup)
 }
 
 /// A database in which 2,1 is promised, and a vote of that ballot stands at position 5.
 fn voted(alloc: Global) -> Result<Connection<MemStore>, RowFault> {
     let setup = first_setup(alloc)?;
-    let mut acceptor = opened(alloc, &setup)?;
     let mut answers = String::new(alloc);
-    play(alloc, &mut acceptor, "accept 5 2 1", &mut answers)?;
-    Ok(acceptor.into_records().into_connection())
+    let acceptor = accepting(alloc, in_memory(alloc)?, &setup)?;
+    let records = played(alloc, acceptor, "accept 5 2 1", &mut answers)?;
+    Ok(records.into_connection())
 }
 
 /// What becomes of a database in which statements are run, when it is opened as that member's.
-fn changed(
+fn changed<S: Alter + Drop>(
     alloc: Global,
-    connection: Connection<MemStore>,
+    mut connection: Connection<S>,
     sql: &str,
     setup: &Setup,
 ) -> Result<String, RowFault> {
-    let mut connection = connection;
-    run(&mut connection, sql)?;
-    shown(alloc, connection, setup)
+    let done = run(&mut connection, sql);
+    shown(alloc, keeping(done, connection)?, setup)
 }
