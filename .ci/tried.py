@@ -1,7 +1,7 @@
 """The crates whose wrong bodies were all refused when the text that stands here was tried: a line `CRATE: SUM` of the file .ci/tried for each.
 
-A sum is of all that such a try reads: the crate, every library below it, the toolchain's identity, the edits, and the scripts that say what an
-edit is and when it is refused. A check of the same text ends the same way, so the gate tries a crate anew where its sum has no line, and
+A sum is of what such a try reads: the crate, every library below it, the toolchain's identity, the edits, and the scripts that read edits and
+what the prover says of them (edits.py, verdicts.py). A check of the same text ends the same way, so the gate tries a crate anew where its sum has no line, and
 one in six of the others, which ones depends on the text of the whole repository: a line that no try has earned does not last.
 """
 
@@ -51,9 +51,10 @@ def due(crates):
     return [it for it in crates if it.name not in known or it.name in again]
 
 
-def write(crate):
-    """Notes that all wrong bodies of a crate were refused. Only whoever has just tried them may say so."""
-    said = lines() | {crate.name: sum_of(crate)}
+def write(crate, sum):
+    """Notes that all wrong bodies of a crate were refused, as it stood when it had that sum. Only whoever tried them may say so, and takes the sum
+    before the try begins, so that what changes meanwhile has no line."""
+    said = lines() | {crate.name: sum}
     with open(FILE, "w", encoding="utf-8") as it:
         it.write("# Written by .ci/wrong-bodies --write; .ci/tried.py says what it is for.\n")
         it.writelines(f"{name}: {sum}\n" for name, sum in sorted(said.items()))
