@@ -4,9 +4,10 @@
 //! element `a`, numbered by how many values were applied before, up to so many values; they give replies, `to` the last one or the first
 //! that is not `done` at its position. `reply CLIENT NUMBER` is the reply that is kept. `ask TEXT` is the answer to a question, and `bytes
 //! TEXT` how long it is. `seen` says how many values were applied, which identity is the next, how many children `db` has, and which is
-//! the last of them.
+//! the last of them; `inside` which nodes stand in that last one: each attribute's identity after a `@`, then each child's.
 
 use ballots::{Answer, Reply, Request, RequestFault, RequestId, Value};
+use data_model::NodeId;
 use document_names::NamesFault;
 use line_parts::read_names;
 use rows::{RowFault, Words};
@@ -59,6 +60,7 @@ fn called(alloc: Global, state: &mut State, words: &mut Words<'_>) -> Result<Str
         "ask" => answer(alloc, state, words),
         "bytes" => answer_length(alloc, state, words),
         "seen" => Ok(seen_text(alloc, seen(state))?),
+        "inside" => Ok(inside(alloc, state)?),
         _ => Err(RowFault::NotARow),
     }
 }
@@ -67,18 +69,22 @@ fn called(alloc: Global, state: &mut State, words: &mut Words<'_>) -> Result<Str
 type Seen = (u32, u64, usize, Option<u64>);
 
 fn seen(state: &State) -> Seen {
-    let forest = state.forest();
-    let children = match forest.document("db") {
-        Some(document) => forest.children(document),
-        None => &[],
-    };
+    let children = children(state);
     let last = children.last().map(|id| id.number());
     (
         state.applied(),
-        forest.next().number(),
+        state.forest().next().number(),
         children.len(),
         last,
     )
+}
+
+/// The children of `db`.
+fn children(state: &State) -> &[NodeId] {
+    match state.forest().document("db") {
+        Some(document) => state.forest().children(document),
+        None => &[],
+    }
 }
 
 fn seen_text(alloc: Global, (applied, next, children, last): Seen) -> Result<String, AllocError> {
@@ -86,6 +92,30 @@ fn seen_text(alloc: Global, (applied, next, children, last): Seen) -> Result<Str
         Some(last) => format!(in alloc; "{applied} {next} {children} {last}"),
         None => format!(in alloc; "{applied} {next} {children} none"),
     }
+}
+
+/// The identities of the attributes of the last child of `db`, each after a `@`, and then those of its children; or `none`.
+fn inside(alloc: Global, state: &State) -> Result<String, AllocError> {
+    let mut text = String::new(alloc);
+    let last = children(state).last().copied();
+    if let Some(node) = last.and_then(|id| state.forest().node(id)) {
+        push_identities(&mut text, "@", node.attributes)?;
+        push_identities(&mut text, "", node.children)?;
+    }
+    if text.is_empty() {
+        text.push_str("none")?;
+    }
+    Ok(text)
+}
+
+/// Appends identities, each after a mark.
+fn push_identities(text: &mut String, mark: &str, ids: &[NodeId]) -> Result<(), AllocError> {
+    for id in ids.iter() {
+        let number = id.number();
+        let space = if text.is_empty() { "" } else { " " };
+        write!(text, "{space}{mark}{number}")?;
+    }
+    Ok(())
 }
 
 /// A request of client 1.
