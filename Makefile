@@ -8,7 +8,7 @@ help:
 	@echo 'make edits     tries every wrong body of CRATES (all, if none is named), also those that the gate leaves out for time'
 	@echo 'make refusals  runs the tests of CRATES (all that have any, if none is named) with each allocation refused in turn'
 	@echo 'make paxq      proves paxq and what it stands on, and leaves the program at bin/paxq'
-	@echo 'make examples  runs bin/paxq on the examples and on input that it refuses'
+	@echo 'make examples  runs bin/paxq on the examples, on those of docs/LANGUAGE.md and on input that it refuses'
 	@echo 'make measure   proves measure, which runs parts for the benchmarks, and leaves it at bin/measure'
 	@echo 'make expressions  proves query_rows, which evaluates expressions for the benchmarks, and leaves it at bin/query_rows'
 	@echo 'make record_file  proves record_file, an acceptor'"'"'s record in a SQLite file, and leaves it at bin/record_file'
@@ -38,6 +38,7 @@ paxq:
 
 examples: paxq
 	examples/check bin/paxq
+	examples/language bin/paxq
 
 measure:
 	.ci/prove measure
