@@ -2,6 +2,7 @@
 //! what calls of states give.
 #![tactic(auto)]
 
+mod again;
 mod bytes;
 mod events;
 mod failing;
@@ -43,6 +44,7 @@ impl Answers for RunRows {
 fn result_of(alloc: Global, name: &str, words: &mut Words<'_>) -> Result<String, RowFault> {
     match name {
         "state" => states::state(alloc, words),
+        "again" => again::again(alloc, words),
         "request" => states::request(alloc, words),
         "prints" => prints(alloc, words),
         "unwritten" => unwritten(alloc, words),

@@ -34,7 +34,7 @@ pub(super) fn state(alloc: Global, words: &mut Words<'_>) -> Result<String, RowF
 }
 
 /// Appends what a call gave, after a bar where something stands there.
-fn push_given(out: &mut String, given: &str) -> Result<(), AllocError> {
+pub(super) fn push_given(out: &mut String, given: &str) -> Result<(), AllocError> {
     if !out.is_empty() {
         out.push_str(" | ")?;
     }
@@ -42,7 +42,7 @@ fn push_given(out: &mut String, given: &str) -> Result<(), AllocError> {
 }
 
 /// The state before any value.
-fn opened(alloc: Global) -> Result<State, RowFault> {
+pub(super) fn opened(alloc: Global) -> Result<State, RowFault> {
     match read_names(alloc, "db") {
         Ok(names) => State::new(alloc, &names).ok().ok_or(RowFault::Memory),
         Err(NamesFault::Memory) => Err(RowFault::Memory),
@@ -51,7 +51,11 @@ fn opened(alloc: Global) -> Result<State, RowFault> {
 }
 
 /// Takes the next call, and gives what it gave.
-fn called(alloc: Global, state: &mut State, words: &mut Words<'_>) -> Result<String, RowFault> {
+pub(super) fn called(
+    alloc: Global,
+    state: &mut State,
+    words: &mut Words<'_>,
+) -> Result<String, RowFault> {
     match words.plain()? {
         "submit" => submit(alloc, state, words),
         "noop" => apply(alloc, state, &Value::NoOp),
@@ -129,14 +133,23 @@ fn request_of(alloc: Global, number: u64, text: &str) -> Result<Request, RowFaul
 
 /// `NUMBER TEXT`: the reply to a request.
 fn submit(alloc: Global, state: &mut State, words: &mut Words<'_>) -> Result<String, RowFault> {
-    let number = words.number()?;
-    let text = words.text(alloc)?;
-    let request = request_of(alloc, number, &text)?;
+    let request = request_at(alloc, words)?;
     apply(alloc, state, &Value::Request(request))
 }
 
+/// `NUMBER TEXT`: a request of client 1.
+pub(super) fn request_at(alloc: Global, words: &mut Words<'_>) -> Result<Request, RowFault> {
+    let number = words.number()?;
+    let text = words.text(alloc)?;
+    request_of(alloc, number, &text)
+}
+
 /// Applies a value, and gives its reply, if memory is not refused. Fault: `NotARow` at the limit of values.
-fn run(alloc: Global, state: &mut State, value: &Value) -> Result<Option<Reply>, RowFault> {
+pub(super) fn run(
+    alloc: Global,
+    state: &mut State,
+    value: &Value,
+) -> Result<Option<Reply>, RowFault> {
     if state.applied() >= 1_000_000 {
         return Err(RowFault::NotARow);
     }
@@ -168,7 +181,7 @@ fn apply(alloc: Global, state: &mut State, value: &Value) -> Result<String, RowF
 }
 
 /// A reply, or `none`.
-fn reply_text(alloc: Global, reply: Option<Reply>) -> Result<String, AllocError> {
+pub(super) fn reply_text(alloc: Global, reply: Option<Reply>) -> Result<String, AllocError> {
     match reply {
         Some(Reply::Done(position)) => format!(in alloc; "done {position}"),
         Some(Reply::Fault(code, position)) => format!(in alloc; "fault {code} {position}"),
@@ -222,7 +235,16 @@ fn answer_to(alloc: Global, state: &State, question: &str) -> Result<Answer, Row
 /// `TEXT`: the text of an answer, or its code.
 fn answer(alloc: Global, state: &State, words: &mut Words<'_>) -> Result<String, RowFault> {
     let question = words.text(alloc)?;
-    let answer = answer_to(alloc, state, &question)?;
+    answer_text(alloc, state, &question)
+}
+
+/// The answer to a question, or its code.
+pub(super) fn answer_text(
+    alloc: Global,
+    state: &State,
+    question: &str,
+) -> Result<String, RowFault> {
+    let answer = answer_to(alloc, state, question)?;
     Ok(match &answer {
         Answer::Text(text) => {
             let text = text.as_str();
