@@ -58,6 +58,7 @@ record_file:
 bench: paxq measure expressions record_file
 	bench/run bin/paxq
 	bench/limits bin/paxq
+	bench/requests bin/paxq
 	bench/parts bin/measure
 	bench/expressions bin/query_rows
 	bench/steps bin/query_rows
