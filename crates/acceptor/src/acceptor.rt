@@ -67,6 +67,13 @@ impl<R: Records + Drop> Acceptor<R> {
         self.kept.promise()
     }
 
+    /// Whether its store has failed, since when it writes and answers nothing.
+    pub fn has_stopped(&self) -> bool
+        ensures { result ≡ self.now.is_stopped }
+    {
+        self.is_stopped
+    }
+
     /// Promises a ballot of its own, above the promise ("Paxos Made Simple", section 2.5: what a proposer has tried outlives stops).
     ///
     /// Faults: memory was refused, and nothing has changed; the store failed, now or before, and the acceptor has stopped.

@@ -28,7 +28,7 @@ pub told_plans : {R : Type 0} (x : Member R) (d : Draft) (s from : ℕ) (pairs :
     → chosen_packet x.number s pairs ≡ all_packets x.members x.number d.sends.items → d.tells.items ≡ [] → d.change ≡ Nothing → IsDrafted (Hears (packet s (CatchUp from) x.number)) x d
 told_plans x d s from pairs counted heard lowest sends tells change = record {
   heard = heard;
-  plans = λ app u nothing expected this.
+  plans = λ app u new this.
       let same : pairs ≡ take 8 (learnt_from x.members (news u.heard) from (suc positions - from)) =
       lowest ∙ ap (take 8) (pairs_heard x.members (news u.heard) (learnt_of x.learner) (λ q. this.hears.learnt q ∙ ap (λ n. learnt_at n q (news u.heard)) counted) from (suc positions - from)) in
       plain_message x u (packet s (CatchUp from) x.number) _ d this refl refl (ap (chosen_packet x.number s) (sym same) ∙ sends) tells change;

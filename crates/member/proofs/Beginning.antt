@@ -92,7 +92,7 @@ pub begun_plans : {R : Type 0} (x : Member R) (d : Draft) (p : ℕ) (known : Lis
     → Says d (send_to target.All (message.Prepare ballot (suc p)) ∷ []) (Begin a l) → IsDrafted Begins x d
 begun_plans {R} x d p known ballot lead a l members number counted is room rounds next above learnt writes changes begun said = record {
   heard = tt;
-  plans = λ app u nothing expected this.
+  plans = λ app u new this.
       let n = x.members in
       let m = x.number in
       let r = x.acceptor.kept in
@@ -107,6 +107,7 @@ begun_plans {R} x d p known ballot lead a l members number counted is room round
       subst (λ (f : Effect). TookPart f (to_all n m (Prepare ballot (suc p))) y) (sym e)
       (begun_took n m r.promise ballot (suc p) known lead y next (subst (λ j. IsBegun j ballot (suc p) known lead) members begun)
       (made.begun lead changes ∙ ap₂ (λ (i j : ℕ). record { members = i; member = j; lead = Some lead }) members number) u.heard u.leader u.applied r refl from fresh))
+      refl
       (λ y q. subst (HasHeard (news u.heard)) (sym (subst (λ c. Learns x.learner c y) said.change_is q)) this.hears)
       (ap (λ (f : Effect). f.write) e ∙ ap NewPromise (sym next) ∙ sym writes ∙ ap write_in (sym said.change_is))
       (ap (all_packets n m) said.sends_are ∙ append-nil _)

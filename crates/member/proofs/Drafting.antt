@@ -47,7 +47,7 @@ pub resent_plans : {R : Type 0} (x : Member R) (d : Draft) (said : Option Sends)
     → ((n m : ℕ) → all_packets n m d.sends.items ≡ accepts_first n m said) → d.tells.items ≡ [] → d.change ≡ Nothing → IsDrafted Resends x d
 resent_plans x d said members number took sends tells change = record {
   heard = tt;
-  plans = λ app u nothing expected this.
+  plans = λ app u new this.
       plain x u (resent x.members x.number u.heard u.leader) d this.knows this.hears
       (ap₂ (λ n m. resent n m u.heard u.leader) (sym members) (sym number) ∙ (took u.heard u.leader u.applied this.knows).sends ∙ ap₂ (λ n m. accepts_first n m said) members number ∙ sym (sends x.members x.number)) tells change;
 }
@@ -66,7 +66,7 @@ one_left p h = lt-ltb p 1000000 h
 pub caught_up_plans : {R : Type 0} (x : Member R) (p : ℕ) (d : Draft) → ((u : Running) → IsThis u x → p ≡ prefix x.members (news u.heard)) → nat_lt p positions ≡ false → Says d [] Nothing → IsDrafted CatchesUp x d
 caught_up_plans x p d is spent said = record {
   heard = tt;
-  plans = λ app u nothing expected this.
+  plans = λ app u new this.
       plain x u _ d this.knows this.hears
       (ap (λ (b : Bool). cond b (map (packet x.number (CatchUp (suc (prefix x.members (news u.heard))))) (filter (λ k. not (k == x.number)) (up_to x.members))) []) (ap (λ k. nat_lt k positions) (sym (is u this)) ∙ spent)
       ∙ sym (ap (all_packets x.members x.number) said.sends_are)) said.tells_are said.change_is;
@@ -77,7 +77,7 @@ pub catching_up_plans : {R : Type 0} (x : Member R) (p : ℕ) (d : Draft) → ((
     → Says d (send_to target.Others (message.CatchUp (suc p)) ∷ []) Nothing → IsDrafted CatchesUp x d
 catching_up_plans x p d is room said = record {
   heard = tt;
-  plans = λ app u nothing expected this.
+  plans = λ app u new this.
       plain x u _ d this.knows this.hears
       (ap₂ (λ (b : Bool) k. cond b (map (packet x.number (CatchUp (suc k))) (filter (λ j. not (j == x.number)) (up_to x.members))) []) (ap (λ k. nat_lt k positions) (sym (is u this)) ∙ room) (sym (is u this))
       ∙ sym (append-nil _) ∙ sym (ap (all_packets x.members x.number) said.sends_are)) said.tells_are said.change_is;
@@ -108,7 +108,7 @@ pub prepare_refused : {R : Type 0} (x : Member R) (sender : ℕ) (b : Ballot) (f
     → option_map window_of None ≡ on_prepare_answers x.acceptor.kept b from → Says d [] Nothing → IsDrafted (Hears (packet sender (Prepare b from) x.number)) x d
 prepare_refused x sender b from d heard answer said = record {
   heard = heard;
-  plans = λ app u nothing expected this. by_test u this (below b x.acceptor.kept.promise) answer;
+  plans = λ app u new this. by_test u this (below b x.acceptor.kept.promise) answer;
 }
   where
     by_test : (u : Running) → IsThis u x → (t : Bool) → None ≡ cond t None (Some (window b from x.acceptor.kept.votes))
@@ -127,7 +127,7 @@ pub prepare_answered : {R : Type 0} (x : Member R) (sender : ℕ) (b : Ballot) (
     → Says d (send_to (target.One b.member) (message.Promise w) ∷ []) (Answer a b) → IsDrafted (Hears (packet sender (Prepare b from) x.number)) x d
 prepare_answered x sender b from w a d heard answer writes said = record {
   heard = heard;
-  plans = λ app u nothing expected this. by_test u this (below b x.acceptor.kept.promise) answer writes;
+  plans = λ app u new this. by_test u this (below b x.acceptor.kept.promise) answer writes;
 }
   where
     some_one : {A : Type 0} {x y : A} → Some x ≡ Some y → x ≡ y
@@ -149,7 +149,7 @@ pub accept_refused : {R : Type 0} (x : Member R) (sender p : ℕ) (vote : Vote) 
     → on_accept_answers x.acceptor.kept vote ≡ false → Says d [] Nothing → IsDrafted (Hears (packet sender (Accept p vote) x.number)) x d
 accept_refused x sender p vote d heard answer said = record {
   heard = heard;
-  plans = λ app u nothing expected this. by_test u this (below vote.ballot x.acceptor.kept.promise) answer;
+  plans = λ app u new this. by_test u this (below vote.ballot x.acceptor.kept.promise) answer;
 }
   where
     by_test : (u : Running) → IsThis u x → (t : Bool) → not t ≡ false
@@ -168,7 +168,7 @@ pub accept_answered : {R : Type 0} (x : Member R) (sender p : ℕ) (vote : Vote)
     → Says d (send_to target.All (message.Accepted p vote) ∷ []) (Answer a vote.ballot) → IsDrafted (Hears (packet sender (Accept p vote) x.number)) x d
 accept_answered x sender p vote a d heard answer writes said = record {
   heard = heard;
-  plans = λ app u nothing expected this. by_test u this (below vote.ballot x.acceptor.kept.promise) answer writes;
+  plans = λ app u new this. by_test u this (below vote.ballot x.acceptor.kept.promise) answer writes;
 }
   where
     by_test : (u : Running) → IsThis u x → (t : Bool) → not t ≡ true → a.write ≡ cond t NoWrite (accept_write x.acceptor.kept p vote)
@@ -187,6 +187,6 @@ pub quiet_plans : {R : Type 0} (x : Member R) (k : Packet) (d : Draft) → IsHea
     → ((app : Application) (u : Running) → effect_of app x.members x.number x.acceptor.kept u (Hears k) ≡ quiet (hearing u (Hears k))) → Says d [] Nothing → IsDrafted (Hears k) x d
 quiet_plans {R} x k d heard silent free step said = record {
   heard = heard;
-  plans = λ app u nothing expected this.
+  plans = λ app u new this.
       subst (λ (e : Effect). Plans {R = R} e x d) (sym (step app u)) (plain_message x u k [] d this silent free (sym (ap (all_packets x.members x.number) said.sends_are)) said.tells_are said.change_is);
 }

@@ -3,7 +3,7 @@ use Rattle.std.proofs.Common.{◌≡◌, ℕ, suc, ◌+◌, ◌≤◌, Bool, tru
 use Rattle.std.specs.Prelude.{flat_map, ◌&&◌, ◌==◌}
 use Rattle.std.proofs.lemmas.Bool.{eq-eqb, ne_eqb}
 use Rattle.ballots.specs.Ballot.{is_majority}
-use Rattle.ballots.specs.Messages.{Accepted, Chosen, Packet, packet}
+use Rattle.ballots.specs.Messages.{Accepted, Body, Chosen, Packet, Promise, packet}
 use Rattle.ballots.specs.Values.{positions, IsRising}
 use Rattle.ballots.specs.declared.value.Pair.{Pair}
 use Rattle.ballots.specs.declared.value.Value.{Value}
@@ -16,8 +16,8 @@ use Rattle.learner.proofs.Hearing.{news_of_change}
 use Rattle.paxos.specs.Application.{Application}
 use Rattle.paxos.specs.Knowledge.{AcceptedBy, ChosenAre, Heard, accepted_by, first, learnt as learnt_at, newly, newly_at, news, news_of, pair_of, value_at}
 use Rattle.paxos.specs.Lists.{Has}
-use Rattle.paxos.specs.Records.{Nothing as NoWrite}
-use Rattle.paxos.specs.Step.{Effect, Leader, Running, learns, on_news}
+use Rattle.paxos.specs.Records.{Nothing as NoWrite, Record}
+use Rattle.paxos.specs.Step.{Effect, Leader, Running, is_called_for, learns, on_news}
 use Rattle.paxos.specs.WellFormed.{ArePairs}
 use Rattle.proposer.specs.declared.draft.Draft.{Draft as ProposerDraft}
 use Rattle.proposer.specs.declared.sends.Sends.{Sends}
@@ -37,6 +37,11 @@ learns_tells n m u [] o = (refl, refl)
 learns_tells n m u (e ∷ es) None = (refl, refl)
 learns_tells n m u (e ∷ es) (Some l) = (refl, refl)
 
+-- what tells something is called for
+called_news : (r : Record) (m : ℕ) (body : Body) (h : Heard) → news_of m body ≡ h ∷ [] → is_called_for r body ≡ true
+called_news r m (Promise w) h e = let f : ⊥ = cc in absurd f
+called_news r m body h e = refl
+
 -- A draft of what a message told, and of what is learnt by that, plans the step.
 pub news_plans : {R : Type 0} (x : Member R) (d : Draft) (k : Packet) (h : Heard) (l : LearnerDraft) (p : ProposerDraft (Option Sends)) → x.proposer.members ≡ x.members → x.proposer.member ≡ x.number → x.learner.members ≡ x.members → x.members ≤ 63
     → IsHeard x.members (Hears k) → news_of k.sender k.body ≡ h ∷ []
@@ -45,7 +50,7 @@ pub news_plans : {R : Type 0} (x : Member R) (d : Draft) (k : Packet) (h : Heard
     → ((n m : ℕ) → all_packets n m d.sends.items ≡ prepares_first n m p.answer) → ((u : Running) → IsThis u x → newly x.members h (news u.heard) ≡ d.tells.items) → d.change ≡ News l p → IsDrafted (Hears k) x d
 news_plans {R} x d k h l p members number counted few heard tells_one step change told takes sends tells is = record {
   heard = heard;
-  plans = λ app u nothing expected this.
+  plans = λ app u new this.
       let i = Hears k in
       let e = step app u in
       let does = learns_tells x.members x.number (hearing u i) (newly x.members h (news u.heard)) u.leader in
@@ -56,6 +61,7 @@ news_plans {R} x d k h l p members number counted few heard tells_one step chang
       (subst (λ m. TookPart (on_news x.members m u.heard (hearing u i) h) (prepares_first x.members m p.answer) y) number
       (subst (λ n. TookPart (on_news n x.proposer.member u.heard (hearing u i) h) (prepares_first n x.proposer.member p.answer) y) members
       (learned_took x.proposer y l.news p.change p.answer takes (commits x.proposer p.change y (subst (λ c. Leads x.proposer c y) is q)) u.heard u.leader u.applied k h tells_one places this.knows))))
+      (ap (λ t. cond t (hearing u i) u) (called_news x.acceptor.kept k.sender k.body h tells_one))
       (λ y q. subst (λ hs. HasHeard (hs ++ news u.heard) y) (sym tells_one) (subst (λ c. Learns x.learner c y) is q (news u.heard) h this.hears change))
       (ap (λ (f : Effect). f.write) e ∙ does.0 ∙ ap write_in (sym is))
       (sends x.members x.number)

@@ -1,3 +1,4 @@
+pub mod Short
 pub mod Keeping
 pub mod Joining
 pub mod Sending

@@ -10,7 +10,7 @@ use Rattle.paxos.specs.Application.{Application}
 use Rattle.paxos.specs.Knowledge.{news}
 use Rattle.paxos.specs.Proposing.{has_free_place, has_open, proposes}
 use Rattle.paxos.specs.Records.{Nothing as NoWrite, Record}
-use Rattle.paxos.specs.Step.{Effect, Leader, Running, cover_heard, is_learnt_heard, leading, on_new_request, on_submit, quiet, report_heard, turn_of as turn_heard, values_of}
+use Rattle.paxos.specs.Step.{Effect, Leader, Running, cover_heard, is_learnt_heard, leading, on_new_request, on_submit, quiet, report_heard, turn_of as turn_heard}
 use Rattle.proposer.proofs.Learned.{unmoved_knows}
 use Rattle.proposer.proofs.Submitted.{known_alike, submitted_took, turn_alike}
 use Rattle.proposer.specs.Knowing.{IsLed, Knows, TookPart, prepares_first}
@@ -22,7 +22,7 @@ use Rattle.member.proofs.Drafting.{plain_message}
 use Rattle.member.proofs.Keeping.{hearing}
 use Rattle.member.proofs.Leading.{led_plans}
 use Rattle.member.specs.Drafts.{HasMade, IsDrafted, Leads, Learns, Plans, Says, send_to, write_in}
-use Rattle.member.specs.Steps.{Member, Hears, IsHeard, IsThis, KnowsNothing, all_packets, effect_of}
+use Rattle.member.specs.Steps.{Member, Hears, IsHeard, IsThis, IsUnanswered, all_packets, effect_of}
 use Rattle.member.specs.declared.draft.Change.TheVariants.{Nothing, Submit as Submits}
 use Rattle.member.specs.declared.draft.Draft.{Draft}
 use Rattle.member.specs.declared.outcome.Target.TheVariants as target
@@ -32,9 +32,9 @@ some_one : {A : Type 0} {a b : A} → Some a ≡ Some b → a ≡ b
 some_one q = cc
 
 -- where no reply is kept, a request is a new one
-is_new : (app : Application) (n m s : ℕ) (r : Record) (u : Running) (q : Request) → KnowsNothing app
+is_new : (app : Application) (n m s : ℕ) (r : Record) (u : Running) (q : Request) → IsUnanswered app n u (Hears (packet s (Submit q) m))
     → effect_of app n m r u (Hears (packet s (Submit q) m)) ≡ on_new_request n m r (hearing u (Hears (packet s (Submit q) m))) q u.leader
-is_new app n m s r u q nothing = let v = hearing u (Hears (packet s (Submit q) m)) in ap (on_submit n m r v q) (nothing (values_of n v) q.client q.number)
+is_new app n m s r u q new = let v = hearing u (Hears (packet s (Submit q) m)) in ap (on_submit n m r v q) new
 
 -- a request whose step is to say something
 request_plans : {R : Type 0} (x : Member R) (s : ℕ) (q : Request) (ks : List Packet) (d : Draft) → IsHeard x.members (Hears (packet s (Submit q) x.number))
@@ -43,8 +43,8 @@ request_plans : {R : Type 0} (x : Member R) (s : ℕ) (q : Request) (ks : List P
     → ks ≡ all_packets x.members x.number d.sends.items → d.tells.items ≡ [] → d.change ≡ Nothing → IsDrafted (Hears (packet s (Submit q) x.number)) x d
 request_plans {R} x s q ks d heard step sends tells change = record {
   heard = heard;
-  plans = λ app u nothing expected this.
-      subst (λ (e : Effect). Plans {R = R} e x d) (sym (is_new app x.members x.number s x.acceptor.kept u q nothing ∙ step u this))
+  plans = λ app u new this.
+      subst (λ (e : Effect). Plans {R = R} e x d) (sym (is_new app x.members x.number s x.acceptor.kept u q new ∙ step u this))
       (plain_message x u (packet s (Submit q) x.number) ks d this refl refl sends tells change);
 }
 
@@ -123,12 +123,12 @@ pub submitted_plans : {R : Type 0} (x : Member R) (s : ℕ) (q : Request) (d : D
     → IsDrafted (Hears (packet s (Submit q) x.number)) x d
 submitted_plans {R} x s q d p heard members number unopened l made sends tells change = record {
   heard = heard;
-  plans = λ app u nothing expected this.
+  plans = λ app u new this.
       let k = packet s (Submit q) x.number in
       let i = Hears k in
       let r = x.acceptor.kept in
       let v = hearing u i in
-      let e = is_new app x.members x.number s r u q nothing in
+      let e = is_new app x.members x.number s r u q new in
       let quiet = request_writes x.members x.number r v q u.leader in
       led_plans {R = R} x d app u i (prepares_first x.members x.number (Some p.answer))
       (λ y c. let did : HasMade x.proposer p.change y = subst (λ b. Leads x.proposer b y) change c in
@@ -137,6 +137,7 @@ submitted_plans {R} x s q d p heard members number unopened l made sends tells c
       (subst (λ n. TookPart (on_new_request n x.proposer.member r v q u.leader) (prepares_first n x.proposer.member (Some p.answer)) y) members
       (submitted_took x.proposer y q l p.answer made.leads made.place made.least made.sends (did.proposed l (Of q) made.leads made.change_is) unopened (k ∷ u.heard) u.leader u.applied r
       (unmoved_knows u.heard u.leader x.proposer k refl refl this.knows)))))
+      refl
       (λ y c. subst (HasHeard (news u.heard)) (sym (subst (λ b. Learns x.learner b y) change c)) this.hears)
       (ap (λ (f : Effect). f.write) e ∙ quiet.0 ∙ ap write_in (sym change))
       (sends x.members x.number)

@@ -1,6 +1,6 @@
 -- What a member is about to do, and when that is what its step says.
-use Rattle.std.specs.Prelude.{◌≡◌, false, List, [], ◌∷◌, Option, Some}
-use Rattle.ballots.specs.Messages.{Packet}
+use Rattle.std.specs.Prelude.{◌≡◌, ◌≤◌, false, List, [], ◌∷◌, length, Option, Some}
+use Rattle.ballots.specs.Messages.{Body, Promise as Promises, Chosen, Answer as Answers, Packet, body_of}
 use Rattle.ballots.specs.declared.value.Value.{Value}
 use Rattle.acceptor.specs.Drafts.{IsDue as MayBeWritten}
 use Rattle.ballots.specs.declared.ballot.Ballot.{Ballot}
@@ -29,7 +29,7 @@ use Rattle.proposer.specs.Terms.{Leading, Proposer, proposing}
 use Rattle.member.specs.declared.draft.Change.{Change}
 use Rattle.member.specs.declared.draft.Change.TheVariants.{Nothing, Answer, Begin, Promise, News, Submit}
 use Rattle.member.specs.declared.draft.Draft.{Draft}
-use Rattle.member.specs.Steps.{Member, Input, Begins, IsExpected, IsHeard, IsThis, KnowsNothing, all_packets, effect_of}
+use Rattle.member.specs.Steps.{Member, Input, Begins, IsHeard, IsThis, IsUnanswered, all_packets, effect_of}
 
 -- what a change writes
 abbrev pub write_in : Change → Write
@@ -98,7 +98,7 @@ pub record Plans {R : Type 0} (e : Effect) (x : Member R) (d : Draft) : Type 0 w
 -- A draft is what comes of an input: it plans the member's step, whichever member of a world this is.
 pub record IsDrafted {R : Type 0} (i : Input) (x : Member R) (d : Draft) : Type 0 where
   pub heard : IsHeard x.members i
-  pub plans : (app : Application) (u : Running) → KnowsNothing app → IsExpected x.acceptor.kept i → IsThis u x
+  pub plans : (app : Application) (u : Running) → IsUnanswered app x.members u i → IsThis u x
       → Plans (effect_of app x.members x.number x.acceptor.kept u i) x d
 
 -- no ballot begins: positions or rounds are spent
@@ -125,6 +125,18 @@ prepare_send b a = send_to (target.One a.member) (message.Prepare b a.from)
 -- an Accept to all
 abbrev pub accept_send : Ballot → Pair → Send
 accept_send b e = send_to target.All (message.Accept e.position (record { ballot = b; value = e.value }))
+
+-- a message of at most 8 entries, and no answer
+abbrev pub IsShort : Body → Type 0
+IsShort (Promises w) = length w.entries ≤ 8
+IsShort (Chosen pairs) = length pairs ≤ 8
+IsShort (Answers client number applied answer) = ⊥
+IsShort body = Unit {0}
+
+-- each message is
+abbrev pub AreShort : List Send → Type 0
+AreShort [] = Unit {0}
+AreShort (s ∷ ss) = IsShort (body_of s.message) × AreShort ss
 
 -- the draft sends just this, tells nothing and changes this
 pub record Says (d : Draft) (sends : List Send) (change : Change) : Type 0 where

@@ -1,16 +1,15 @@
 -- What a member is, when it is one of a world, and when it has taken a step of the protocol.
 use Rattle.std.specs.Prelude.{◌≡◌, ℕ, not, ◌==◌, false, List, [], ◌∷◌, map, filter, flat_map, Some, None}
-use Rattle.ballots.specs.Messages.{Body, Ask, Packet, packet, up_to, to_all, body_of}
+use Rattle.ballots.specs.Messages.{Body, Submit, Ask, Packet, packet, up_to, to_all, body_of}
 use Rattle.ballots.specs.declared.value.Value.{Value}
 use Rattle.acceptor.specs.Steps.{Acceptor}
 use Rattle.learner.specs.Hearing.{HasHeard}
 use Rattle.learner.specs.Terms.{Learner}
 use Rattle.paxos.specs.Application.{Application}
-use Rattle.paxos.specs.Knowledge.{news, prefix}
+use Rattle.paxos.specs.Knowledge.{news}
 use Rattle.paxos.specs.Records.{Record, written}
-use Rattle.paxos.specs.Step.{Running, Effect, on_message, on_begin, on_resend, on_catch_up_tick}
-use Rattle.paxos.specs.WellFormed.{IsCalledFor, IsMessage, IsState}
-use Rattle.paxos.specs.World.{applies_to}
+use Rattle.paxos.specs.Step.{Running, Effect, values_of, on_message, on_begin, on_resend, on_catch_up_tick}
+use Rattle.paxos.specs.WellFormed.{IsMessage, IsState}
 use Rattle.proposer.specs.Knowing.{Knows}
 use Rattle.proposer.specs.Terms.{Proposer}
 use Rattle.member.specs.declared.input.Input.{Input as InputOfCode}
@@ -29,12 +28,11 @@ pub record Member (R : Type 0) : Type 0 where
   pub proposer : Proposer
   pub learner : Learner
 
--- A running member is this one: its learner and its proposer know what it heard since its start and what it leads, its record and what
--- it leads are well formed, and it has applied all that it has learnt without a gap.
+-- A running member is this one: its learner and its proposer know what it heard since its start and what it leads, and its record and what
+-- it leads are well formed. How much of what is learnt is applied is no matter of these parts.
 pub record IsThis {R : Type 0} (u : Running) (x : Member R) : Type 0 where
   pub hears : HasHeard (news u.heard) x.learner
   pub knows : Knows u.heard u.leader x.proposer
-  pub applied : u.applied ≡ prefix x.members (news u.heard)
   pub state : IsState x.members x.number x.acceptor.kept u
   pub runs : x.acceptor.is_stopped ≡ false
 
@@ -68,19 +66,25 @@ abbrev pub IsNoQuestion : Body → Type 0
 IsNoQuestion (Ask q) = ⊥
 IsNoQuestion body = Unit {0}
 
+-- a well-formed message
+abbrev pub MayCome : (members : ℕ) → Input → Type 0
+MayCome n (Hears k) = IsMessage n k
+MayCome n i = Unit {0}
+
 -- a well-formed message, and no question: questions are answered where requests are run
 abbrev pub IsHeard : (members : ℕ) → Input → Type 0
 IsHeard n (Hears k) = IsMessage n k × IsNoQuestion k.body
 IsHeard n i = Unit {0}
 
--- no promise of a ballot above its own promise
-abbrev pub IsExpected : Record → Input → Type 0
-IsExpected r (Hears k) = IsCalledFor r k.body
-IsExpected r i = Unit {0}
+-- no reply is kept for a request, if it is one
+abbrev pub IsNew : Application → List Value → Body → Type 0
+IsNew app values (Submit q) = app.reply values q.client q.number ≡ None
+IsNew app values body = Unit {0}
 
--- no reply is kept for any client and number
-abbrev pub KnowsNothing : Application → Type 0
-KnowsNothing app = (values : List Value) (client number : ℕ) → app.reply values client number ≡ None
+-- No reply is kept for what comes: a request that was applied is answered where it was, and comes to none of these parts.
+abbrev pub IsUnanswered : Application → (members : ℕ) → Running → Input → Type 0
+IsUnanswered app n u (Hears k) = IsNew app (values_of n u) k.body
+IsUnanswered app n u i = Unit {0}
 
 -- what a member sends, as messages to one target each
 abbrev pub packets_of : (members : ℕ) → (self : ℕ) → Send → List Packet
@@ -94,18 +98,13 @@ packets_of n m s = elim s.to as (λ t. List Packet) [
 abbrev pub all_packets : (members : ℕ) → (self : ℕ) → List Send → List Packet
 all_packets n m sends = flat_map (packets_of n m) sends
 
--- all learnt positions without a gap are applied
-abbrev pub all_applied : (members : ℕ) → Running → Running
-all_applied n u = applies_to n (prefix n (news u.heard)) u
-
--- The member has taken a step: its record is written, it runs on as the step says and has applied all that it has learnt without a gap,
--- and it sends and is told just what the step says.
+-- The member has taken a step: its record is written, it runs on as the step says, and it sends and is told just what the step says.
 pub record Took {R : Type 0} (e : Effect) (old new : Member R) (outcome : Outcome) : Type 0 where
   pub members : new.members ≡ old.members
   pub number : new.number ≡ old.number
   pub record_is : new.acceptor.kept ≡ written e.write old.acceptor.kept
   pub running : Running
   pub runs : e.running ≡ Some running
-  pub is_this : IsThis (all_applied old.members running) new
+  pub is_this : IsThis running new
   pub sends : e.sends ≡ all_packets old.members old.number outcome.sends.items
   pub tells : e.tells ≡ outcome.tells.items

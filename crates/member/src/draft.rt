@@ -1,12 +1,15 @@
 //! What a member is about to change, to send and to be told.
 
-ghost use Rattle.std.specs.Prelude.{◌≡◌};
+ghost use Rattle.std.specs.Prelude.{◌≡◌, [], ◌∷◌, IfOk};
+ghost use Rattle.member.specs.Drafts.{Says, send_to};
 
-use super::outcome::Send;
+use super::outcome::{Send, Target};
+use super::sends::say;
 use acceptor::Draft as AcceptorDraft;
-use ballots::{Ballot, Pair};
+use ballots::{Ballot, Message, Pair};
 use learner::Draft as LearnerDraft;
 use proposer::{Draft as ProposerDraft, Sends};
+use std::alloc::{AllocError, Global};
 
 /// A change of a member.
 #[derive(Drop)]
@@ -36,6 +39,15 @@ pub struct Draft {
 }
 
 impl Draft {
+    /// A message to the client that it names, and nothing else: what was answered before, or where to ask.
+    ///
+    /// It fails where memory is refused.
+    pub fn to_client(alloc: Global, message: Message) -> Result<Draft, AllocError>
+        ensures { IfOk result (λ d. Says d (send_to Target.Client message ∷ []) Change.Nothing) }
+    {
+        say(alloc, Target::Client, message, Change::Nothing)
+    }
+
     /// The messages that the commit will give, in order.
     pub fn sends(&self) -> &[Send]
         ensures { result.now ≡ self.now.sends.items }

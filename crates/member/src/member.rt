@@ -14,13 +14,13 @@ ghost use Rattle.acceptor.specs.Steps.{IsAsWas, Stopped};
 ghost use Rattle.ballots.specs.Messages.{Accept, Accepted, CatchUp, Chosen, Prepare, Promise, Submit, body_of, packet, window_of};
 ghost use Rattle.paxos.specs.Application.{Application};
 ghost use Rattle.proposer.specs.Hearing.{IsWindow};
-ghost use Rattle.ballots.specs.Ballot.{last_round};
+ghost use Rattle.ballots.specs.Ballot.{below, last_round};
 ghost use Rattle.ballots.specs.Values.{positions};
 ghost use Rattle.learner.specs.Hearing.{AreAbove};
 ghost use Rattle.std.specs.List.{All};
 ghost use Rattle.proposer.specs.Submitting.{IsReady as MayBeLed};
-ghost use Rattle.member.specs.Drafts.{HasMade, IsDrafted, IsMade, IsReady, IsSpent, IsUnchanged, MayBeMade, write_in};
-ghost use Rattle.member.specs.Steps.{Input as InputTerm, Hears, Begins, Resends, CatchesUp, IsExpected, IsHeard, IsThis, KnowsNothing, Took, effect_of, input_of};
+ghost use Rattle.member.specs.Drafts.{AreShort, HasMade, IsDrafted, IsMade, IsReady, IsSpent, IsUnchanged, MayBeMade, Plans, write_in};
+ghost use Rattle.member.specs.Steps.{Input as InputTerm, Hears, Begins, Resends, CatchesUp, IsHeard, IsThis, MayCome, Took, effect_of, input_of};
 
 use super::draft::{Change, Draft};
 use super::fault::MemberFault;
@@ -115,10 +115,16 @@ impl<R: Records + Drop> Member<R> {
         self.acceptor.promised()
     }
 
+    /// Whether its store has failed, since when nothing may come to it.
+    pub fn has_stopped(&self) -> bool
+        ensures { result ≡ self.now.acceptor.is_stopped }
+    {
+        self.acceptor.has_stopped()
+    }
+
     /// How many positions it has learnt from 1 on without a gap.
     pub fn prefix(&self) -> u32
         ensures heard { (u : Running) → IsThis u self.now → result ≡ prefix self.now.members (news u.heard) }
-        ensures applied { (u : Running) → IsThis u self.now → result ≡ u.applied }
     {
         self.learner.prefix()
     }
@@ -148,6 +154,7 @@ impl<R: Records + Drop> Member<R> {
         requires runs { self.old.acceptor.is_stopped ≡ false }
         ensures drafted { IfOk result (λ d. IsDrafted (input_of self.old.number input.now) self.new d) }
         ensures ready { IfOk result (λ d. IsReady self.new d) }
+        ensures short { IfOk result (λ d. AreShort d.sends.items) }
         ensures same { (u : Running) → IsThis u self.old → IsThis u self.new }
         ensures record_same { self.new.acceptor ≡ self.old.acceptor }
         ensures place { (self.new.members ≡ self.old.members) × (self.new.number ≡ self.old.number) }
@@ -175,6 +182,7 @@ impl<R: Records + Drop> Member<R> {
         requires runs { self.old.acceptor.is_stopped ≡ false }
         ensures drafted { IfOk result (λ d. IsDrafted (Hears (packet sender (body_of message.now) self.old.number)) self.new d) }
         ensures ready { IfOk result (λ d. IsReady self.new d) }
+        ensures short { IfOk result (λ d. AreShort d.sends.items) }
         ensures same { IsUnchanged self.old self.new }
         ensures fault { IfErr result (λ fault. fault ≡ MemberFault.Memory) }
     {
@@ -204,6 +212,7 @@ impl<R: Records + Drop> Member<R> {
         requires runs { self.now.acceptor.is_stopped ≡ false }
         ensures drafted { IfOk result (λ d. IsDrafted Begins self.now d) }
         ensures ready { IfOk result (λ d. IsReady self.now d) }
+        ensures short { IfOk result (λ d. AreShort d.sends.items) }
         ensures spent { (u : Running) → IsThis u self.now → (IsErrOf result MemberFault.Spent ↔ (may_begin self.now.members self.now.acceptor.kept u ≡ false)) }
     {
         let prefix = self.prefix();
@@ -228,6 +237,7 @@ impl<R: Records + Drop> Member<R> {
         requires round { self.now.acceptor.kept.promise.round < last_round }
         ensures drafted { IfOk result (λ d. IsDrafted Begins self.now d) }
         ensures ready { IfOk result (λ d. IsReady self.now d) }
+        ensures short { IfOk result (λ d. AreShort d.sends.items) }
         ensures fault { IfErr result (λ fault. fault ≡ MemberFault.Memory) }
     {
         let from = learnt + 1;
@@ -257,6 +267,7 @@ impl<R: Records + Drop> Member<R> {
     fn draft_resend(&self, alloc: Global) -> Result<Draft, MemberFault>
         ensures drafted { IfOk result (λ d. IsDrafted Resends self.now d) }
         ensures ready { IfOk result (λ d. IsReady self.now d) }
+        ensures short { IfOk result (λ d. AreShort d.sends.items) }
         ensures fault { IfErr result (λ fault. fault ≡ MemberFault.Memory) }
     {
         // Of these members, and this one.
@@ -277,6 +288,7 @@ impl<R: Records + Drop> Member<R> {
     fn draft_catch_up(&self, alloc: Global) -> Result<Draft, MemberFault>
         ensures drafted { IfOk result (λ d. IsDrafted CatchesUp self.now d) }
         ensures ready { IfOk result (λ d. IsReady self.now d) }
+        ensures short { IfOk result (λ d. AreShort d.sends.items) }
         ensures fault { IfErr result (λ fault. fault ≡ MemberFault.Memory) }
     {
         let prefix = self.prefix();
@@ -306,6 +318,7 @@ impl<R: Records + Drop> Member<R> {
         requires runs { self.now.acceptor.is_stopped ≡ false }
         ensures drafted { IfOk result (λ d. IsDrafted (Hears (packet sender (Prepare ballot from) self.now.number)) self.now d) }
         ensures ready { IfOk result (λ d. IsReady self.now d) }
+        ensures short { IfOk result (λ d. AreShort d.sends.items) }
         ensures fault { IfErr result (λ fault. fault ≡ MemberFault.Memory) }
     {
         let Ok(draft) = self.acceptor.draft_prepare(alloc, ballot, from) else {
@@ -338,6 +351,7 @@ impl<R: Records + Drop> Member<R> {
         requires runs { self.old.acceptor.is_stopped ≡ false }
         ensures drafted { IfOk result (λ d. IsDrafted (Hears (packet sender (Accept position vote.now) self.old.number)) self.new d) }
         ensures ready { IfOk result (λ d. IsReady self.new d) }
+        ensures short { IfOk result (λ d. AreShort d.sends.items) }
         ensures same { self.new ≡ self.old }
         ensures fault { IfErr result (λ fault. fault ≡ MemberFault.Memory) }
     {
@@ -356,7 +370,8 @@ impl<R: Records + Drop> Member<R> {
         )?)
     }
 
-    /// What comes of a promise from a member ("Paxos Made Simple", sections 2.2 and 3). Nothing but room has changed.
+    /// What comes of a promise from a member: nothing, where it is of a ballot above its own promise, for which it has not asked. Nothing
+    /// but room has changed.
     ///
     /// Fault: memory was refused.
     fn draft_promise(
@@ -371,6 +386,33 @@ impl<R: Records + Drop> Member<R> {
         requires window { IsWindow (window_of window.now) }
         ensures drafted { IfOk result (λ d. IsDrafted (Hears (packet sender (Promise (window_of window.now)) self.old.number)) self.new d) }
         ensures ready { IfOk result (λ d. IsReady self.new d) }
+        ensures short { IfOk result (λ d. AreShort d.sends.items) }
+        ensures same { IsUnchanged self.old self.new }
+        ensures fault { IfErr result (λ fault. fault ≡ MemberFault.Memory) }
+    {
+        if self.promised().is_below(window.ballot) {
+            return Ok(quiet(alloc));
+        }
+        self.draft_window(alloc, sender, window)
+    }
+
+    /// What comes of a promise for which it has asked ("Paxos Made Simple", sections 2.2 and 3). Nothing but room has changed.
+    ///
+    /// Fault: memory was refused.
+    fn draft_window(
+        &mut self,
+        alloc: Global,
+        sender: u8,
+        window: &Window,
+    ) -> Result<Draft, MemberFault>
+        requires heard { IsHeard self.old.members (Hears (packet sender (Promise (window_of window.now)) self.old.number)) }
+        requires least { 1 ≤ sender }
+        requires most { sender ≤ self.old.members }
+        requires called_for { below self.old.acceptor.kept.promise window.now.ballot ≡ false }
+        requires window { IsWindow (window_of window.now) }
+        ensures drafted { IfOk result (λ d. IsDrafted (Hears (packet sender (Promise (window_of window.now)) self.old.number)) self.new d) }
+        ensures ready { IfOk result (λ d. IsReady self.new d) }
+        ensures short { IfOk result (λ d. AreShort d.sends.items) }
         ensures same { IsUnchanged self.old self.new }
         ensures fault { IfErr result (λ fault. fault ≡ MemberFault.Memory) }
     {
@@ -400,6 +442,7 @@ impl<R: Records + Drop> Member<R> {
         requires most { position ≤ positions }
         ensures drafted { IfOk result (λ d. IsDrafted (Hears (packet sender (Accepted position vote.now) self.old.number)) self.new d) }
         ensures ready { IfOk result (λ d. IsReady self.new d) }
+        ensures short { IfOk result (λ d. AreShort d.sends.items) }
         ensures same { IsUnchanged self.old self.new }
         ensures fault { IfErr result (λ fault. fault ≡ MemberFault.Memory) }
     {
@@ -428,6 +471,7 @@ impl<R: Records + Drop> Member<R> {
         requires pairs { ArePairs 1 pairs.now }
         ensures drafted { IfOk result (λ d. IsDrafted (Hears (packet sender (Chosen pairs.now) self.old.number)) self.new d) }
         ensures ready { IfOk result (λ d. IsReady self.new d) }
+        ensures short { IfOk result (λ d. AreShort d.sends.items) }
         ensures same { IsUnchanged self.old self.new }
         ensures fault { IfErr result (λ fault. fault ≡ MemberFault.Memory) }
     {
@@ -447,6 +491,7 @@ impl<R: Records + Drop> Member<R> {
         requires heard { IsHeard self.now.members (Hears (packet sender (CatchUp from) self.now.number)) }
         ensures drafted { IfOk result (λ d. IsDrafted (Hears (packet sender (CatchUp from) self.now.number)) self.now d) }
         ensures ready { IfOk result (λ d. IsReady self.now d) }
+        ensures short { IfOk result (λ d. AreShort d.sends.items) }
         ensures fault { IfErr result (λ fault. fault ≡ MemberFault.Memory) }
     {
         let pairs = lowest_pairs(alloc, &self.learner, from)?;
@@ -474,6 +519,7 @@ impl<R: Records + Drop> Member<R> {
         requires heard { IsHeard self.now.members (Hears (packet sender (Submit request.now) self.now.number)) }
         ensures drafted { IfOk result (λ d. IsDrafted (Hears (packet sender (Submit request.now) self.now.number)) self.now d) }
         ensures ready { IfOk result (λ d. IsReady self.now d) }
+        ensures short { IfOk result (λ d. AreShort d.sends.items) }
         ensures fault { IfErr result (λ fault. fault ≡ MemberFault.Memory) }
     {
         let id = request.id();
@@ -498,19 +544,18 @@ impl<R: Records + Drop> Member<R> {
     }
 
     /// Makes what was drafted for this very member, which has not changed since: first what the acceptor writes. It gives what is sent and
-    /// told.
+    /// told. Whatever step the draft plans is taken.
     ///
     /// It takes no memory but what its records take. Faults: memory was refused, and nothing has changed; the store failed, and the
     /// acceptor has stopped.
     pub fn commit(&mut self, alloc: Global, draft: Draft) -> Result<Outcome, RecordsFault>
         requires ready { IsReady self.old draft }
-        ensures took { IfOk result (λ outcome. (app : Application) (i : InputTerm) (u : Running) → KnowsNothing app → IsDrafted i self.old draft → IsExpected self.old.acceptor.kept i
-            → IsThis u self.old → Took (effect_of app self.old.members self.old.number self.old.acceptor.kept u i) self.old self.new outcome) }
+        ensures took { IfOk result (λ outcome. (app : Application) (i : InputTerm) (u : Running) → MayCome self.old.members i → IsThis u self.old
+            → Plans (effect_of app self.old.members self.old.number self.old.acceptor.kept u i) self.old draft
+            → Took (effect_of app self.old.members self.old.number self.old.acceptor.kept u i) self.old self.new outcome) }
         ensures runs { OnOk result (self.old.acceptor.is_stopped ≡ false → self.new.acceptor.is_stopped ≡ false) }
         ensures says { IfOk result (λ outcome. (outcome.sends.items ≡ draft.sends.items) × (outcome.tells.items ≡ draft.tells.items)) }
         ensures memory { IsErrOf result RecordsFault.Memory → IsAsWas R.failed self.old.acceptor self.new.acceptor × ((u : Running) → IsThis u self.old → IsThis u self.new) }
-        ensures store { IsErrOf result RecordsFault.Store → (app : Application) (i : InputTerm) (u : Running) → KnowsNothing app → IsDrafted i self.old draft → IsExpected self.old.acceptor.kept i
-            → IsThis u self.old → Stopped R.stands R.is_kept R.failed self.old.acceptor self.new.acceptor (effect_of app self.old.members self.old.number self.old.acceptor.kept u i).write }
         ensures stops { IsErrOf result RecordsFault.Store → Stopped R.stands R.is_kept R.failed self.old.acceptor self.new.acceptor (write_in draft.change) }
         ensures writes { IsErrOf result RecordsFault.Store → self.old.acceptor.is_stopped ≡ false → writes (write_in draft.change) ≡ true }
         ensures went { self.old.acceptor.is_stopped ≡ false → R.is_kept self.new.acceptor.records → Went (R.stands self.new.acceptor.records) (R.fates self.old.acceptor.records) (R.fates self.new.acceptor.records) false self.old.acceptor.kept (write_in draft.change) result }
@@ -569,12 +614,8 @@ impl<R: Records + Drop> Member<R> {
     /// It takes no memory but what its records take. Faults: as of `commit`.
     pub fn cut(&mut self, alloc: Global, draft: Draft) -> Result<(), RecordsFault>
         requires ready { IsReady self.old draft }
-        ensures wrote { OnOk result ((app : Application) (i : InputTerm) (u : Running) → KnowsNothing app → IsDrafted i self.old draft → IsExpected self.old.acceptor.kept i
-            → IsThis u self.old → (self.new.acceptor.kept ≡ written (effect_of app self.old.members self.old.number self.old.acceptor.kept u i).write self.old.acceptor.kept) × (self.new.acceptor.is_stopped ≡ false)) }
-        ensures runs { OnOk result (self.old.acceptor.is_stopped ≡ false → self.new.acceptor.is_stopped ≡ false) }
+        ensures wrote { OnOk result (self.old.acceptor.is_stopped ≡ false → (self.new.acceptor.kept ≡ written (write_in draft.change) self.old.acceptor.kept) × (self.new.acceptor.is_stopped ≡ false)) }
         ensures memory { IsErrOf result RecordsFault.Memory → IsAsWas R.failed self.old.acceptor self.new.acceptor × ((u : Running) → IsThis u self.old → IsThis u self.new) }
-        ensures store { IsErrOf result RecordsFault.Store → (app : Application) (i : InputTerm) (u : Running) → KnowsNothing app → IsDrafted i self.old draft → IsExpected self.old.acceptor.kept i
-            → IsThis u self.old → Stopped R.stands R.is_kept R.failed self.old.acceptor self.new.acceptor (effect_of app self.old.members self.old.number self.old.acceptor.kept u i).write }
         ensures stops { IsErrOf result RecordsFault.Store → Stopped R.stands R.is_kept R.failed self.old.acceptor self.new.acceptor (write_in draft.change) }
         ensures same { (self.new.proposer ≡ self.old.proposer) × (self.new.learner ≡ self.old.learner) }
         ensures writes { IsErrOf result RecordsFault.Store → self.old.acceptor.is_stopped ≡ false → writes (write_in draft.change) ≡ true }

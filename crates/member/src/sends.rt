@@ -2,7 +2,7 @@
 
 ghost use Rattle.std.specs.Prelude.{◌≡◌, ℕ, [], ◌∷◌, ◌++◌, map, Some, IfOk, OnOk};
 ghost use Rattle.proposer.specs.Knowing.{accepts_first, prepares_first};
-ghost use Rattle.member.specs.Drafts.{Says, accept_send, prepare_send, send_to};
+ghost use Rattle.member.specs.Drafts.{AreShort, Says, accept_send, prepare_send, send_to};
 ghost use Rattle.member.specs.Steps.{all_packets};
 
 use super::draft::{Change, Draft};
@@ -13,7 +13,8 @@ use std::alloc::{AllocError, Global};
 
 /// The Prepares, then the Accepts; nothing where it doesn't lead.
 pub(super) fn prepares_first(alloc: Global, said: &Option<Sends>) -> Result<Vec<Send>, AllocError>
-    ensures { IfOk result (λ v. (n m : ℕ) → all_packets n m v.items ≡ prepares_first n m said.now) }
+    ensures sends { IfOk result (λ v. (n m : ℕ) → all_packets n m v.items ≡ prepares_first n m said.now) }
+    ensures short { IfOk result (λ v. AreShort v.items) }
 {
     match said {
         Some(said) => prepares_then_accepts(alloc, said),
@@ -23,7 +24,8 @@ pub(super) fn prepares_first(alloc: Global, said: &Option<Sends>) -> Result<Vec<
 
 /// The Prepares, then the Accepts.
 pub(super) fn prepares_then_accepts(alloc: Global, said: &Sends) -> Result<Vec<Send>, AllocError>
-    ensures { IfOk result (λ v. (n m : ℕ) → all_packets n m v.items ≡ prepares_first n m (Some said.now)) }
+    ensures sends { IfOk result (λ v. (n m : ℕ) → all_packets n m v.items ≡ prepares_first n m (Some said.now)) }
+    ensures short { IfOk result (λ v. AreShort v.items) }
 {
     let mut sends = Vec::new(alloc);
     push_prepares(&mut sends, said)?;
@@ -33,7 +35,8 @@ pub(super) fn prepares_then_accepts(alloc: Global, said: &Sends) -> Result<Vec<S
 
 /// The Accepts, then the Prepares; nothing where it doesn't lead.
 pub(super) fn accepts_first(alloc: Global, said: &Option<Sends>) -> Result<Vec<Send>, AllocError>
-    ensures { IfOk result (λ v. (n m : ℕ) → all_packets n m v.items ≡ accepts_first n m said.now) }
+    ensures sends { IfOk result (λ v. (n m : ℕ) → all_packets n m v.items ≡ accepts_first n m said.now) }
+    ensures short { IfOk result (λ v. AreShort v.items) }
 {
     let mut sends = Vec::new(alloc);
     let Some(said) = said else {

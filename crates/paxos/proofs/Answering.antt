@@ -10,7 +10,7 @@ use Rattle.ballots.specs.Messages.{Packet, packet, Body, Prepare, Promise, Accep
 use Rattle.paxos.specs.Application.{Application}
 use Rattle.paxos.specs.Records.{Record}
 use Rattle.paxos.specs.Knowledge.{learnt, pair_of, Heard, AcceptedBy, ChosenAre, news_of, news, newly, prefix, learnt_from}
-use Rattle.paxos.specs.Step.{Running, says, on_news, chosen_packet, on_catch_up, values_of, on_submit, on_ask, on_body, on_message, on_catch_up_tick}
+use Rattle.paxos.specs.Step.{Running, quiet, says, on_news, chosen_packet, on_catch_up, values_of, on_submit, on_ask, on_body, is_called_for, on_message, on_catch_up_tick}
 use Rattle.paxos.specs.World.{told_to, World}
 use Rattle.paxos.specs.Agreement.{IsChosen}
 use Rattle.paxos.proofs.Lists.{has_take}
@@ -131,5 +131,9 @@ hears w m r u k h s = record {
 
 -- each message that was sent
 pub message_good : (w : World) (m : ℕ) (r : Record) (u : Running) (app : Application) (k : Packet) → Has w.sent k → Stands w m r u [] → Good w m r (on_message app (length w.members) m k r u)
-message_good w m r u app k h s = body_good w m r (record { heard = k ∷ u.heard; leader = u.leader; applied = u.applied }) app u.heard s.heard k.sender k.body
-    (record { packet = k; sent = h; from = refl; says = refl }) (hears w m r u k h s)
+message_good w m r u app k h s = one (is_called_for r k.body)
+  where
+    one : (t : Bool) → Good w m r (cond t (on_body app (length w.members) m u.heard r (record { heard = k ∷ u.heard; leader = u.leader; applied = u.applied }) k.sender k.body) (quiet u))
+    one true = body_good w m r (record { heard = k ∷ u.heard; leader = u.leader; applied = u.applied }) app u.heard s.heard k.sender k.body
+        (record { packet = k; sent = h; from = refl; says = refl }) (hears w m r u k h s)
+    one false = quiet_good w m r u s

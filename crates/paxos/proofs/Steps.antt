@@ -18,7 +18,7 @@ use Rattle.paxos.specs.Application.{Application}
 use Rattle.paxos.specs.Records.{Record, window, Write, Nothing, NewPromise, NewVote, written, prepare_write, has_vote, vote_at, accept_write}
 use Rattle.paxos.specs.Knowledge.{AcceptedBy, ChosenAre, news, newly, prefix, learnt_from, joins}
 use Rattle.paxos.specs.Proposing.{Turn, proposes, has_open, has_free_place}
-use Rattle.paxos.specs.Step.{Leader, Running, Effect, says, quiet, yields, yielding, on_prepare, on_accept, cover_heard, report_heard, is_learnt_heard, turn_of, goes_on, accepts, leading, asks_on, on_promise, closes, learns, chosen_packet, on_catch_up, values_of, on_new_request, on_submit, on_ask, on_body, on_message, next_ballot, may_begin, begins, on_begin, resent, on_resend, on_catch_up_tick}
+use Rattle.paxos.specs.Step.{Leader, Running, Effect, says, quiet, yields, yielding, on_prepare, on_accept, cover_heard, report_heard, is_learnt_heard, turn_of, goes_on, accepts, leading, asks_on, on_promise, closes, learns, chosen_packet, on_catch_up, values_of, on_new_request, on_submit, on_ask, on_body, is_called_for, on_message, next_ballot, may_begin, begins, on_begin, resent, on_resend, on_catch_up_tick}
 use Rattle.paxos.specs.WellFormed.{IsPosition, IsBallotOf, AreVotes, ArePairs, IsBody, IsSender, IsMessage, IsRecord, IsLeader, IsCalledFor, IsState, IsStep}
 use Rattle.paxos.proofs.Order.{below_self, below_not, from_under, most_trans}
 use Rattle.paxos.proofs.Lists.{has_cases, has_flat, has_filter}
@@ -355,15 +355,29 @@ module _ (n m : ℕ) (low : 1 ≤ m) (high : m ≤ n) (Asked : Ballot → Type 0
 hears : (n m : ℕ) (r : Record) (u : Running) (k : Packet) → IsCalledFor r k.body → IsState n m r u → IsState n m r (record { heard = k ∷ u.heard; leader = u.leader; applied = u.applied })
 hears n m r u k called s = record { kept = s.kept; leads = s.leads; heard = λ j h. ⊎_elim (λ (e : k ≡ j). subst (λ (x : Packet). IsCalledFor r x.body) e called) (λ (o : Has u.heard j). s.heard j o) h }
 
+-- what is called for, by the test
+called_if : (r : Record) (body : Body) → is_called_for r body ≡ true → IsCalledFor r body
+called_if r (Promise w) h = one (below r.promise w.ballot) h
+  where
+    one : (t : Bool) → not t ≡ true → t ≡ false
+    one false e = refl
+    one true e = absurd (let f : false ≡ true = e in cc)
+called_if r body h = tt
+
 -- a message
-pub message_step : (n m : ℕ) → 1 ≤ m → m ≤ n → (Asked : Ballot → Type 0) (r : Record) (u : Running) (app : Application) (k : Packet) → IsMessage n k → IsCalledFor r k.body → ((b : Ballot) (from : ℕ) → k.body ≡ Prepare b from → Asked b)
+pub message_step : (n m : ℕ) → 1 ≤ m → m ≤ n → (Asked : Ballot → Type 0) (r : Record) (u : Running) (app : Application) (k : Packet) → IsMessage n k → ((b : Ballot) (from : ℕ) → k.body ≡ Prepare b from → Asked b)
     → IsState n m r u → Stepped n m Asked r (on_message app n m k r u)
-message_step n m low high Asked r u app k is called asked s = body_step n m low high Asked r (record { heard = k ∷ u.heard; leader = u.leader; applied = u.applied }) (hears n m r u k called s)
-    app u.heard k.sender k.body is.sender is.body asked
+message_step n m low high Asked r u app k is asked s = one (is_called_for r k.body) refl
+  where
+    one : (t : Bool) → is_called_for r k.body ≡ t
+        → Stepped n m Asked r (cond t (on_body app n m u.heard r (record { heard = k ∷ u.heard; leader = u.leader; applied = u.applied }) k.sender k.body) (quiet u))
+    one true e = body_step n m low high Asked r (record { heard = k ∷ u.heard; leader = u.leader; applied = u.applied }) (hears n m r u k (called_if r k.body e) s)
+        app u.heard k.sender k.body is.sender is.body asked
+    one false e = quiet_step n m low high Asked r u s
 
 -- A message that may be sent to a member is answered by a well-formed step.
-pub message_is_step : (app : Application) (n m : ℕ) (k : Packet) (r : Record) (u : Running) → 1 ≤ m → m ≤ n → n ≤ most_members → IsMessage n k → IsCalledFor r k.body → IsState n m r u → IsStep n m r (on_message app n m k r u)
-message_is_step app n m k r u low high few is called s = is_step n m (λ b. Unit {0}) r _ (message_step n m low high (λ b. Unit {0}) r u app k is called (λ b from e. tt) s)
+pub message_is_step : (app : Application) (n m : ℕ) (k : Packet) (r : Record) (u : Running) → 1 ≤ m → m ≤ n → n ≤ most_members → IsMessage n k → IsState n m r u → IsStep n m r (on_message app n m k r u)
+message_is_step app n m k r u low high few is s = is_step n m (λ b. Unit {0}) r _ (message_step n m low high (λ b. Unit {0}) r u app k is (λ b from e. tt) s)
 
 -- A Begin is a well-formed step.
 pub begin_is_step : (n m : ℕ) (r : Record) (u : Running) → 1 ≤ m → m ≤ n → n ≤ most_members → IsState n m r u → IsStep n m r (on_begin n m r u)

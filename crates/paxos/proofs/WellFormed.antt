@@ -166,7 +166,7 @@ module _ (w : World) (i : Sound (length w.members) w) where
   delivers_sound app how keeps None h = i
   delivers_sound app how keeps (Some k) h = acts_sound n w i k.target (λ r u. how (on_message app n k.target k r u)) (λ x u here low high s.
       keeps k.target x.kept (on_message app n k.target k x.kept u) s.kept
-      (message_step n k.target low high (IsAskedFor w) x.kept u app k (i.sent k (h k refl)) (i.called_for k x (h k refl) here)
+      (message_step n k.target low high (IsAskedFor w) x.kept u app k (i.sent k (h k refl))
       (λ b from e. record { packet = k; from = from; sent = h k refl; body = e }) s))
 
   -- a Begin, with what it leaves open

@@ -1,6 +1,6 @@
 -- What one member does with each message and each tick: what it writes, sends and tells, and how it runs on.
 -- The two phases are those of "Paxos Made Simple", sections 2.2 and 3; the rest is our own choice where nothing is cited.
-use Rattle.std.specs.Prelude.{ℕ, suc, ◌-◌, Bool, not, ◌&&◌, ◌==◌, nat_lt, if◌then◌else◌, List, [], ◌∷◌, ◌++◌, map, flat_map, filter, take, Option, Some, None, is_some}
+use Rattle.std.specs.Prelude.{ℕ, suc, ◌-◌, Bool, true, not, ◌&&◌, ◌==◌, nat_lt, if◌then◌else◌, List, [], ◌∷◌, ◌++◌, map, flat_map, filter, take, Option, Some, None, is_some}
 use Rattle.ballots.specs.Terms.{Request, Question}
 use Rattle.ballots.specs.Ballot.{below, last_round}
 use Rattle.ballots.specs.declared.ballot.Ballot.{Ballot}
@@ -188,9 +188,18 @@ on_body app n m older r u sender (Submit q) = on_submit n m r u q (app.reply (va
 on_body app n m older r u sender (Ask q) = on_ask app n m u q
 on_body app n m older r u sender body = quiet u
 
+-- Of a ballot above its own promise a member hears no promise: it has not asked for one, and members send none. So a leader knows just the
+-- windows of its ballot that came since it began.
+abbrev pub is_called_for : Record → Body → Bool
+is_called_for r (Promise w) = not (below r.promise w.ballot)
+is_called_for r body = true
+
 -- a message comes: it is heard, and answered
 abbrev pub on_message : Application → (members : ℕ) → (self : ℕ) → Packet → Record → Running → Effect
-on_message app n m k r u = on_body app n m u.heard r (record { heard = k ∷ u.heard; leader = u.leader; applied = u.applied }) k.sender k.body
+on_message app n m k r u =
+    if is_called_for r k.body
+    then on_body app n m u.heard r (record { heard = k ∷ u.heard; leader = u.leader; applied = u.applied }) k.sender k.body
+    else quiet u
 
 -- Ticks.
 

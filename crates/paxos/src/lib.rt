@@ -21,7 +21,7 @@ ghost use Rattle.paxos.specs.Proposable.{P2c};
 ghost use Rattle.paxos.specs.Proposing.{turns, WentOn};
 ghost use Rattle.paxos.specs.Records.{Record, window};
 ghost use Rattle.paxos.specs.Step.{Running, goes_on, on_message, on_begin, on_resend, on_catch_up_tick};
-ghost use Rattle.paxos.specs.WellFormed.{IsMessage, IsCalledFor, IsState, IsStep, IsWellFormed};
+ghost use Rattle.paxos.specs.WellFormed.{IsMessage, IsState, IsStep, IsWellFormed};
 ghost use Rattle.paxos.specs.World.{World, told_to, start, Event, Happening, run, Run};
 
 /// No position has two chosen values; what a member has learnt it was told, and what it was told is chosen; and members that
@@ -47,13 +47,12 @@ pub fn promised_or_free()
 
 /// Each step of a member keeps what it keeps and leads well formed, and sends and tells nothing else.
 ///
-/// This holds for all that a member of up to 63 may keep and have heard, where a message comes well formed, and tells of no
-/// promise above the member's own. A ballot is asked for and proposed under by its own member alone, votes are not above the
+/// This holds for all that a member of up to 63 may keep and have heard, where a message comes well formed. A ballot is asked for and proposed under by its own member alone, votes are not above the
 /// promise, and a window ends with the last position or with its eighth vote.
 pub fn steps_are_well_formed()
     ensures message { (app : Application) (n m : ℕ) (k : Packet) (r : Record) (u : Running)
         → 1 ≤ m → m ≤ n → n ≤ most_members
-        → IsMessage n k → IsCalledFor r k.body → IsState n m r u → IsStep n m r (on_message app n m k r u) }
+        → IsMessage n k → IsState n m r u → IsStep n m r (on_message app n m k r u) }
     ensures begin { (n m : ℕ) (r : Record) (u : Running)
         → 1 ≤ m → m ≤ n → n ≤ most_members → IsState n m r u → IsStep n m r (on_begin n m r u) }
     ensures resend { (n m : ℕ) (r : Record) (u : Running)

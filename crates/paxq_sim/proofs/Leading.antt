@@ -11,7 +11,6 @@ use Rattle.paxos.proofs.Lists.{has_map}
 use Rattle.paxq_sim.specs.Stores.{plan_of, store_of, stores_of}
 use Rattle.event_files.specs.declared.command.Command.{Command}
 use Rattle.event_files.specs.declared.command.Command.TheVariants.{Happens, DeliverAll}
-use Rattle.member.specs.Steps.{KnowsNothing}
 use Rattle.paxos.specs.Application.{Application}
 use Rattle.paxos.specs.Examples.{silent}
 use Rattle.paxos.specs.Records.{Record}
@@ -21,7 +20,7 @@ use Rattle.paxos.specs.Sound.{Sound}
 use Rattle.paxos.specs.Smooth.{AllApplied}
 use Rattle.straight_runs.proofs.Lists.{at_each, length_each}
 use Rattle.world.specs.Placed.{AreOf}
-use Rattle.world.specs.Reached.{Follows, HappenedOver, Reached, ReachedBy, event_of}
+use Rattle.world.specs.Reached.{Follows, HappenedOver, KnowsNothing, Reached, ReachedBy, event_of}
 use Rattle.world.specs.Seats.{fates_of as fates_in, store_in}
 use Rattle.world.specs.Shown.{World, AreKept, Shows}
 use Rattle.world.specs.declared.event.Event.{Event}

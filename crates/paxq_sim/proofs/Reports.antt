@@ -13,6 +13,8 @@ use Rattle.ballots.specs.declared.request.RequestId.{RequestId}
 use Rattle.ballots.specs.declared.value.Value.{Value}
 use Rattle.ballots.specs.declared.value.Value.TheVariants as value
 use Rattle.member.specs.Steps.{IsThis, Member}
+use Rattle.paxos.specs.Knowledge.{news, prefix}
+use Rattle.world.specs.Seats.{RunsAs}
 use Rattle.paxos.specs.Lists.{at}
 use Rattle.paxos.specs.Records.{Record}
 use Rattle.paxos.specs.Step.{Running}
@@ -98,10 +100,10 @@ module _ (w : World Script) (kept : ℕ → Record) (v : Whole) (shows : Shows w
   running o = option_and_then (λ (y : Part). y.running) o
 
   -- a member that runs at its seat, runs
-  pub runs_there : (x : Member Script) → member_at w.seats m ≡ Some x → (u : Running) × (running (at v.members m) ≡ Some u) × IsThis u x
+  pub runs_there : (x : Member Script) → member_at w.seats m ≡ Some x → (u : Running) × (running (at v.members m) ≡ Some u) × RunsAs u x
   runs_there x h = by (at w.seats m) refl
     where
-      by : (o : Option (Seat Script)) → at w.seats m ≡ o → (u : Running) × (running (at v.members m) ≡ Some u) × IsThis u x
+      by : (o : Option (Seat Script)) → at w.seats m ≡ o → (u : Running) × (running (at v.members m) ≡ Some u) × RunsAs u x
       by None e = absurd (none-some x (sym (ap (option_and_then (λ (s : Seat Script). s.member)) e) ∙ h))
       by (Some s) e =
           let part = some_at w.seats v.members m s shows.size e in
@@ -119,10 +121,10 @@ module _ (w : World Script) (kept : ℕ → Record) (v : Whole) (shows : Shows w
           (shows.parts m seat.0 y seat.1 e).stopped (sym (ap (option_and_then (λ (s : Seat Script). s.member)) seat.1) ∙ h)
 
   -- so the lines of both
-  pub applied_there : (bs : List ℕ) (p : ℕ) (x : Member Script) → bs ≡ applied_line m p → member_at w.seats m ≡ Some x → ((u : Running) → IsThis u x → p ≡ u.applied) → bs ≡ member_line v m
+  pub applied_there : (bs : List ℕ) (p : ℕ) (x : Member Script) → bs ≡ applied_line m p → member_at w.seats m ≡ Some x → ((u : Running) → IsThis u x → p ≡ prefix x.members (news u.heard)) → bs ≡ member_line v m
   applied_there bs p x h there applied =
       let run = runs_there x there in
-      h ∙ ap (applied_line m) (applied run.0 run.2) ∙ ap (running_line m) (sym run.1)
+      h ∙ ap (applied_line m) (applied run.0 run.2.this ∙ sym run.2.applied) ∙ ap (running_line m) (sym run.1)
 
   pub stopped_line_there : (bs : List ℕ) → bs ≡ stopped_line m → member_at w.seats m ≡ None → bs ≡ member_line v m
   stopped_line_there bs h there = h ∙ ap (running_line m) (sym (stopped_there there))

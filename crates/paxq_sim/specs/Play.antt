@@ -13,7 +13,6 @@ use Rattle.event_files.specs.EventFiles.{EventFileTerm}
 use Rattle.event_files.specs.declared.command.Command.{Command}
 use Rattle.event_files.specs.declared.command.Command.TheVariants.{Happens, DeliverAll}
 use Rattle.event_files.specs.declared.first.Failure.{Failure}
-use Rattle.member.specs.Steps.{KnowsNothing}
 use Rattle.paxos.specs.Application.{Application}
 use Rattle.paxos.specs.Knowledge.{news, prefix}
 use Rattle.paxos.specs.Lists.{at}
@@ -22,7 +21,7 @@ use Rattle.paxos.specs.Step.{Running}
 use Rattle.paxos.specs.World.{World as Whole, Member, Told, Choice, Event as Happening, Deliver, happens, start}
 use Rattle.program_reports.specs.Reports.{line_feed}
 use Rattle.paxq_sim.specs.Stores.{plan_of}
-use Rattle.world.specs.Reached.{actor, event_of, is_cut, write_in}
+use Rattle.world.specs.Reached.{KnowsNothing, actor, event_of, is_cut, write_in}
 use Rattle.world.specs.Seats.{later}
 use Rattle.world.specs.declared.event.Event.{Event}
 use Rattle.world.specs.declared.event.Event.TheVariants as event

@@ -4,14 +4,13 @@ ghost use Rattle.std.specs.Prelude.{◌≡◌, ◌<◌, ◌+◌, ◌^◌, ◌∷
 ghost use Rattle.event_files.specs.Within.{IsCommandOf, IsEventOf};
 ghost use Rattle.event_files.specs.declared.command.Command.{Command as CommandTerm};
 ghost use Rattle.event_files.specs.declared.command.Command.TheVariants.{Happens, DeliverAll};
-ghost use Rattle.member.specs.Steps.{KnowsNothing};
 ghost use Rattle.event_files.specs.declared.first.Failure.{Failure as FailureTerm};
 ghost use Rattle.records.specs.Script.{IsKept, Script, Stands, fates_of};
 ghost use Rattle.paxos.specs.Application.{Application};
 ghost use Rattle.paxos.specs.Records.{Record};
 ghost use Rattle.paxos.specs.World.{World as Whole, Deliver};
 ghost use Rattle.paxos.specs.Smooth.{AllApplied};
-ghost use Rattle.world.specs.Reached.{HasHappened};
+ghost use Rattle.world.specs.Reached.{HasHappened, KnowsNothing};
 ghost use Rattle.world.specs.Shown.{Shows};
 ghost use Rattle.paxq_sim.specs.Going.{HasCome, IsDelivering};
 

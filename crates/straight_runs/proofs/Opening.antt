@@ -1,5 +1,5 @@
 -- One of n members begins, and the Prepares and the Promises are delivered.
-use Rattle.std.proofs.Common.{◌≡◌, ℕ, suc, ◌+◌, ◌<◌, ◌≤◌, arith, Bool, true, false, cond, eqb, ltb, ◌&&◌, nat_lt, is_some, refl, sym, subst, ap, ◌∙◌, Some, None, List, [], ◌∷◌, ◌++◌, map, length, replicate, append-nil}
+use Rattle.std.proofs.Common.{◌≡◌, ℕ, suc, ◌+◌, ◌<◌, ◌≤◌, arith, Bool, true, false, cond, not, eqb, ltb, ◌&&◌, nat_lt, is_some, refl, sym, subst, ap, ◌∙◌, Some, None, List, [], ◌∷◌, ◌++◌, map, length, replicate, append-nil}
 use Rattle.std.proofs.Math.Path.{ap₂}
 use Rattle.std.proofs.lemmas.Bool.{eqb-true, eq-eqb, ne_eqb, le-ltb}
 use Rattle.std.proofs.lemmas.List.{append_assoc}
@@ -10,7 +10,7 @@ use Rattle.paxos.specs.Application.{Application}
 use Rattle.paxos.specs.Knowledge.{Heard, news, prefix, learnt, joins}
 use Rattle.paxos.specs.Lists.{at, put}
 use Rattle.paxos.specs.Records.{Record, Nothing, NewPromise, window, prepare_write, written}
-use Rattle.paxos.specs.Step.{Running, Effect, quiet, may_begin, begins, yields, on_message, leading, turn_of, goes_on, asks_on, cover_heard, is_learnt_heard}
+use Rattle.paxos.specs.Step.{Running, Effect, quiet, may_begin, begins, yields, on_message, on_promise, leading, turn_of, goes_on, asks_on, cover_heard, is_learnt_heard}
 use Rattle.paxos.specs.Proposing.{Turn}
 use Rattle.paxos.specs.World.{Member, World, Event, Begin, Deliver, Choice, started, fresh, start, casts, after, settles, takes, begins_in, happens}
 use Rattle.paxos.specs.Examples.{deliveries}
@@ -206,7 +206,8 @@ module _ (app : Application) (n m : ℕ) where
         all_asked = ap (λ (c : ℕ). cond (ltb c positions) (packet m (Prepare (own n m) (suc c)) (suc j) ∷ []) []) covered ∙ ap (λ (b : Bool). cond b (packet m (Prepare (own n m) (suc positions)) (suc j) ∷ []) []) (le-ltb positions positions (omega arith))
 
         answered : on_message app n m (promise n m (suc j)) kept running ≡ record { write = Nothing; running = Some next; sends = []; tells = [] }
-        answered = ap (λ (b : Bool). cond b (leading n m next (lead n m 1 []) (goes_on n next.heard (lead n m 1 [])) (asks_on m next.heard (lead n m 1 []) (suc j)) []) (quiet next)) joined
+        answered = ap (λ (b : Bool). cond (not b) (on_promise n m running.heard next (suc j) (window (own n m) 1 []) running.leader) (quiet running)) (below_self (own n m))
+            ∙ ap (λ (b : Bool). cond b (leading n m next (lead n m 1 []) (goes_on n next.heard (lead n m 1 [])) (asks_on m next.heard (lead n m 1 []) (suc j)) []) (quiet next)) joined
             ∙ ap₂ (λ (t : Turn) (ks : List Packet). leading n m next (lead n m 1 []) t ks []) stays all_asked
 
     -- after the Prepares the Promises are delivered

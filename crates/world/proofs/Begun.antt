@@ -15,7 +15,8 @@ use Rattle.straight_runs.proofs.Smooth.{smooth_none, smooth_run}
 use Rattle.world.specs.Placed.{AreOf, ArePlaced, IsOf, IsPlaced}
 use Rattle.world.specs.Reached.{Reached, ReachedBy, ReachedSmoothly}
 use Rattle.world.specs.Runs.{AllRun}
-use Rattle.world.specs.Seats.{IsPart}
+use Rattle.world.specs.Seats.{IsPart, RunsAs}
+use Rattle.world.proofs.Settling.{runs_started}
 use Rattle.world.specs.Shown.{World, AllStand, AreKept, AreSeats, Picks, Shows}
 use Rattle.world.specs.declared.seat.Seat.{Seat}
 
@@ -102,7 +103,7 @@ module _ {R : Type 0} (stands : R → Record → Record → Type 0) (is_kept : R
       running = λ x e. (
         started,
         refl,
-        subst (IsThis started) (the_member m s h x e) ((placed m s h).starts ((kept m s h).running (placed m s h).member (placed m s h).there)),
+        subst (RunsAs started) (the_member m s h x e) (runs_started (placed m s h).member ((placed m s h).starts ((kept m s h).running (placed m s h).member (placed m s h).there))),
         subst (λ y. fresh.kept ≡ y.acceptor.kept) (the_member m s h x e) (unwritten m s h),
       );
       stopped = λ e. absurd (none-some (placed m s h).member (sym e ∙ (placed m s h).there));

@@ -48,7 +48,7 @@ module _ {R : Type 0} (stands : R → Record → Record → Type 0) (is_kept : R
       ⊎_elim
       (λ (h : IsHeard x.members (Hears p) → ⊥). h (subst (λ j. IsHeard j (Hears p)) (sym (seats p.target skips.0 skips.1 x q).0)
       (sound.sent p (subst (λ xs. Has xs p) (sym shows.sent) (at_has w.sent k p is)), shows.no_question p (at_has w.sent k p is))))
-      (λ (h : (u : Running) → IsThis u x → IsSpent x u (Hears p)). h u.0 u.2)
+      (λ (h : (u : Running) → IsThis u x → IsSpent x u (Hears p)). h u.0 u.2.this)
       (skips.2 x q)
 
   -- a message that nothing comes of

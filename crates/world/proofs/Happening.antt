@@ -148,7 +148,7 @@ module _ {R : Type 0} (Does : ℕ → Write → Option Bool → Type 0) (app : A
       let known = t.is_part.running x there in
       let same : known.0 ≡ t.may.0 = same_Some known.0 t.may.0 (sym known.1 ∙ t.may.1) in
       let may : may_begin n t.part.kept t.may.0 ≡ true = ⊎_elim (λ (h : may_begin n t.part.kept t.may.0 ≡ true). h)
-      (λ (h : may_begin n t.part.kept t.may.0 ≡ false). absurd (due known.0 known.2
+      (λ (h : may_begin n t.part.kept t.may.0 ≡ false). absurd (due known.0 known.2.this
       (subst (λ w. may_begin x.members x.acceptor.kept w ≡ false) (sym same) (subst (λ j. may_begin j x.acceptor.kept t.may.0 ≡ false) (sym place)
       (subst (λ r. may_begin n r t.may.0 ≡ false) (t.is_part.kept_is ∙ known.3) h)))))
       (bool_cases (may_begin n t.part.kept t.may.0)) in (
@@ -206,7 +206,7 @@ module _ {R : Type 0} (Does : ℕ → Write → Option Bool → Type 0) (app : A
         let known = t.is_part.running x there in
         let same : known.0 ≡ t.may.0 = same_Some known.0 t.may.0 (sym known.1 ∙ t.may.1) in
         let spent : may_begin x.members x.acceptor.kept known.0 ≡ false =
-        ⊎_elim (λ (f : Unit {0} → ⊥). absurd (f tt)) (λ (f : (u : Running) → IsThis u x → may_begin x.members x.acceptor.kept u ≡ false). f known.0 known.2) (skips x there) in
+        ⊎_elim (λ (f : Unit {0} → ⊥). absurd (f tt)) (λ (f : (u : Running) → IsThis u x → may_begin x.members x.acceptor.kept u ≡ false). f known.0 known.2.this) (skips x there) in
         let may : may_begin (length v.members) t.part.kept t.may.0 ≡ false =
         subst (λ w. may_begin (length v.members) t.part.kept w ≡ false) same (subst (λ j. may_begin j t.part.kept known.0 ≡ false) (place ∙ sym len ∙ sym t.size)
         (subst (λ r. may_begin x.members r known.0 ≡ false) (sym (t.is_part.kept_is ∙ known.3)) spent)) in (

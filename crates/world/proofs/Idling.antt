@@ -4,7 +4,7 @@ use Rattle.std.specs.Prelude.{if◌then◌else◌, not, ◌==◌}
 use Rattle.std.proofs.lemmas.Option.{none-some}
 use Rattle.ballots.specs.Ballot.{most_members}
 use Rattle.ballots.specs.Messages.{Body, Ask, Packet, packet, body_of, to_all, up_to}
-use Rattle.member.specs.Steps.{Input, Hears, Begins, Resends, CatchesUp, IsExpected, IsNoQuestion, all_packets, effect_of, packets_of}
+use Rattle.member.specs.Steps.{Input, Hears, Begins, Resends, CatchesUp, IsNoQuestion, all_packets, effect_of, packets_of}
 use Rattle.member.specs.declared.outcome.Send.{Send}
 use Rattle.member.specs.declared.outcome.Target.{Target}
 use Rattle.member.specs.declared.outcome.Target.TheVariants as target
@@ -12,13 +12,13 @@ use Rattle.paxos.specs.Lists.{at, Has}
 use Rattle.paxos.specs.Application.{Application}
 use Rattle.paxos.specs.Records.{Record, Write, writes}
 use Rattle.paxos.specs.Step.{Running, Effect}
-use Rattle.paxos.specs.WellFormed.{IsMessage, IsSender, IsCalledFor, IsState, IsStep}
+use Rattle.paxos.specs.WellFormed.{IsMessage, IsSender, IsState, IsStep}
 use Rattle.paxos.specs.World.{World as Whole, Member as Part, Choice, acts, may_fail, settles, stops_in, takes}
 use Rattle.paxos.proofs.Lists.{has_flat, has_map}
 use Rattle.paxos.proofs.Steps.{message_is_step, begin_is_step, resend_is_step, catch_up_is_step}
 use Rattle.paxos.proofs.WellFormed.{at_number}
 use Rattle.paxos.specs.Sound.{Sound}
-use Rattle.world.specs.Seats.{IsFit, IsPart, MayHear, MayStep}
+use Rattle.world.specs.Seats.{IsFit, IsPart, MayStep}
 use Rattle.world.specs.Shown.{World, Shows}
 use Rattle.world.specs.Reached.{IsDue, write_at}
 use Rattle.world.specs.declared.seat.Seat.{Seat}
@@ -60,8 +60,8 @@ no_question_of n m k least own is = by k.body is.sender
 
 -- a step upon what may come is well formed
 step_is : (app : Application) (n m : ℕ) (i : Input) (r : Record) (u : Running) → 1 ≤ m → m ≤ n → n ≤ most_members
-    → ((p : Packet) → i ≡ Hears p → IsMessage n p × IsCalledFor r p.body) → IsState n m r u → IsStep n m r (effect_of app n m r u i)
-step_is app n m (Hears p) r u least most few may state = let h = may p refl in message_is_step app n m p r u least most few h.0 h.1 state
+    → ((p : Packet) → i ≡ Hears p → IsMessage n p) → IsState n m r u → IsStep n m r (effect_of app n m r u i)
+step_is app n m (Hears p) r u least most few may state = message_is_step app n m p r u least most few (may p refl) state
 step_is app n m Begins r u least most few may state = begin_is_step n m r u least most few state
 step_is app n m Resends r u least most few may state = resend_is_step n m r u least most few state
 step_is app n m CatchesUp r u least most few may state = catch_up_is_step n m r u least most few state
@@ -79,22 +79,15 @@ settled_sends n c e k h = one c.fails h
     one (Some left) o = two left (writes e.write) o
 
 module _ {R : Type 0} (n : ℕ) (few : n ≤ most_members) (old : World R) (m : ℕ) (before : ℕ → Record) (v : Whole) (sound : Sound n v) (shows : Shows old before v) where
-  -- a member that is there may hear what is due
-  pub may_hear : (i : Input) → IsDue old m i → (y : Part) → at v.members m ≡ Some y → MayHear i y
-  may_hear (Hears p) due y h = sound.called_for p y (subst (λ xs. Has xs p) (sym shows.sent) due.0) (subst (λ j. at v.members j ≡ Some y) (sym due.1) h)
-  may_hear Begins due y h = tt
-  may_hear Resends due y h = tt
-  may_hear CatchesUp due y h = tt
-
   -- its record is well formed
   pub is_fit : (y : Part) → at v.members m ≡ Some y → IsFit n y
   is_fit y h = sound.kept m y h
 
   -- what is due is a message that may be sent
-  may_come : (i : Input) → IsDue old m i → (y : Part) → at v.members m ≡ Some y → (p : Packet) → i ≡ Hears p → IsMessage n p × IsCalledFor y.kept p.body
+  may_come : (i : Input) → IsDue old m i → (y : Part) → at v.members m ≡ Some y → (p : Packet) → i ≡ Hears p → IsMessage n p
   may_come i due y h p q =
       let d : IsDue old m (Hears p) = subst (IsDue old m) q due in
-      (sound.sent p (subst (λ xs. Has xs p) (sym shows.sent) d.0), subst (λ j. IsExpected y.kept j) q (may_hear i due y h))
+      sound.sent p (subst (λ xs. Has xs p) (sym shows.sent) d.0)
 
   -- a step upon what is due asks nothing
   pub asks_nothing : (Does : Write → Option Bool → Type 0) (app : Application) (i : Input) → IsDue old m i → (y : Part) (e : Effect) (sends : List Send) → at v.members m ≡ Some y → MayStep Does app n m i y e

@@ -2,13 +2,12 @@
 use Rattle.std.proofs.Common.{◌≡◌, ◌≤◌, ℕ, Bool, Option, None, refl, sym, subst, ◌∙◌, List, [], ◌∷◌, ◌++◌, append-nil, length}
 use Rattle.std.proofs.lemmas.List.{append_assoc}
 use Rattle.ballots.specs.Ballot.{most_members}
-use Rattle.member.specs.Steps.{KnowsNothing}
 use Rattle.paxos.specs.Application.{Application}
 use Rattle.paxos.specs.Examples.{silent}
 use Rattle.paxos.specs.Records.{Record, Write}
 use Rattle.paxos.specs.World.{World as Whole, Event as Happens}
 use Rattle.paxos.specs.Sound.{Sound}
-use Rattle.world.specs.Reached.{Follows, Happened, HappenedIf, Reached, ReachedSmoothly, Stays}
+use Rattle.world.specs.Reached.{Follows, Happened, HappenedIf, KnowsNothing, Reached, ReachedSmoothly, Stays}
 use Rattle.world.specs.Runs.{AllRun, LeadsTo, LeadsSmoothly}
 use Rattle.world.specs.Shown.{World, AreSeats}
 use Rattle.world.proofs.Happening.{happened}

@@ -1,3 +1,4 @@
+pub mod Answered
 pub mod Posted
 pub mod Given
 pub mod Settling

@@ -27,12 +27,12 @@ use Rattle.world.proofs.Given.{if_none, if_some}
 use Rattle.world.specs.Tellings.{told_in}
 use Rattle.world.specs.Held.{IsHeld, shown}
 use Rattle.world.specs.Reached.{Follows, HaveDone, IsDue, NeverFails, Stays, Steps, store_at}
-use Rattle.world.specs.Seats.{Did, HasFailed, IsAny, IsPlanned, IsPlannedAt, IsFit, IsSeat, MayHear, MayStay, MayStep, Moves, Skips, SkipsAt, failures_of, fates_of, sent_by, store_in, told_by}
+use Rattle.world.specs.Seats.{Did, HasFailed, IsAny, IsPlanned, IsPlannedAt, IsFit, IsSeat, MayStay, MayStep, Moves, Skips, SkipsAt, failures_of, fates_of, sent_by, store_in, told_by}
 use Rattle.world.specs.Shown.{AreSeats, Shows}
 use Rattle.world.specs.declared.seat.Seat.{Seat}
 use Rattle.world.specs.declared.state.State.{State}
 use Rattle.world.proofs.Happening.{stayed}
-use Rattle.world.proofs.Idling.{asks_nothing, is_fit, may_hear}
+use Rattle.world.proofs.Idling.{asks_nothing, is_fit}
 use Rattle.world.proofs.Lifting.{follows, idle, moved, so}
 
 -- a number and its index
@@ -130,12 +130,12 @@ module _ {R : Type 0} (stands : R → Record → Record → Type 0) (is_kept : R
   -- a member took a step upon what was due
   pub took_after : (Does : Write → Option Bool → Type 0) (app : Application) (i : Input) (made : Option Outcome) → IsDue (shown old) m i
       → sent_in new.mail ≡ sent_in old.mail ++ sent_by old.members m made → told_in new.told.items ≡ told_in old.told.items ++ map (told_to m) (told_by made)
-      → Moves stands is_kept (MayHear i) (MayStep Does app old.members m i) s t (sent_by old.members m made) (told_by made)
+      → Moves stands is_kept IsAny (MayStep Does app old.members m i) s t (sent_by old.members m made) (told_by made)
       → Follows stands is_kept (Sound old.members) (Steps (shown old) s m (MayStep Does app old.members m i)) (shown old) (shown new)
   took_after Does app i made due sent told moves =
       subst (λ w. Follows stands is_kept (Sound old.members) (Steps (shown old) s m (MayStep Does app old.members m i)) (shown old) w) (sym (shown_after (sent_by old.members m made) (told_by made) sent told))
-      (follows stands is_kept (Sound old.members) (MayHear i) (MayStep Does app old.members m i) (shown old) m s t (sent_by old.members m made) (told_by made) there moves
-      (λ before v y sound shows h. may_hear old.members held.most (shown old) m before v sound shows i due y h)
+      (follows stands is_kept (Sound old.members) IsAny (MayStep Does app old.members m i) (shown old) m s t (sent_by old.members m made) (told_by made) there moves
+      (λ before v y sound shows h. tt)
       (λ before v y e sound shows h may q k o. quiet_of before v y e sound shows h may made q k o))
     where
       quiet_of : (before : ℕ → Record) (v : Whole) (y : Part) (e : Effect) → Sound old.members v → Shows (shown old) before v → at v.members m ≡ Some y → MayStep Does app old.members m i y e
@@ -151,10 +151,6 @@ module _ {R : Type 0} (stands : R → Record → Record → Type 0) (is_kept : R
       subst (λ w. Follows stands is_kept (Sound old.members) (Steps (shown old) s m May) (shown old) w)
       (sym (shown_after [] [] (sent ∙ sym (append-nil (sent_in old.mail))) (told ∙ sym (append-nil (told_in old.told.items)))))
       (follows stands is_kept (Sound old.members) Given May (shown old) m s t [] [] there moves given (λ before v y e sound shows h may q k o. absurd o))
-
-  -- what comes is due
-  pub due_after : (i : Input) → IsDue (shown old) m i → (before : ℕ → Record) (v : Whole) (y : Part) → Sound old.members v → Shows (shown old) before v → at v.members m ≡ Some y → MayHear i y
-  due_after i due before v y sound shows h = may_hear old.members held.most (shown old) m before v sound shows i due y h
 
   -- the record is well formed
   pub fit_after : (before : ℕ → Record) (v : Whole) (y : Part) → Sound old.members v → Shows (shown old) before v → at v.members m ≡ Some y → IsFit old.members y

@@ -59,7 +59,7 @@ module _ {R : Type 0} (stands : R → Record → Record → Type 0) (is_kept : R
       spent_there before v sound shows x q =
           let y = part_of n few w m before v sound shows s there in
           let u = y.2.running x q in
-          let spent : may_begin x.members x.acceptor.kept u.0 ≡ false = ⊎_elim (λ (f : Unit {0} → ⊥). absurd (f tt)) (λ (f : (u : Running) → IsThis u x → may_begin x.members x.acceptor.kept u ≡ false). f u.0 u.2) (skips x q) in (
+          let spent : may_begin x.members x.acceptor.kept u.0 ≡ false = ⊎_elim (λ (f : Unit {0} → ⊥). absurd (f tt)) (λ (f : (u : Running) → IsThis u x → may_begin x.members x.acceptor.kept u ≡ false). f u.0 u.2.this) (skips x q) in (
             y.0.kept,
             u.0,
             y.1 ∙ ap (λ o. Some (record { kept = y.0.kept; running = o })) u.1,
@@ -84,13 +84,13 @@ module _ {R : Type 0} (stands : R → Record → Record → Type 0) (is_kept : R
       one : (before : ℕ → Record) (v : Whole) → Sound n v → Shows w before v → (o : Option (Member R)) → s.member ≡ o → acts v m (λ r u. settles (length v.members) any (on_resend (length v.members) m u)) ≡ v
       one before v sound shows None q = stopped_still n few w m before v sound shows s there q (λ r u. settles (length v.members) any (on_resend (length v.members) m u))
       one before v sound shows (Some x) q = let y = part_of n few w m before v sound shows s there in let u = y.2.running x q in
-          absurd (⊎_elim (λ (f : Unit {0} → ⊥). f tt) (λ (f : (u : Running) → IsThis u x → ⊥). f u.0 u.2) (skips x q))
+          absurd (⊎_elim (λ (f : Unit {0} → ⊥). f tt) (λ (f : (u : Running) → IsThis u x → ⊥). f u.0 u.2.this) (skips x q))
   skipped_tick tick.CatchUp seat skips = idle (HappenedIf Does app (CatchUp m)) w (λ before v sound shows. (any, silent m Nothing refl, sym (one before v sound shows s.member refl)))
     where
       one : (before : ℕ → Record) (v : Whole) → Sound n v → Shows w before v → (o : Option (Member R)) → s.member ≡ o → acts v m (λ r u. settles (length v.members) any (on_catch_up_tick (length v.members) m u)) ≡ v
       one before v sound shows None q = stopped_still n few w m before v sound shows s there q (λ r u. settles (length v.members) any (on_catch_up_tick (length v.members) m u))
       one before v sound shows (Some x) q = let y = part_of n few w m before v sound shows s there in let u = y.2.running x q in
-          absurd (⊎_elim (λ (f : Unit {0} → ⊥). f tt) (λ (f : (u : Running) → IsThis u x → ⊥). f u.0 u.2) (skips x q))
+          absurd (⊎_elim (λ (f : Unit {0} → ⊥). f tt) (λ (f : (u : Running) → IsThis u x → ⊥). f u.0 u.2.this) (skips x q))
 
   -- a stop of a member that is stopped
   pub stopped_stop : s.member ≡ None → Follows stands is_kept (Sound n) (HappenedIf Does app (Stop m)) w w

@@ -1,22 +1,24 @@
 -- How a seat moves: each of the facts that a member's calls give makes a move.
-use Rattle.std.proofs.Common.{◌≡◌, ℕ, suc, Bool, true, false, cond, refl, ◌⊎◌, inl, inr, sym, subst, ap, ap₂, ◌∙◌, Option, Some, None, Ok, Err, ⊎_elim, []}
+use Rattle.std.proofs.Common.{◌≡◌, ℕ, suc, ◌≤◌, ◌&&◌, Bool, true, false, cond, arith, refl, ◌⊎◌, inl, inr, sym, subst, ap, ap₂, ◌∙◌, Option, Some, None, Ok, Err, ⊎_elim, []}
 use Rattle.records.specs.Law.{Fate, Grew, Went, passing}
 use Rattle.records.specs.declared.records.RecordsFault.TheVariants.{Store}
 use Rattle.acceptor.specs.Steps.{Acceptor}
-use Rattle.std.specs.Prelude.{option_map, if◌then◌else◌}
-use Rattle.std.proofs.lemmas.Bool.{false≢true}
+use Rattle.std.specs.Prelude.{nat_le, option_map, if◌then◌else◌}
+use Rattle.std.proofs.lemmas.Bool.{false≢true, le-leb}
 use Rattle.std.proofs.lemmas.Option.{none-some, same_Some}
 use Rattle.member.specs.Drafts.{IsDrafted, IsReady, IsSpent}
-use Rattle.member.specs.Steps.{Input, Member, IsExpected, IsHeard, IsThis, Took, all_packets, all_applied, effect_of}
+use Rattle.member.specs.Steps.{Input, Member, IsHeard, IsThis, Took, all_packets, effect_of}
 use Rattle.member.specs.declared.draft.Draft.{Draft}
 use Rattle.member.specs.declared.outcome.Outcome.{Outcome}
+use Rattle.member.proofs.Keeping.{grows}
 use Rattle.paxos.specs.Application.{Application}
 use Rattle.paxos.specs.Knowledge.{news, prefix}
 use Rattle.paxos.specs.Records.{Record, Write, Nothing, NewPromise, NewVote, writes, written}
 use Rattle.paxos.specs.Step.{Running, Effect, quiet}
 use Rattle.paxos.specs.WellFormed.{IsRecord}
 use Rattle.paxos.specs.World.{Member as Part, Choice, applies, applies_to, settles, started, stops_in}
-use Rattle.world.specs.Seats.{Did, IsKeptAt, IsPart, IsPlanned, MayStart, MayStay, MayStep, MayStop, MayStopIn, Moves, Skips, Stands, part_after, store_in}
+use Rattle.straight_runs.proofs.Prefixes.{prefix_empty}
+use Rattle.world.specs.Seats.{Did, IsKeptAt, IsPart, IsPlanned, RunsAs, MayStart, MayStay, MayStep, MayStop, MayStopIn, Moves, Skips, Stands, part_after, store_in}
 use Rattle.world.specs.declared.seat.Seat.{Seat}
 
 -- what a stop leaves, that keeps a write or loses it
@@ -29,6 +31,32 @@ pub record Failure (stands : Record → Record → Type 0) (Does : Option Bool �
   pub second : Record
   pub stand : stands first second
   pub leaves : (r : Record) → (r ≡ first) ⊎ (r ≡ second) → (left : Bool) × (r ≡ left_of write last left) × Does (Some left)
+
+-- the running that has applied all that it has learnt without a gap
+abbrev all_applied : (members : ℕ) → Running → Running
+all_applied n u = applies_to n (prefix n (news u.heard)) u
+
+-- A member that took a step runs on and has applied all, where it had before.
+applied_all : {R : Type 0} (app : Application) (x y : Member R) (u : Running) (i : Input) (outcome : Outcome) (t : Took (effect_of app x.members x.number x.acceptor.kept u i) x y outcome) → u.applied ≡ prefix x.members (news u.heard)
+    → RunsAs (all_applied x.members t.running) y
+applied_all app x y u i outcome t a =
+    let g = grows app x.members x.number x.acceptor.kept u i t.running t.runs in
+    let most : t.running.applied ≤ prefix x.members (news t.running.heard) = subst (λ k. k ≤ prefix x.members (news t.running.heard)) (sym (g.1 ∙ a)) g.0 in
+    record {
+      this = record { hears = t.is_this.hears; knows = t.is_this.knows; state = record { kept = t.is_this.state.kept; leads = t.is_this.state.leads; heard = t.is_this.state.heard }; runs = t.is_this.runs };
+      applied = all_are t.running.applied (prefix x.members (news t.running.heard)) most ∙ ap (λ j. prefix j (news t.running.heard)) (sym t.members);
+    }
+  where
+    all_are : (a k : ℕ) → a ≤ k → cond (nat_le a k && nat_le k k) k a ≡ k
+    all_are a k h = rw (le-leb a k h, le-leb k k (omega arith)) refl
+
+-- One that has started has nothing to apply.
+pub runs_started : {R : Type 0} (x : Member R) → IsThis started x → RunsAs started x
+runs_started x this = record { this = this; applied = sym (prefix_empty x.members) }
+
+-- One to which nothing has happened has applied as much.
+pub runs_on : {R : Type 0} (x y : Member R) → y.members ≡ x.members → ((u : Running) → IsThis u x → IsThis u y) → (u : Running) → RunsAs u x → RunsAs u y
+runs_on x y same this u r = record { this = this u r.this; applied = r.applied ∙ ap (λ j. prefix j (news u.heard)) (sym same) }
 
 module _ {R : Type 0} (stands : R → Record → Record → Type 0) (is_kept : R → Type 0) (Given : Part → Type 0) (old new : Seat R) where
   -- a member that runs on
@@ -48,15 +76,15 @@ module _ {R : Type 0} (stands : R → Record → Record → Type 0) (is_kept : R
     }
 
     -- it sits there as it runs
-    part_new : (k : Record) (z : Part) → k ≡ y.acceptor.kept → z.kept ≡ k → (u : Running) → z.running ≡ Some u → IsThis u y → IsPart new k z
+    part_new : (k : Record) (z : Part) → k ≡ y.acceptor.kept → z.kept ≡ k → (u : Running) → z.running ≡ Some u → RunsAs u y → IsPart new k z
     part_new k z own q u r this = record {
       kept_is = q;
-      running = λ v h. let e = same_Some y v (sym here ∙ h) in (u, r, subst (IsThis {R = R} u) e this, own ∙ ap (λ (w : Member R). w.acceptor.kept) e);
+      running = λ v h. let e = same_Some y v (sym here ∙ h) in (u, r, subst (RunsAs {R = R} u) e this, own ∙ ap (λ (w : Member R). w.acceptor.kept) e);
       stopped = λ h. absurd (none-some y (sym h ∙ here));
     }
 
     -- nothing happens to it
-    pub stays : y.acceptor.kept ≡ x.acceptor.kept → ((u : Running) → IsThis u x → IsThis u y) → Moves stands is_kept Given MayStay old new [] []
+    pub stays : y.acceptor.kept ≡ x.acceptor.kept → ((u : Running) → RunsAs u x → RunsAs u y) → Moves stands is_kept Given MayStay old new [] []
     stays same this = record {
       kept = kept_still;
       changes = λ k a b s. (
@@ -81,12 +109,11 @@ module _ {R : Type 0} (stands : R → Record → Record → Type 0) (is_kept : R
 
     -- it takes a step
     pub steps : (Does : Write → Option Bool → Type 0) (app : Application) (n m : ℕ) (i : Input) (outcome : Outcome) (write : Write) → (x.members ≡ n) × (x.number ≡ m)
-        → ((z : Part) → Given z → IsExpected z.kept i)
-        → ((u : Running) → IsExpected x.acceptor.kept i → IsThis u x → Took (effect_of app x.members x.number x.acceptor.kept u i) x y outcome)
-        → ((u : Running) → IsExpected x.acceptor.kept i → IsThis u x → write ≡ (effect_of app x.members x.number x.acceptor.kept u i).write)
+        → ((u : Running) → IsThis u x → Took (effect_of app x.members x.number x.acceptor.kept u i) x y outcome)
+        → ((u : Running) → IsThis u x → write ≡ (effect_of app x.members x.number x.acceptor.kept u i).write)
         → (is_kept y.acceptor.records → Does write None)
         → Moves stands is_kept Given (MayStep Does app n m i) old new (all_packets n m outcome.sends.items) outcome.tells.items
-    steps Does app n m i outcome write place expected took same_write does = record {
+    steps Does app n m i outcome write place took same_write does = record {
       kept = kept_still;
       changes = λ k a b s. (
         y.acceptor.kept,
@@ -98,16 +125,15 @@ module _ {R : Type 0} (stands : R → Record → Record → Type 0) (is_kept : R
           λ z given p.
               let u = p.running x there in
               let c_is : c ≡ y.acceptor.kept = ⊎_elim (λ (e : c ≡ y.acceptor.kept). e) (λ (e : c ≡ y.acceptor.kept). e) q in
-              let due = subst (λ r. IsExpected r i) p.kept_is (expected z given) in
-              moved c c_is z p.kept_is u.0 u.1 (took u.0 due u.2) (same_write u.0 due u.2) (does (k.running y here)),
+              moved c c_is z p.kept_is u.0 u.1 u.2.applied (took u.0 u.2.this) (same_write u.0 u.2.this) (does (k.running y here)),
         ),
       );
     }
       where
-        moved : (c : Record) → c ≡ y.acceptor.kept → (z : Part) → z.kept ≡ x.acceptor.kept → (u : Running) → z.running ≡ Some u
+        moved : (c : Record) → c ≡ y.acceptor.kept → (z : Part) → z.kept ≡ x.acceptor.kept → (u : Running) → z.running ≡ Some u → u.applied ≡ prefix x.members (news u.heard)
             → Took (effect_of app x.members x.number x.acceptor.kept u i) x y outcome → write ≡ (effect_of app x.members x.number x.acceptor.kept u i).write → Does write None
             → (e : Effect) × MayStep Does app n m i z e × (e.sends ≡ all_packets n m outcome.sends.items) × (e.tells ≡ outcome.tells.items) × IsPart new c (part_after z e)
-        moved c c_is z z_is u r t w d = (
+        moved c c_is z z_is u r a t w d = (
           settles n choice (effect_of app n m z.kept u i),
           (u, r, choice, subst (λ v. Does v None) (w ∙ sym (ap (λ (e : Effect). e.write) same)) d, refl),
           ap (λ (e : Effect). e.sends) same ∙ t.sends ∙ (rw place.0 (rw place.1 refl)),
@@ -116,7 +142,7 @@ module _ {R : Type 0} (stands : R → Record → Record → Type 0) (is_kept : R
               (ap₂ written (ap (λ (e : Effect). e.write) same) z_is ∙ sym t.record_is ∙ sym c_is)
               (all_applied x.members t.running)
               (ap (λ (e : Effect). option_map (applies_to n choice.applied) e.running) same ∙ ap (option_map (applies_to n choice.applied)) t.runs ∙ rw place.0 refl)
-              t.is_this,
+              (applied_all app x y u i outcome t a),
         )
           where
             choice : Choice
@@ -163,12 +189,11 @@ module _ {R : Type 0} (stands : R → Record → Record → Type 0) (is_kept : R
 
     -- it stops in a write that is kept
     pub stops_in_write : (Does : Write → Option Bool → Type 0) (app : Application) (n m : ℕ) (i : Input) (now : Record) (write : Write) → (x.members ≡ n) × (x.number ≡ m)
-        → ((z : Part) → Given z → IsExpected z.kept i)
-        → ((u : Running) → IsExpected x.acceptor.kept i → IsThis u x → now ≡ written (effect_of app x.members x.number x.acceptor.kept u i).write x.acceptor.kept)
-        → ((u : Running) → IsExpected x.acceptor.kept i → IsThis u x → write ≡ (effect_of app x.members x.number x.acceptor.kept u i).write)
+        → ((u : Running) → IsThis u x → now ≡ written (effect_of app x.members x.number x.acceptor.kept u i).write x.acceptor.kept)
+        → ((u : Running) → IsThis u x → write ≡ (effect_of app x.members x.number x.acceptor.kept u i).write)
         → (is_kept r → stands r now now) → (is_kept r → Does write None)
         → Moves stands is_kept Given (MayStopIn Does app n m i true) old new [] []
-    stops_in_write Does app n m i now write place expected wrote same_write law does = record {
+    stops_in_write Does app n m i now write place wrote same_write law does = record {
       kept = kept_before;
       changes = λ k a b s. (
         now,
@@ -180,14 +205,13 @@ module _ {R : Type 0} (stands : R → Record → Record → Type 0) (is_kept : R
           λ z given p.
               let u = p.running x there in
               let c_is : c ≡ now = ⊎_elim (λ (e : c ≡ now). e) (λ (e : c ≡ now). e) q in
-              let due = subst (λ w. IsExpected w i) p.kept_is (expected z given) in
               let effect = effect_of app n m z.kept u.0 i in (
                 stops_in true effect,
-                (u.0, u.1, None, subst (λ v. Does v None) (same_write u.0 due u.2 ∙ sym (ap (λ (e : Effect). e.write) (alike z p.kept_is u.0))) (does (k.stopped r empty left)), refl),
+                (u.0, u.1, None, subst (λ v. Does v None) (same_write u.0 u.2.this ∙ sym (ap (λ (e : Effect). e.write) (alike z p.kept_is u.0))) (does (k.stopped r empty left)), refl),
                 refl,
                 refl,
                 part_left c (part_after z (stops_in true effect))
-                    (same z p.kept_is u.0 ∙ sym (wrote u.0 due u.2) ∙ sym c_is) refl,
+                    (same z p.kept_is u.0 ∙ sym (wrote u.0 u.2.this) ∙ sym c_is) refl,
               ),
         ),
       );
@@ -202,8 +226,7 @@ module _ {R : Type 0} (stands : R → Record → Record → Type 0) (is_kept : R
 
     -- its store fails, in a step or in a stop that keeps its write
     module _ (Does : Write → Option Bool → Type 0) (app : Application) (n m : ℕ) (i : Input) (write : Write) (place : (x.members ≡ n) × (x.number ≡ m))
-        (expected : (z : Part) → Given z → IsExpected z.kept i)
-        (same_write : (u : Running) → IsExpected x.acceptor.kept i → IsThis u x → write ≡ (effect_of app x.members x.number x.acceptor.kept u i).write)
+        (same_write : (u : Running) → IsThis u x → write ≡ (effect_of app x.members x.number x.acceptor.kept u i).write)
         (failure : is_kept r → Failure (stands r) (Does write) x.acceptor.kept write) where
       -- one of the two records
       abbrev left_by : Bool → Record
@@ -213,15 +236,15 @@ module _ {R : Type 0} (stands : R → Record → Record → Type 0) (is_kept : R
       same_effect z z_is u = rw (sym place.0) (rw (sym place.1) (rw z_is refl))
 
       -- what may be left is left by a stop
-      left_in : (left : Bool) (c : Record) → c ≡ left_by left → (z : Part) → z.kept ≡ x.acceptor.kept → (u : Running) → IsExpected x.acceptor.kept i → IsThis u x
+      left_in : (left : Bool) (c : Record) → c ≡ left_by left → (z : Part) → z.kept ≡ x.acceptor.kept → (u : Running) → IsThis u x
           → IsPart new c (part_after z (stops_in left (effect_of app n m z.kept u i)))
-      left_in true c q z z_is u due this = part_left c (part_after z (stops_in true (effect_of app n m z.kept u i)))
-          (ap₂ written (ap (λ (e : Effect). e.write) (same_effect z z_is u) ∙ sym (same_write u due this)) z_is ∙ sym q) refl
-      left_in false c q z z_is u due this = part_left c (part_after z (stops_in false (effect_of app n m z.kept u i))) (z_is ∙ sym q) refl
+      left_in true c q z z_is u this = part_left c (part_after z (stops_in true (effect_of app n m z.kept u i)))
+          (ap₂ written (ap (λ (e : Effect). e.write) (same_effect z z_is u) ∙ sym (same_write u this)) z_is ∙ sym q) refl
+      left_in false c q z z_is u this = part_left c (part_after z (stops_in false (effect_of app n m z.kept u i))) (z_is ∙ sym q) refl
 
       -- what its store does with what is written
-      does_so : (left : Bool) → Does write (Some left) → (z : Part) → z.kept ≡ x.acceptor.kept → (u : Running) → IsExpected x.acceptor.kept i → IsThis u x → Does (effect_of app n m z.kept u i).write (Some left)
-      does_so left d z z_is u due this = subst (λ v. Does v (Some left)) (same_write u due this ∙ sym (ap (λ (e : Effect). e.write) (same_effect z z_is u))) d
+      does_so : (left : Bool) → Does write (Some left) → (z : Part) → z.kept ≡ x.acceptor.kept → (u : Running) → IsThis u x → Does (effect_of app n m z.kept u i).write (Some left)
+      does_so left d z z_is u this = subst (λ v. Does v (Some left)) (same_write u this ∙ sym (ap (λ (e : Effect). e.write) (same_effect z z_is u))) d
 
       -- in a step that writes
       pub fails_in_step : writes write ≡ true → Moves stands is_kept Given (MayStep Does app n m i) old new [] []
@@ -238,23 +261,23 @@ module _ {R : Type 0} (stands : R → Record → Record → Type 0) (is_kept : R
                 λ z given p.
                     let u = p.running x there in
                     let l = f.leaves c q in
-                    failed c z p.kept_is u.0 u.1 (subst (λ w. IsExpected w i) p.kept_is (expected z given)) u.2 l.0 l.1 l.2,
+                    failed c z p.kept_is u.0 u.1 u.2.this l.0 l.1 l.2,
               ),
             );
       }
         where
-          failed : (c : Record) (z : Part) → z.kept ≡ x.acceptor.kept → (u : Running) → z.running ≡ Some u → IsExpected x.acceptor.kept i → IsThis u x → (left : Bool) → c ≡ left_by left → Does write (Some left)
+          failed : (c : Record) (z : Part) → z.kept ≡ x.acceptor.kept → (u : Running) → z.running ≡ Some u → IsThis u x → (left : Bool) → c ≡ left_by left → Does write (Some left)
               → (e : Effect) × MayStep Does app n m i z e × (e.sends ≡ []) × (e.tells ≡ []) × IsPart new c (part_after z e)
-          failed c z z_is u runs due this left q d =
+          failed c z z_is u runs this left q d =
               let choice : Choice = record { fails = Some left; applied = 0 } in
               let effect = effect_of app n m z.kept u i in
-              let does : writes effect.write ≡ true = ap (λ (e : Effect). writes e.write) (same_effect z z_is u) ∙ ap writes (sym (same_write u due this)) ∙ w in
+              let does : writes effect.write ≡ true = ap (λ (e : Effect). writes e.write) (same_effect z z_is u) ∙ ap writes (sym (same_write u this)) ∙ w in
               let stopped : settles n choice effect ≡ stops_in left effect = ap (λ t. applies n 0 (if t then stops_in left effect else effect)) does in (
                 settles n choice effect,
-                (u, runs, choice, does_so left d z z_is u due this, refl),
+                (u, runs, choice, does_so left d z z_is u this, refl),
                 ap (λ (e : Effect). e.sends) stopped,
                 ap (λ (e : Effect). e.tells) stopped,
-                subst (λ (e : Effect). IsPart new c (part_after z e)) (sym stopped) (left_in left c q z z_is u due this),
+                subst (λ (e : Effect). IsPart new c (part_after z e)) (sym stopped) (left_in left c q z z_is u this),
               )
 
       -- in a stop that was to keep its write
@@ -272,8 +295,7 @@ module _ {R : Type 0} (stands : R → Record → Record → Type 0) (is_kept : R
                 λ z given p.
                     let u = p.running x there in
                     let l = f.leaves c q in
-                    let due = subst (λ w. IsExpected w i) p.kept_is (expected z given) in
-                    (stops_in l.0 (effect_of app n m z.kept u.0 i), (u.0, u.1, Some l.0, does_so l.0 l.2 z p.kept_is u.0 due u.2, refl), refl, refl, left_in l.0 c l.1 z p.kept_is u.0 due u.2),
+                    (stops_in l.0 (effect_of app n m z.kept u.0 i), (u.0, u.1, Some l.0, does_so l.0 l.2 z p.kept_is u.0 u.2.this, refl), refl, refl, left_in l.0 c l.1 z p.kept_is u.0 u.2.this),
               ),
             );
       }
@@ -313,8 +335,8 @@ module _ {R : Type 0} (stands : R → Record → Record → Type 0) (is_kept : R
                       running = λ v h. let e = same_Some x v (sym here ∙ h) in (
                         started,
                         refl,
-                        subst (IsThis {R = R} started) e
-                            (is_started (subst (λ w. IsRecord w x.acceptor.kept) (sym place) (subst (IsRecord n) p.kept_is (fits z given)))),
+                        subst (RunsAs {R = R} started) e
+                            (runs_started x (is_started (subst (λ w. IsRecord w x.acceptor.kept) (sym place) (subst (IsRecord n) p.kept_is (fits z given))))),
                         c_is ∙ ap (λ (w : Member R). w.acceptor.kept) e,
                       );
                       stopped = λ h. absurd (none-some x (sym h ∙ here));

@@ -4,7 +4,7 @@ use Rattle.std.specs.List.{list_all}
 use Rattle.std.proofs.lemmas.Bool.{false≢true, cases_lt, cases_eq, le-leb, lt-leb, eq-eqb, ne_eqb}
 use Rattle.std.proofs.lemmas.Option.{none-some, same_Some}
 use Rattle.ballots.specs.Terms.{Request}
-use Rattle.member.specs.Steps.{IsThis, KnowsNothing, Member}
+use Rattle.member.specs.Steps.{IsThis, Member}
 use Rattle.paxos.specs.Application.{Application}
 use Rattle.paxos.specs.Examples.{deliveries}
 use Rattle.paxos.specs.Lists.{at}
@@ -14,7 +14,7 @@ use Rattle.paxos.specs.World.{Member as Part, Event as Happens, Deliver, Submits
 use Rattle.straight_runs.specs.Straight.{opening}
 use Rattle.straight_runs.proofs.Ends.{all_sent, applied, told}
 use Rattle.straight_runs.proofs.Lists.{at-left, at-right}
-use Rattle.world.specs.Reached.{ReachedSmoothly}
+use Rattle.world.specs.Reached.{KnowsNothing, ReachedSmoothly}
 use Rattle.world.specs.Runs.{AllRun, HasDone, IsStraight, LeadsTo, OneStopped, StopsAt, straight_event, straight_run}
 use Rattle.world.specs.Seats.{IsPart}
 use Rattle.world.specs.Shown.{World}
@@ -114,7 +114,7 @@ one_applied : {R : Type 0} (s : Seat R) (kept : Record) (y : Part) → IsPart s 
 one_applied s kept y p r q a None e = absurd (none-some r (sym (p.stopped e) ∙ q))
 one_applied s kept y p r q a (Some x) e =
     let u = p.running x e in
-    (x, e, u.0, u.2, sym (ap (λ (v : Running). v.applied) (same_Some r u.0 (sym q ∙ u.1))) ∙ a)
+    (x, e, u.0, u.2.this, sym (ap (λ (v : Running). v.applied) (same_Some r u.0 (sym q ∙ u.1))) ∙ a)
 
 module _ {R : Type 0} (stands : R → Record → Record → Type 0) (is_kept : R → Type 0) where
   -- What happened before, and an event that a fault stops, are some of the events.

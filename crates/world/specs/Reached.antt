@@ -3,7 +3,8 @@ use Rattle.std.specs.Prelude.{◌≡◌, ℕ, Bool, true, false, List, Option, S
 use Rattle.std.specs.Option.{option_and_then}
 use Rattle.records.specs.Law.{Fate}
 use Rattle.ballots.specs.Messages.{Packet}
-use Rattle.member.specs.Steps.{Input, Hears, KnowsNothing}
+use Rattle.ballots.specs.declared.value.Value.{Value}
+use Rattle.member.specs.Steps.{Input, Hears}
 use Rattle.paxos.specs.Lists.{at, Has}
 use Rattle.paxos.specs.Step.{Running, Effect, on_begin, on_message}
 use Rattle.paxos.specs.Application.{Application}
@@ -135,6 +136,10 @@ HappenedOver failed fates old new app e v z = HappenedIf (HaveDone failed fates 
 -- nothing that shows has changed
 abbrev pub IsUnmoved : {R : Type 0} → (stands : R → Record → Record → Type 0) → (is_kept : R → Type 0) → (old new : World R) → Type 0
 IsUnmoved stands is_kept old new = Follows stands is_kept (Sound old.members) Stays old new
+
+-- no reply is kept for any client and number
+abbrev pub KnowsNothing : Application → Type 0
+KnowsNothing app = (values : List Value) (client number : ℕ) → app.reply values client number ≡ None
 
 -- The event has happened, whatever the application answers, as long as it keeps no replies; each store has done in it what was known of it.
 abbrev pub HasHappened : {R : Type 0} → (stands : R → Record → Record → Type 0) → (is_kept : R → Type 0) → (failed : R → ℕ) → (fates : R → ℕ → Fate) → Happens → (old new : World R) → Type 0

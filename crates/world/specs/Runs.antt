@@ -4,7 +4,7 @@ use Rattle.std.specs.Option.{option_and_then, option_map_or}
 use Rattle.ballots.specs.Messages.{up_to}
 use Rattle.ballots.specs.Terms.{Request}
 use Rattle.ballots.specs.declared.value.Value.TheVariants.{Request as Of}
-use Rattle.member.specs.Steps.{IsThis, KnowsNothing, Member}
+use Rattle.member.specs.Steps.{IsThis, Member}
 use Rattle.paxos.specs.Agreement.{Agreement}
 use Rattle.paxos.specs.Application.{Application}
 use Rattle.paxos.specs.Knowledge.{pair_of}
@@ -14,7 +14,7 @@ use Rattle.paxos.specs.Step.{Running}
 use Rattle.paxos.specs.World as protocol
 use Rattle.paxos.specs.World.{World as Whole, Event as Happens, Run, fresh, start, told_to}
 use Rattle.straight_runs.specs.Straight.{closing}
-use Rattle.world.specs.Reached.{Reached, ReachedSmoothly}
+use Rattle.world.specs.Reached.{KnowsNothing, Reached, ReachedSmoothly}
 use Rattle.world.specs.Shown.{World, AreKept, Shows}
 use Rattle.world.specs.declared.event.Event.{Event}
 use Rattle.world.specs.declared.event.Event.TheVariants as event

@@ -5,11 +5,12 @@ use Rattle.ballots.specs.Messages.{Packet}
 use Rattle.ballots.specs.declared.value.Pair.{Pair}
 use Rattle.records.specs.Law.{Fate, Grew, passing}
 use Rattle.member.specs.Drafts.{IsDrafted, IsReady, IsSpent}
-use Rattle.member.specs.Steps.{Input, Member, IsExpected, IsHeard, IsThis, all_packets, effect_of}
+use Rattle.member.specs.Steps.{Input, Member, IsHeard, IsThis, all_packets, effect_of}
 use Rattle.member.specs.declared.draft.Draft.{Draft}
 use Rattle.member.specs.declared.outcome.Outcome.{Outcome}
 use Rattle.paxos.specs.Lists.{at}
 use Rattle.paxos.specs.Application.{Application}
+use Rattle.paxos.specs.Knowledge.{news, prefix}
 use Rattle.paxos.specs.Records.{Record, Write, Nothing, writes, written}
 use Rattle.paxos.specs.Step.{Running, Effect, quiet}
 use Rattle.paxos.specs.WellFormed.{IsRecord}
@@ -30,10 +31,15 @@ pub record Stands {R : Type 0} (stands : R → Record → Record → Type 0) (s 
   pub running : (x : Member R) → s.member ≡ Some x → (a ≡ x.acceptor.kept) × (b ≡ x.acceptor.kept)
   pub stopped : s.member ≡ None → (r : R) × (s.records ≡ Some r) × stands r a b
 
+-- A member runs as one of the protocol's world, and has applied all that it has learnt without a gap.
+pub record RunsAs {R : Type 0} (u : Running) (x : Member R) : Type 0 where
+  pub this : IsThis u x
+  pub applied : u.applied ≡ prefix x.members (news u.heard)
+
 -- A member of the protocol's world is the one that sits there.
 pub record IsPart {R : Type 0} (s : Seat R) (kept : Record) (y : Part) : Type 0 where
   pub kept_is : y.kept ≡ kept
-  pub running : (x : Member R) → s.member ≡ Some x → (u : Running) × (y.running ≡ Some u) × IsThis u x × (kept ≡ x.acceptor.kept)
+  pub running : (x : Member R) → s.member ≡ Some x → (u : Running) × (y.running ≡ Some u) × RunsAs u x × (kept ≡ x.acceptor.kept)
   pub stopped : s.member ≡ None → y.running ≡ None
 
 -- the store at a seat: that of the member that runs there, or the one that was left
@@ -107,10 +113,6 @@ SkipsAt {R} seats m i = (s : Seat R) × (at seats m ≡ Some s) × Skips s i
 -- any member of the protocol's world
 abbrev pub IsAny : Part → Type 0
 IsAny y = Unit {0}
-
--- one that may hear what comes
-abbrev pub MayHear : Input → Part → Type 0
-MayHear i y = IsExpected y.kept i
 
 -- one whose record is well formed
 abbrev pub IsFit : (members : ℕ) → Part → Type 0

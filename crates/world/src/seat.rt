@@ -2,12 +2,13 @@
 
 ghost use Rattle.std.specs.Prelude.{◌≡◌, ◌⊎◌, ◌≤◌, ℕ, true, false, [], None, Some, IfOk, OnOk, OnErr, IfSome, IsSome};
 ghost use Rattle.member.specs.Drafts.{IsDrafted, IsReady, IsSpent};
-ghost use Rattle.member.specs.Steps.{Input as InputTerm, Member as MemberTerm, IsExpected, IsHeard, IsThis, KnowsNothing, input_of};
+ghost use Rattle.member.specs.Steps.{Input as InputTerm, Member as MemberTerm, IsHeard, IsThis, input_of};
 ghost use Rattle.paxos.specs.Application.{Application};
 ghost use Rattle.paxos.specs.Step.{Running};
 ghost use Rattle.paxos.specs.WellFormed.{IsRecord};
 ghost use Rattle.paxos.specs.World.{Member as Part};
-ghost use Rattle.world.specs.Seats.{Did, IsAny, IsFit, IsPlanned, IsSeat, MayHear, MayStart, MayStay, MayStep, MayStop, MayStopIn, Moves, Skips, sent_by, store_in, told_by};
+ghost use Rattle.world.specs.Reached.{KnowsNothing};
+ghost use Rattle.world.specs.Seats.{Did, IsAny, IsFit, IsPlanned, IsSeat, MayStart, MayStay, MayStep, MayStop, MayStopIn, Moves, Skips, sent_by, store_in, told_by};
 
 use ballots::Members;
 use member::{Draft, Input, Member, MemberFault, Outcome};
@@ -93,7 +94,7 @@ impl<R: Records + Drop> Seat<R> {
         requires there { IsSome self.old.member }
         requires ready { (x : MemberTerm R) → self.old.member ≡ Some x → IsReady x draft × (x.acceptor.is_stopped ≡ false) }
         ensures moved { IfOk result (λ o. (app : Application) (n m : ℕ) (i : InputTerm) → KnowsNothing app → IsSeat n m self.old
-            → ((x : MemberTerm R) → self.old.member ≡ Some x → IsDrafted i x draft) → Moves R.stands R.is_kept (MayHear i) (MayStep (Did R.failed R.fates false (store_in self.old) (store_in self.new)) app n m i) self.old self.new (sent_by n m o) (told_by o)) }
+            → ((x : MemberTerm R) → self.old.member ≡ Some x → IsDrafted i x draft) → Moves R.stands R.is_kept IsAny (MayStep (Did R.failed R.fates false (store_in self.old) (store_in self.new)) app n m i) self.old self.new (sent_by n m o) (told_by o)) }
         ensures says { IfOk result (λ o. IfSome o (λ outcome. (outcome.sends.items ≡ draft.sends.items) × (outcome.tells.items ≡ draft.tells.items))) }
         ensures refused { OnErr result (Moves R.stands R.is_kept IsAny MayStay self.old self.new [] []) }
         ensures seat { (n m : ℕ) → IsSeat n m self.old → IsSeat n m self.new }
@@ -129,7 +130,7 @@ impl<R: Records + Drop> Seat<R> {
         requires there { IsSome self.old.member }
         requires ready { (x : MemberTerm R) → self.old.member ≡ Some x → IsReady x draft × (x.acceptor.is_stopped ≡ false) }
         ensures moved { OnOk result ((app : Application) (n m : ℕ) (i : InputTerm) → KnowsNothing app → IsSeat n m self.old
-            → ((x : MemberTerm R) → self.old.member ≡ Some x → IsDrafted i x draft) → Moves R.stands R.is_kept (MayHear i) (MayStopIn (Did R.failed R.fates true (store_in self.old) (store_in self.new)) app n m i true) self.old self.new [] []) }
+            → ((x : MemberTerm R) → self.old.member ≡ Some x → IsDrafted i x draft) → Moves R.stands R.is_kept IsAny (MayStopIn (Did R.failed R.fates true (store_in self.old) (store_in self.new)) app n m i true) self.old self.new [] []) }
         ensures refused { OnErr result (Moves R.stands R.is_kept IsAny MayStay self.old self.new [] []) }
         ensures seat { (n m : ℕ) → IsSeat n m self.old → IsSeat n m self.new }
     {

@@ -2,7 +2,7 @@
 
 ghost use Rattle.std.specs.Prelude.{◌≡◌, ◌+◌, ◌<◌, ◌≤◌, ◌++◌, ℕ, length, map, vec_capacity, vec_len, None, Some, Ok, Err, IfErr, IfOk, IfSome, IsSome, OnErr, OnOk, false, true};
 ghost use Rattle.member.specs.Drafts.{IsDrafted};
-ghost use Rattle.member.specs.Steps.{Input as InputTerm, Hears, KnowsNothing, ticked};
+ghost use Rattle.member.specs.Steps.{Input as InputTerm, Hears, ticked};
 ghost use Rattle.paxos.specs.Application.{Application};
 ghost use Rattle.paxos.specs.Lists.{at};
 ghost use Rattle.paxos.specs.Sound.{Sound};
@@ -10,7 +10,7 @@ ghost use Rattle.paxos.specs.World.{told_to};
 ghost use Rattle.world.specs.Posts.{IsWhole, all_deliveries, packet_of, sent_in};
 ghost use Rattle.world.specs.Tellings.{told_in};
 ghost use Rattle.world.specs.Held.{IsHeld, shown};
-ghost use Rattle.world.specs.Reached.{Follows, IsDue, IsUnmoved, Steps, store_at};
+ghost use Rattle.world.specs.Reached.{Follows, KnowsNothing, IsDue, IsUnmoved, Steps, store_at};
 ghost use Rattle.world.specs.Seats.{Did, IsPlanned, IsPlannedAt, MayMake, MayStart, MayStep, MayStop, MayStopIn, SkipsAt, sent_by, told_by};
 ghost use Rattle.world.specs.declared.seat.Seat.{Seat as SeatTerm};
 

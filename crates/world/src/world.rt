@@ -3,14 +3,13 @@
 ghost use Rattle.std.specs.Prelude.{◌≡◌, ◌↔◌, ◌+◌, ◌*◌, ◌≤◌, ℕ, List, [], false, IfErr, IfOk, IsErrOf, OnErr, OnOk, length, map, true};
 ghost use Rattle.std.specs.List.{list_all};
 ghost use Rattle.std.specs.Option.{option_copied};
-ghost use Rattle.member.specs.Steps.{KnowsNothing};
 ghost use Rattle.paxos.specs.Application.{Application};
 ghost use Rattle.paxos.specs.Lists.{Has};
 ghost use Rattle.paxos.specs.Records.{Record};
 ghost use Rattle.paxos.specs.World.{Event as Happens, World as Whole};
 ghost use Rattle.paxos.specs.Smooth.{AllApplied};
 ghost use Rattle.world.specs.Placed.{AreOf, OneRefused};
-ghost use Rattle.world.specs.Reached.{HasHappened, IsUnmoved, NeverFails, Reached, ReachedSmoothly, event_of};
+ghost use Rattle.world.specs.Reached.{KnowsNothing, HasHappened, IsUnmoved, NeverFails, Reached, ReachedSmoothly, event_of};
 ghost use Rattle.world.specs.Runs.{Agrees, HasDone, IsStraight, IsUnwritten, LeadsSmoothly, LeadsTo, is_for, member_at, straight_run};
 ghost use Rattle.world.specs.Shown.{AreKept, Shows};
 ghost use Rattle.world.specs.Tellings.{told_in};

@@ -7,7 +7,7 @@ use Rattle.paxq_sim.proofs.report.member_text.Goals as goal
 pub returns-in-Some : goal.returns-in-Some
 returns-in-Some c =
     ok-gives c.applied_line.result c.applied_line.ensures
-    (λ text h kept v s. applied_there c.args.world.now kept v s c.args.number (string_bytes text) c.prefix.result c.in-Some.member.now h (sym c.node.ensures ∙ ap option_copied c.in-Some.is) c.prefix.ensures.applied)
+    (λ text h kept v s. applied_there c.args.world.now kept v s c.args.number (string_bytes text) c.prefix.result c.in-Some.member.now h (sym c.node.ensures ∙ ap option_copied c.in-Some.is) c.prefix.ensures.heard)
 
 pub returns-in-None : goal.returns-in-None
 returns-in-None c =

@@ -31,4 +31,4 @@ returns-clause-drafted g c =
     let heard : IsHeard i.members (Hears (packet s body i.number)) = subst (λ (x : Member g.row.R.Denot). IsHeard x.members (Hears (packet s body x.number))) (sym c.self.view_is) c.requires.heard in
     let takes : TakesLearnt c.draft_learned.new.self.members c.draft_learned.new.self.lead l.news a.change a.answer = subst (λ ps. TakesLearnt c.draft_learned.new.self.members c.draft_learned.new.self.lead ps a.change a.answer) c.news.ensures c.in_ok-learnt.ensures.takes in
     subst (λ (x : Member g.row.R.Denot). IsDrafted {R = g.row.R.Denot} (Hears (packet s body x.number)) new d) c.self.view_is
-    (chosen_plans {R = g.row.R.Denot} new d s c.args.pairs.now l a (same.members ∙ c.self.invariant.3) (same.member ∙ c.self.invariant.4) (c.in_ok-heard.ensures.same.members ∙ c.self.invariant.5) c.self.invariant.2 heard c.requires.pairs (c.in_ok-heard.ensures.change ∙ sym (change_as_was h i.learner c.draft_chosen.new.self c.in_ok-heard.ensures.same)) c.in_ok-heard.ensures.news takes c.in_ok-prepares_first.ensures c.in_ok-told_among.ensures refl)
+    (chosen_plans {R = g.row.R.Denot} new d s c.args.pairs.now l a (same.members ∙ c.self.invariant.3) (same.member ∙ c.self.invariant.4) (c.in_ok-heard.ensures.same.members ∙ c.self.invariant.5) c.self.invariant.2 heard c.requires.pairs (c.in_ok-heard.ensures.change ∙ sym (change_as_was h i.learner c.draft_chosen.new.self c.in_ok-heard.ensures.same)) c.in_ok-heard.ensures.news takes c.in_ok-prepares_first.ensures.sends c.in_ok-told_among.ensures refl)

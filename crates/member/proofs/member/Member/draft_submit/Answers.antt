@@ -31,7 +31,7 @@ returns-in_ok-prepares_then_accepts-in-Ok-clause-drafted g c =
     (subst (λ (x : Member g.row.R.Denot). x.proposer.member ≡ x.number) c.self.view_is c.self.invariant.4)
     (subst (λ (x : Member g.row.R.Denot). is_open q x.proposer ≡ false) c.self.view_is is) made.0
     (subst (λ (x : Member g.row.R.Denot). IsSubmitted q x.proposer made.0 p.change p.answer) c.self.view_is made.1)
-    c.in_ok-prepares_then_accepts-in-Ok.ensures c.new.ensures.items refl
+    c.in_ok-prepares_then_accepts-in-Ok.ensures.sends c.new.ensures.items refl
 
 pub returns-in_ok-say-in-Err-NotLeading-clause-drafted : goal.returns-in_ok-say-in-Err-NotLeading-clause-drafted
 returns-in_ok-say-in-Err-NotLeading-clause-drafted g c =

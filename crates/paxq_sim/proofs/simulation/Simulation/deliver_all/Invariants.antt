@@ -1,7 +1,7 @@
 use Rattle.std.proofs.Common.{◌≡◌, ℕ, ◌-◌, ◌^◌, List}
 use Rattle.event_files.specs.declared.command.Command.{Command}
 use Rattle.event_files.specs.declared.first.Failure.{Failure}
-use Rattle.member.specs.Steps.{KnowsNothing}
+use Rattle.world.specs.Reached.{KnowsNothing}
 use Rattle.paxos.specs.Application.{Application}
 use Rattle.paxq_sim.specs.Going.{HasCome, IsDelivering}
 use Rattle.paxq_sim.proofs.simulation.Simulation.deliver_all.Given as goal

@@ -1,6 +1,6 @@
 use Rattle.std.proofs.Common.{◌≡◌, ℕ, List, [], take}
 use Rattle.event_files.specs.declared.first.Failure.{Failure}
-use Rattle.member.specs.Steps.{KnowsNothing}
+use Rattle.world.specs.Reached.{KnowsNothing}
 use Rattle.paxos.specs.Application.{Application}
 use Rattle.paxq_sim.specs.Going.{HasCome}
 use Rattle.paxq_sim.proofs.simulation.Simulation.play.Given as goal

@@ -4,7 +4,7 @@ use Rattle.acceptor.specs.Steps.{Acceptor}
 use Rattle.member.specs.Steps.{input_of}
 use Rattle.world.specs.Seats.{IsAny}
 use Rattle.world.proofs.Given.{if_none, if_some}
-use Rattle.world.proofs.Settling.{planned, same_seat, skipped, stays, store_running}
+use Rattle.world.proofs.Settling.{planned, runs_on, same_seat, skipped, stays, store_running}
 use Rattle.world.proofs.seat.Seat.draft.Goals as goal
 
 -- src/seat.rt:79:13
@@ -19,7 +19,7 @@ returns-clause-stays g c =
     stays {R = g.row.R.Denot} g.R.Records.stands g.R.Records.is_kept IsAny c.args.self.now (record { member = Some y; records = c.args.self.now.records }) x y
     (sym c.as_mut.ensures.value ∙ ap option_copied_mut c.in-Some.is) refl
     (λ k. subst (λ (a : Acceptor g.row.R.Denot). g.R.Records.is_kept a.records) c.draft_for.ensures.acceptor k)
-    (ap (λ (a : Acceptor g.row.R.Denot). a.kept) c.draft_for.ensures.acceptor) c.draft_for.ensures.same
+    (ap (λ (a : Acceptor g.row.R.Denot). a.kept) c.draft_for.ensures.acceptor) (runs_on {R = g.row.R.Denot} x y c.draft_for.ensures.place.0 c.draft_for.ensures.same)
 
 pub returns-clause-store : goal.returns-clause-store
 returns-clause-store g c =

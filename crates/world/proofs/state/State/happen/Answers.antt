@@ -1,9 +1,8 @@
 use Rattle.std.proofs.Common.{sym, subst}
-use Rattle.member.specs.Steps.{KnowsNothing}
 use Rattle.paxos.specs.Application.{Application}
 use Rattle.paxos.specs.Sound.{Sound}
 use Rattle.world.specs.Held.{shown}
-use Rattle.world.specs.Reached.{Follows, HappenedOver, event_of}
+use Rattle.world.specs.Reached.{Follows, HappenedOver, KnowsNothing, event_of}
 use Rattle.world.specs.declared.event.Event.{Event}
 use Rattle.world.proofs.state.State.happen.Goals as goal
 

@@ -6,12 +6,12 @@ use Rattle.member.specs.Steps.{Member}
 use Rattle.paxos.specs.Sound.{Sound}
 use Rattle.world.specs.Held.{shown}
 use Rattle.world.specs.Reached.{Follows, Steps, store_at}
-use Rattle.world.specs.Seats.{Did, IsPlanned, MayHear, MayStopIn}
+use Rattle.world.specs.Seats.{Did, IsAny, IsPlanned, MayStopIn}
 use Rattle.world.specs.declared.seat.Seat.{Seat}
 use Rattle.world.proofs.Given.{err_so, ok_so}
 use Rattle.world.proofs.Happening.{stop_so}
 use Rattle.world.proofs.Lifting.{moves_so}
-use Rattle.world.proofs.Placing.{did_after, due_after, others_after, read_there, held_after, silent_after, stays_after}
+use Rattle.world.proofs.Placing.{did_after, others_after, read_there, held_after, silent_after, stays_after}
 use Rattle.world.proofs.state.State.stop_in.Goals as goal
 
 pub stop_in-requires-clause-there : goal.stop_in-requires-clause-there
@@ -54,9 +54,8 @@ returns-clause-stopped g c =
     let own = subst (λ (x : Seat g.row.R.Denot). IsPlanned {R = g.row.R.Denot} x i c.args.draft) (sym same) planned in
     subst (λ (x : Seat g.row.R.Denot). Follows {R = g.row.R.Denot} g.R.Records.stands g.R.Records.is_kept (Sound self.members) (Steps (shown self) x number (MayStopIn (Did g.R.Records.failed g.R.Records.fates true (store_at self.seats.items number) (store_at (with_item self.seats (number - 1) c.stop_in.new.self).items number)) app self.members number i true)) (shown self) (shown (record { members = self.members; seats = with_item self.seats (number - 1) c.stop_in.new.self; mail = self.mail; told = self.told }))) same
     (silent_after {R = g.row.R.Denot} g.R.Records.stands g.R.Records.is_kept self (record { members = self.members; seats = with_item self.seats (number - 1) c.stop_in.new.self; mail = self.mail; told = self.told }) number seat c.stop_in.new.self
-    held c.requires.least there refl refl (MayHear i) (MayStopIn (Did g.R.Records.failed g.R.Records.fates true (store_at self.seats.items number) (store_at (with_item self.seats (number - 1) c.stop_in.new.self).items number)) app self.members number i true)
-    (due_after {R = g.row.R.Denot} g.R.Records.stands g.R.Records.is_kept self (record { members = self.members; seats = with_item self.seats (number - 1) c.stop_in.new.self; mail = self.mail; told = self.told }) number seat c.stop_in.new.self
-    held c.requires.least there refl refl i due) refl refl
+    held c.requires.least there refl refl IsAny (MayStopIn (Did g.R.Records.failed g.R.Records.fates true (store_at self.seats.items number) (store_at (with_item self.seats (number - 1) c.stop_in.new.self).items number)) app self.members number i true)
+    (λ before v y sound shows h. tt) refl refl
     (moves_so {R = g.row.R.Denot} _ _ (stop_so _ _ (did_after {R = g.row.R.Denot} g.R.Records.stands g.R.Records.is_kept self (record { members = self.members; seats = with_item self.seats (number - 1) c.stop_in.new.self; mail = self.mail; told = self.told }) number seat c.stop_in.new.self
     held c.requires.least there refl refl g.R.Records.failed g.R.Records.fates true) app self.members number i true)
     (moved app self.members number i nothing (held.seats number seat there)

@@ -1,9 +1,8 @@
 use Rattle.std.proofs.Common.{◌≡◌, true, sym, subst}
-use Rattle.member.specs.Steps.{KnowsNothing}
 use Rattle.paxos.specs.Application.{Application}
 use Rattle.paxos.specs.Sound.{Sound}
 use Rattle.world.specs.Held.{shown}
-use Rattle.world.specs.Reached.{Follows, HappenedOver, event_of}
+use Rattle.world.specs.Reached.{Follows, HappenedOver, KnowsNothing, event_of}
 use Rattle.world.specs.Runs.{is_for}
 use Rattle.world.specs.Shown.{World}
 use Rattle.world.proofs.Given.{ok_so}
