@@ -1,7 +1,7 @@
 //! Messages that are decoded from bytes, and encoded again.
 
 ghost use Rattle.ballots.specs.Messages.{body_of};
-ghost use Rattle.messages.specs.Spelling.{IsDatagram};
+ghost use Rattle.messages.specs.Spelling.{Fits};
 
 use messages::{Packet, decode, encode};
 use std::alloc::Global;
@@ -77,7 +77,7 @@ pub fn encoded(alloc: Global, is_long: bool, count: u32) -> Option<u32> {
 
 /// Encodes what was decoded from these bytes, so many times.
 fn encoded_again(alloc: Global, packet: &Packet, bytes: &[u8], count: u32) -> Option<u32>
-    requires { IsDatagram (record { group = packet.now.group; sender = packet.now.sender; body = body_of packet.now.message }) }
+    requires { Fits (body_of packet.now.message) }
 {
     let mut again = Vec::new(alloc);
     for _turn in 0..count {

@@ -1,3 +1,4 @@
+pub mod Fitting
 pub mod Readings
 pub mod Elements
 pub mod Appending

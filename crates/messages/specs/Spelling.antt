@@ -132,6 +132,18 @@ HasFields (Behind client number applied) = IsId client number × IsApplied appli
 HasFields (Elsewhere client number member) = IsId client number
 HasFields body = Unit {0}
 
+-- an answer that is not too long
+abbrev pub IsWithin : Answered → Type 0
+IsWithin (text t) = length t ≤ most_answer
+IsWithin (fault code) = Unit {0}
+
+-- What has no fixed length is no longer than its fields can say. The types of all else see to the rest.
+abbrev pub Fits : Body → Type 0
+Fits (Promise w) = length w.entries ≤ 8
+Fits (Chosen pairs) = length pairs ≤ 8
+Fits (Answer client number applied answer) = IsWithin answer
+Fits body = Unit {0}
+
 -- what may be said in a datagram: what members may say among as many as there can be, and no more than the fields hold
 pub record IsDatagram (d : Datagram) : Type 0 where
   pub group : d.group < 2 ^ 32

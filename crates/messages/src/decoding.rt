@@ -2,7 +2,7 @@
 
 ghost use Rattle.std.specs.Prelude.{◌≡◌, ◌≢◌, ◌≤◌, [], IfOk, IfErr};
 ghost use Rattle.ballots.specs.Messages.{body_of};
-ghost use Rattle.messages.specs.Spelling.{mark, Datagram, spelling, IsDatagram};
+ghost use Rattle.messages.specs.Spelling.{mark, Datagram, spelling, Fits, IsDatagram};
 ghost use Rattle.messages.specs.Reading.{Gives, Fails, is_sender, header_read, datagram_read};
 
 use super::bodies::split_body;
@@ -95,6 +95,7 @@ pub fn decode(alloc: Global, bytes: &[u8]) -> Result<Packet, WireFault>
     ensures packet { IfOk result (λ p. datagram_read bytes.now ≡ Gives (record { group = p.group; sender = p.sender; body = body_of p.message }) []) }
     ensures spelt { IfOk result (λ p. bytes.now ≡ spelling (record { group = p.group; sender = p.sender; body = body_of p.message })) }
     ensures may_be_sent { IfOk result (λ p. IsDatagram (record { group = p.group; sender = p.sender; body = body_of p.message })) }
+    ensures fits { IfOk result (λ p. Fits (body_of p.message)) }
     ensures fault { IfErr result (λ f. f ≢ WireFault.Memory → datagram_read bytes.now ≡ Fails f) }
 {
     let packet = read_datagram(alloc, bytes)?;

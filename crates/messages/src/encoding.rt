@@ -5,9 +5,7 @@ ghost use Rattle.byteorder.specs.Endian.{big_bytes};
 ghost use Rattle.ballots.specs.Replies.{answered};
 ghost use Rattle.ballots.specs.Messages.{body_of, window_of, Promise, Chosen, Submit, Ask as OfAsk, Answer as OfAnswer};
 ghost use Rattle.ballots.specs.Spelling.{value_spelling};
-ghost use Rattle.messages.specs.Spelling.{mark, ballot_spelling, position_spelling, entry_spelling, pair_spelling, text_spelling, id_spelling, reply_spelling, answer_spelling, kind, body_spelling, spelling, IsAnswer, HasFields, IsDatagram};
-ghost use Rattle.ballots.specs.Ballot.{most_members};
-ghost use Rattle.paxos.specs.WellFormed.{IsBody};
+ghost use Rattle.messages.specs.Spelling.{mark, ballot_spelling, position_spelling, entry_spelling, pair_spelling, text_spelling, id_spelling, reply_spelling, answer_spelling, kind, body_spelling, spelling, Fits, IsWithin};
 ghost use Rattle.messages.specs.Appending.{Extends};
 
 use super::limits::MARK;
@@ -263,7 +261,7 @@ fn applied_bytes(client: u32, number: u64, applied: u32) -> [u8; 16]
 #[tactic(auto, using(crate::proofs::Appending::by_both, crate::proofs::Appending::twice))]
 /// Appends what a question gives.
 fn put_answered(out: &mut Vec<u8>, answer: &Answer) -> Result<(), AllocError>
-    requires { IsAnswer (answered answer.now) }
+    requires { IsWithin (answered answer.now) }
     ensures put { OnOk result (out.new.items ≡ out.old.items ++ answer_spelling (answered answer.now)) }
     ensures kept { Extends out.old.items out.new.items }
 {
@@ -286,7 +284,7 @@ fn put_answer(
     applied: u32,
     answer: &Answer,
 ) -> Result<(), AllocError>
-    requires { IsAnswer (answered answer.now) }
+    requires { IsWithin (answered answer.now) }
     ensures put { OnOk result (out.new.items ≡ out.old.items ++ body_spelling (OfAnswer client number applied (answered answer.now))) }
     ensures kept { Extends out.old.items out.new.items }
 {
@@ -326,8 +324,7 @@ fn elsewhere_bytes(client: u32, number: u64, member: u8) -> [u8; 13]
 #[tactic(auto, using(crate::proofs::Appending::by_both))]
 /// Appends the body of a message.
 fn put_body(out: &mut Vec<u8>, message: &Message) -> Result<(), AllocError>
-    requires body { IsBody most_members (body_of message.now) }
-    requires fields { HasFields (body_of message.now) }
+    requires fits { Fits (body_of message.now) }
     ensures put { OnOk result (out.new.items ≡ out.old.items ++ body_spelling (body_of message.now)) }
     ensures kept { Extends out.old.items out.new.items }
 {
@@ -398,8 +395,7 @@ fn put_message(
     group: u32,
     sender: u8,
 ) -> Result<(), AllocError>
-    requires body { IsBody most_members (body_of message.now) }
-    requires fields { HasFields (body_of message.now) }
+    requires fits { Fits (body_of message.now) }
     ensures put { OnOk result (out.new.items ≡ out.old.items ++ spelling (record { group = group; sender = sender; body = body_of message.now })) }
     ensures kept { Extends out.old.items out.new.items }
 {
@@ -412,14 +408,15 @@ fn put_message(
 #[tactic(auto, using(crate::proofs::Appending::without))]
 /// Appends the spelling of a message of a group from a sender, a member (1 to 63) or the clients (0).
 ///
-/// It has to be a message that may be sent so: see `IsDatagram`. Where memory is refused nothing is appended.
+/// A message that may not be sent is spelt as well, but nothing reads so (`IsDatagram`); it only may not have more entries or a longer answer
+/// than there is room for. Where memory is refused nothing is appended.
 pub fn encode(
     message: &Message,
     group: u32,
     sender: u8,
     out: &mut Vec<u8>,
 ) -> Result<(), AllocError>
-    requires { IsDatagram (record { group = group; sender = sender; body = body_of message.now }) }
+    requires { Fits (body_of message.now) }
     ensures put { OnOk result (out.new.items ≡ out.old.items ++ spelling (record { group = group; sender = sender; body = body_of message.now })) }
     ensures refused { OnErr result (out.new.items ≡ out.old.items) }
 {
