@@ -2,3 +2,4 @@ pub mod Terms
 pub mod Meaning
 pub mod Session
 pub mod Inside
+pub mod Applying

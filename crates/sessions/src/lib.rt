@@ -4,6 +4,7 @@
 //! replies and reads no earlier value again.
 #![tactic(auto)]
 
+mod applying;
 pub mod laws;
 mod state;
 
