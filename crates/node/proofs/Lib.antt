@@ -1,0 +1,4 @@
+pub mod Going
+pub mod Spelt
+pub mod Planning
+pub mod Stepping

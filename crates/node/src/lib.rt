@@ -1,0 +1,14 @@
+//! One node of a group: from received bytes to sent bytes, over any records and any application. Nothing here waits, sends or receives.
+#![tactic(auto)]
+
+mod applying;
+mod draft;
+mod fault;
+mod node;
+mod outbox;
+mod spelling;
+
+pub use draft::Draft;
+pub use fault::{NodeFault, OpenFault};
+pub use node::Node;
+pub use outbox::{Outbox, Reading, Sent};

@@ -1,0 +1,408 @@
+//! A node.
+
+ghost use Rattle.std.specs.Prelude.{◌≡◌, ◌≤◌, ◌⊎◌, ◌↔◌, ℕ, false, true, map, IfOk, IfErr, OnErr, OnOk, IsErrOf, None, Ok};
+ghost use Rattle.std.specs.Option.{option_copied};
+ghost use Rattle.acceptor.specs.Drafts.{IsRefused};
+ghost use Rattle.acceptor.specs.Steps.{IsAsWas, Stopped};
+ghost use Rattle.ballots.specs.Ballot.{most_members};
+ghost use Rattle.ballots.specs.Messages.{Packet as Posted, Ask as Asks, body_of, packet as packet_of};
+ghost use Rattle.member.specs.Drafts.{IsReady, write_in};
+ghost use Rattle.member.specs.Steps.{Input as InputTerm, Hears, IsNew, IsNoQuestion, all_packets, ticked};
+ghost use Rattle.messages.specs.Reading.{Fails, datagram_read};
+ghost use Rattle.messages.specs.Spelling.{Datagram, IsDatagram, spelling};
+ghost use Rattle.messages.specs.declared.fault.WireFault.{WireFault as WireFaultTerm};
+ghost use Rattle.node.specs.Nodes.{AreFit, HasFailed, HasStayed, IsDrafted, IsForClients, IsFrom, IsPlanned, IsStrange, IsUnchanged, Reads, RunsAs, Steps, posted, records_fault, spelt};
+ghost use Rattle.paxos.specs.Knowledge.{learnt as learnt_at, news, prefix};
+ghost use Rattle.paxos.specs.Records.{Record as RecordTerm};
+ghost use Rattle.paxos.specs.Step.{Running, may_begin, values_of};
+ghost use Rattle.paxos.specs.WellFormed.{IsMessage, IsRecord, IsSender};
+ghost use Rattle.paxos.specs.World.{started};
+ghost use Rattle.records.specs.Law.{Went};
+
+use super::applying::apply_learnt;
+use super::draft::Draft;
+use super::fault::{NodeFault, OpenFault};
+use super::outbox::{Outbox, Reading, Sent};
+use super::spelling::spell_all;
+use applications::Application;
+use ballots::{Ask, Message, Setup, Value};
+use member::{Draft as MemberDraft, Input, Member, Tick};
+use messages::{Packet, WireFault, decode};
+use records::{Records, RecordsFault};
+use std::alloc::{AllocError, Global};
+use std::marker::Model;
+
+/// A node: one of the members of a group, with the application that it replicates.
+#[derive(Drop)]
+pub struct Node<R: Records + Drop, A: Application + Drop> {
+    setup: Setup,
+    member: Member<R>,
+    application: A,
+}
+
+impl<R: Records + Drop, A: Application + Drop> Model for Node<R, A> {
+    ghost use Rattle.std.specs.Prelude.{◌≡◌, ◌≤◌};
+    ghost use Rattle.ballots.specs.Terms.{IsPlace};
+    ghost use Rattle.node.specs.Nodes.{Node as NodeTerm};
+
+    ghost Value = { NodeTerm R A };
+
+    ghost view = { λ x. record { setup = x.setup; member = x.member; application = x.application } };
+
+    ghost invariant = { λ x. (x.member.members ≡ x.setup.members) × (x.member.number ≡ x.setup.member) × IsPlace x.setup.member x.setup.members };
+}
+
+/// Why a node does not open over records that are refused.
+fn open_fault(fault: RecordsFault) -> OpenFault
+    ensures { records_fault result ≡ fault }
+{
+    match fault {
+        RecordsFault::Memory => OpenFault::Memory,
+        RecordsFault::Store => OpenFault::Store,
+    }
+}
+
+/// Two values, if the second is there.
+fn together<T: Drop>(
+    first: T,
+    second: Result<Vec<Sent>, AllocError>,
+) -> Result<(T, Vec<Sent>), NodeFault>
+    ensures both { IfOk result (λ p. (p.0 ≡ first) × (second ≡ Ok p.1)) }
+    ensures fault { IfErr result (λ fault. fault ≡ NodeFault.Memory) }
+{
+    match second {
+        Ok(second) => Ok((first, second)),
+        Err(_) => Err(NodeFault::Memory),
+    }
+}
+
+impl<R: Records + Drop, A: Application + Drop> Node<R, A> {
+    /// Opens records as the member that the setup names, with the application before any value: it has promised and accepted what they keep, has
+    /// heard nothing, and has applied nothing. A refusal gives setup and records back, as they were.
+    ///
+    /// The records are those of this member among as many: where they are not, nothing is known of what it does.
+    ///
+    /// Faults: memory was refused (3); the store failed (4).
+    pub fn open(
+        alloc: Global,
+        setup: Setup,
+        records: R,
+    ) -> Result<Node<R, A>, (OpenFault, Setup, R)>
+        ensures setup { IfOk result (λ x. x.setup ≡ setup) }
+        ensures started { IfOk result (λ x. IsRecord setup.members x.member.acceptor.kept → RunsAs A.has_applied started x) }
+        ensures running { IfOk result (λ x. x.member.acceptor.is_stopped ≡ false) }
+        ensures loaded { IfOk result (λ x. R.is_kept x.member.acceptor.records → (a b : RecordTerm) → R.stands records a b → (x.member.acceptor.kept ≡ a) ⊎ (x.member.acceptor.kept ≡ b)) }
+        ensures stands { IfOk result (λ x. R.is_kept x.member.acceptor.records → R.stands x.member.acceptor.records x.member.acceptor.kept x.member.acceptor.kept) }
+        ensures kept { IfOk result (λ x. R.is_kept x.member.acceptor.records → R.is_kept records) }
+        ensures refused { IfErr result (λ e. (e.1 ≡ setup) × IsRefused R.stands R.is_kept R.failed R.fates records e.2 (records_fault e.0)) }
+    {
+        let Ok(application) = A::new(alloc, setup.names()) else {
+            return Err((OpenFault::Memory, setup, records));
+        };
+        match Member::open(alloc, setup.members(), setup.member(), records) {
+            Ok(member) => Ok(Node {
+                setup,
+                member,
+                application,
+            }),
+            Err((fault, records)) => Err((open_fault(fault), setup, records)),
+        }
+    }
+
+    /// What it was told when it was set up.
+    pub fn setup(&self) -> &Setup
+        ensures { result.now ≡ self.now.setup }
+    {
+        &self.setup
+    }
+
+    /// What comes of received bytes: what it writes, sends and tells once it is committed. Nothing that shows has changed, but the room that it
+    /// takes.
+    ///
+    /// Faults: the node has stopped; the bytes are no message; the message is of another group, from or about a member that there is not, or of
+    /// a kind that goes to clients; memory was refused.
+    pub fn draft(&mut self, alloc: Global, bytes: &[u8]) -> Result<Draft, NodeFault>
+        ensures drafted { IfOk result (λ d. (k : Posted) × IsFrom self.new.setup bytes.now k × IsDrafted A.has_applied (A.meaning self.new.setup.names) (Hears k) self.new d) }
+        ensures same { HasStayed A.has_applied self.old self.new }
+        ensures wire { (f : WireFaultTerm) → IsErrOf result (NodeFault.Wire f) → datagram_read bytes.now ≡ Fails f }
+        ensures stranger { IsErrOf result NodeFault.Stranger → (d : Datagram) × (bytes.now ≡ spelling d) × IsStrange self.old.setup d }
+        ensures stopped { IsErrOf result NodeFault.Stopped ↔ (self.old.member.acceptor.is_stopped ≡ true) }
+        ensures store { IsErrOf result NodeFault.Store → ⊥ }
+        ensures spent { (u : Running) → RunsAs A.has_applied u self.old → IsErrOf result NodeFault.Spent → ⊥ }
+    {
+        if self.member.has_stopped() {
+            return Err(NodeFault::Stopped);
+        }
+        match decode(alloc, bytes) {
+            Ok(packet) => self.draft_packet(alloc, &packet),
+            Err(WireFault::Memory) => Err(NodeFault::Memory),
+            Err(fault) => Err(NodeFault::Wire(fault)),
+        }
+    }
+
+    /// What comes of a packet.
+    fn draft_packet(&mut self, alloc: Global, packet: &Packet) -> Result<Draft, NodeFault>
+        requires runs { self.old.member.acceptor.is_stopped ≡ false }
+        requires may_be_sent { IsDatagram (record { group = packet.now.group; sender = packet.now.sender; body = body_of packet.now.message }) }
+        ensures drafted { IfOk result (λ d. (packet.now.group ≡ self.new.setup.group)
+            × IsMessage self.new.setup.members (packet_of packet.now.sender (body_of packet.now.message) self.new.setup.member)
+            × IsDrafted A.has_applied (A.meaning self.new.setup.names) (Hears (packet_of packet.now.sender (body_of packet.now.message) self.new.setup.member)) self.new d) }
+        ensures for_members { IfOk result (λ d. IsForClients (body_of packet.now.message) → ⊥) }
+        ensures same { HasStayed A.has_applied self.old self.new }
+        ensures wire { (f : WireFaultTerm) → IsErrOf result (NodeFault.Wire f) → ⊥ }
+        ensures stranger { IsErrOf result NodeFault.Stranger → IsStrange self.old.setup (record { group = packet.now.group; sender = packet.now.sender; body = body_of packet.now.message }) }
+        ensures stopped { IsErrOf result NodeFault.Stopped → ⊥ }
+        ensures store { IsErrOf result NodeFault.Store → ⊥ }
+        ensures spent { (u : Running) → RunsAs A.has_applied u self.old → IsErrOf result NodeFault.Spent → ⊥ }
+    {
+        if packet.group != self.setup.group() {
+            return Err(NodeFault::Stranger);
+        }
+        let draft = self.draft_message(alloc, packet.sender, &packet.message)?;
+        self.spell(alloc, draft)
+    }
+
+    /// A member's draft, with what it sends as bytes.
+    fn spell(&self, alloc: Global, draft: MemberDraft) -> Result<Draft, NodeFault>
+        requires fits { AreFit draft.sends.items }
+        ensures member { IfOk result (λ d. d.member ≡ draft) }
+        ensures sends { IfOk result (λ d. posted self.now.setup.members self.now.setup.member d.sent.items ≡ map (spelt self.now.setup.group) (all_packets self.now.setup.members self.now.setup.member draft.sends.items)) }
+        ensures fault { IfErr result (λ fault. fault ≡ NodeFault.Memory) }
+    {
+        let group = self.setup.group();
+        let sent = spell_all(alloc, group, self.setup.member(), draft.sends());
+        let (member, sent) = together(draft, sent)?;
+        Ok(Draft { member, sent })
+    }
+
+    /// What comes of a message.
+    fn draft_message(
+        &mut self,
+        alloc: Global,
+        sender: u8,
+        message: &Message,
+    ) -> Result<MemberDraft, NodeFault>
+        requires runs { self.old.member.acceptor.is_stopped ≡ false }
+        requires sender { IsSender most_members sender (body_of message.now) }
+        ensures planned { IfOk result (λ d. IsPlanned A.has_applied (A.meaning self.new.setup.names) (Hears (packet_of sender (body_of message.now) self.new.setup.member)) self.new d) }
+        ensures same { HasStayed A.has_applied self.old self.new }
+        ensures for_members { IfOk result (λ d. IsForClients (body_of message.now) → ⊥) }
+        ensures stranger { IsErrOf result NodeFault.Stranger → IsForClients (body_of message.now) ⊎ (IsMessage self.old.setup.members (packet_of sender (body_of message.now) self.old.setup.member) → ⊥) }
+        ensures faults { IfErr result (λ fault. (fault ≡ NodeFault.Stranger) ⊎ (fault ≡ NodeFault.Memory) ⊎ (fault ≡ NodeFault.Spent)) }
+        ensures spent { (u : Running) → RunsAs A.has_applied u self.old → IsErrOf result NodeFault.Spent → ⊥ }
+    {
+        match message {
+            Message::Submit(request) => {
+                let id = request.id();
+                match self.application.reply_of(id.client, id.number) {
+                    Some(reply) => Ok(MemberDraft::to_client(
+                        alloc,
+                        Message::Reply(id.client, id.number, reply),
+                    )?),
+                    None => self.draft_heard(alloc, sender, message),
+                }
+            }
+            Message::Ask(ask) => self.draft_question(alloc, ask),
+            Message::Reply(_, _, _)
+            | Message::Answer(_, _, _, _)
+            | Message::Behind(_, _, _)
+            | Message::Elsewhere(_, _, _) => Err(NodeFault::Stranger),
+            Message::Prepare(_, _)
+            | Message::Promise(_)
+            | Message::Accept(_, _)
+            | Message::Accepted(_, _)
+            | Message::Chosen(_)
+            | Message::CatchUp(_) => self.draft_heard(alloc, sender, message),
+        }
+    }
+
+    /// What comes of a message that the member hears, to which no reply is kept.
+    fn draft_heard(
+        &mut self,
+        alloc: Global,
+        sender: u8,
+        message: &Message,
+    ) -> Result<MemberDraft, NodeFault>
+        requires runs { self.old.member.acceptor.is_stopped ≡ false }
+        requires new { (u : Running) → A.has_applied self.old.setup.names (values_of self.old.setup.members u) self.old.application → IsNew (A.meaning self.old.setup.names) (values_of self.old.setup.members u) (body_of message.now) }
+        requires no_question { IsNoQuestion (body_of message.now) }
+        ensures planned { IfOk result (λ d. IsPlanned A.has_applied (A.meaning self.new.setup.names) (Hears (packet_of sender (body_of message.now) self.new.setup.member)) self.new d) }
+        ensures same { HasStayed A.has_applied self.old self.new }
+        ensures stranger { IsErrOf result NodeFault.Stranger → IsMessage self.old.setup.members (packet_of sender (body_of message.now) self.old.setup.member) → ⊥ }
+        ensures faults { IfErr result (λ fault. (fault ≡ NodeFault.Stranger) ⊎ (fault ≡ NodeFault.Memory) ⊎ (fault ≡ NodeFault.Spent)) }
+        ensures spent { (u : Running) → RunsAs A.has_applied u self.old → IsErrOf result NodeFault.Spent → ⊥ }
+    {
+        if !self.member.hears(sender, message) {
+            return Err(NodeFault::Stranger);
+        }
+        Ok(self.member.draft(alloc, &Input::Message(sender, message))?)
+    }
+
+    /// What comes of a question: its answer, or how far the node is where that is less than the floor.
+    fn draft_question(&self, alloc: Global, ask: &Ask) -> Result<MemberDraft, NodeFault>
+        ensures planned { IfOk result (λ d. IsPlanned A.has_applied (A.meaning self.now.setup.names) (Hears (packet_of 0 (Asks ask.now) self.now.setup.member)) self.now d) }
+        ensures fault { IfErr result (λ fault. fault ≡ NodeFault.Memory) }
+    {
+        let id = ask.id();
+        let applied = self.application.applied();
+        if applied < ask.floor() {
+            let behind = Message::Behind(id.client, id.number, applied);
+            return Ok(MemberDraft::to_client(alloc, behind)?);
+        }
+        let answer = self.application.answer(alloc, ask.level(), ask.text())?;
+        let answer = Message::Answer(id.client, id.number, applied, answer);
+        Ok(MemberDraft::to_client(alloc, answer)?)
+    }
+
+    /// Makes what was drafted for this very node, which has not changed since: first what its records are to keep. Then it applies what is
+    /// learnt, while memory is found.
+    ///
+    /// Faults: memory was refused, and nothing that shows has changed; the store failed, and the node has stopped.
+    pub fn commit(&mut self, alloc: Global, draft: Draft) -> Result<Outbox, NodeFault>
+        requires ready { IsReady self.old.member draft.member }
+        ensures took { IfOk result (λ o. (i : InputTerm) → IsDrafted A.has_applied (A.meaning self.old.setup.names) i self.old draft
+            → Steps A.has_applied (A.meaning self.old.setup.names) i self.old self.new o) }
+        ensures says { IfOk result (λ o. (o.sent.items ≡ draft.sent.items) × (o.tells.items ≡ draft.member.tells.items)) }
+        ensures memory { IsErrOf result NodeFault.Memory → IsAsWas R.failed self.old.member.acceptor self.new.member.acceptor
+            × ((u : Running) → RunsAs A.has_applied u self.old → RunsAs A.has_applied u self.new) }
+        ensures store { IsErrOf result NodeFault.Store → Stopped R.stands R.is_kept R.failed self.old.member.acceptor self.new.member.acceptor (write_in draft.member.change) }
+        ensures faults { IfErr result (λ fault. (fault ≡ NodeFault.Memory) ⊎ (fault ≡ NodeFault.Store)) }
+        ensures setup { self.new.setup ≡ self.old.setup }
+    {
+        let Draft { member, sent } = draft;
+        match self.member.commit(alloc, member) {
+            Ok(outcome) => {
+                let is_short = apply_learnt(alloc, &self.member, &mut self.application);
+                Ok(Outbox {
+                    sent,
+                    tells: outcome.tells,
+                    is_short,
+                })
+            }
+            Err(RecordsFault::Memory) => Err(NodeFault::Memory),
+            Err(RecordsFault::Store) => Err(NodeFault::Store),
+        }
+    }
+
+    /// Takes the step of received bytes: what it writes is acknowledged before anything that rests on it is given, and what is learnt is applied
+    /// while memory is found.
+    ///
+    /// Faults, each of which but the fourth changes nothing that shows: the bytes are no message (1); the message is of another group, from or
+    /// about a member that there is not, or of a kind that goes to clients (2); memory was refused (3); the store failed, and the node has
+    /// stopped, with the old record or the new one (4); it had stopped before (5).
+    pub fn receive(&mut self, alloc: Global, bytes: &[u8]) -> Result<Outbox, NodeFault>
+        ensures took { IfOk result (λ o. (k : Posted) × IsFrom self.old.setup bytes.now k × Steps A.has_applied (A.meaning self.old.setup.names) (Hears k) self.old self.new o) }
+        ensures wire { (f : WireFaultTerm) → IsErrOf result (NodeFault.Wire f) → datagram_read bytes.now ≡ Fails f }
+        ensures stranger { IsErrOf result NodeFault.Stranger → (d : Datagram) × (bytes.now ≡ spelling d) × IsStrange self.old.setup d }
+        ensures stopped { IsErrOf result NodeFault.Stopped ↔ (self.old.member.acceptor.is_stopped ≡ true) }
+        ensures store { IsErrOf result NodeFault.Store → HasFailed R.stands R.is_kept R.failed self.old self.new }
+        ensures spent { (u : Running) → RunsAs A.has_applied u self.old → IsErrOf result NodeFault.Spent → ⊥ }
+        ensures refused { IfErr result (λ fault. (fault ≡ NodeFault.Store → ⊥) → IsUnchanged A.has_applied R.failed self.old self.new) }
+        ensures setup { self.new.setup ≡ self.old.setup }
+    {
+        let draft = self.draft(alloc, bytes)?;
+        self.commit(alloc, draft)
+    }
+
+    /// What comes of a tick: what it writes and sends once it is committed. Nothing that shows has changed.
+    ///
+    /// Faults: the node has stopped; memory was refused; positions or rounds are spent, so that no ballot begins.
+    pub fn draft_tick(&mut self, alloc: Global, tick: Tick) -> Result<Draft, NodeFault>
+        ensures drafted { IfOk result (λ d. IsDrafted A.has_applied (A.meaning self.new.setup.names) (ticked tick) self.new d) }
+        ensures same { HasStayed A.has_applied self.old self.new }
+        ensures stopped { IsErrOf result NodeFault.Stopped ↔ (self.old.member.acceptor.is_stopped ≡ true) }
+        ensures faults { IfErr result (λ fault. (fault ≡ NodeFault.Stopped) ⊎ (fault ≡ NodeFault.Memory) ⊎ (fault ≡ NodeFault.Spent)) }
+        ensures spent { (u : Running) → RunsAs A.has_applied u self.old → IsErrOf result NodeFault.Spent
+            → (tick ≡ Tick.Begin) × (may_begin self.old.setup.members self.old.member.acceptor.kept u ≡ false) }
+    {
+        if self.member.has_stopped() {
+            return Err(NodeFault::Stopped);
+        }
+        let draft = self.plan_tick(alloc, tick)?;
+        self.spell(alloc, draft)
+    }
+
+    /// What its member makes of a tick.
+    fn plan_tick(&mut self, alloc: Global, tick: Tick) -> Result<MemberDraft, NodeFault>
+        requires runs { self.old.member.acceptor.is_stopped ≡ false }
+        ensures planned { IfOk result (λ d. IsPlanned A.has_applied (A.meaning self.new.setup.names) (ticked tick) self.new d) }
+        ensures same { HasStayed A.has_applied self.old self.new }
+        ensures faults { IfErr result (λ fault. (fault ≡ NodeFault.Memory) ⊎ (fault ≡ NodeFault.Spent)) }
+        ensures spent { (u : Running) → RunsAs A.has_applied u self.old → IsErrOf result NodeFault.Spent
+            → (tick ≡ Tick.Begin) × (may_begin self.old.setup.members self.old.member.acceptor.kept u ≡ false) }
+    {
+        Ok(self.member.draft(alloc, &Input::Tick(tick))?)
+    }
+
+    /// Takes the step of a tick, as [`Node::receive`] does that of bytes.
+    ///
+    /// Faults: memory was refused (3); the store failed, and the node has stopped (4); it had stopped before (5); positions or rounds are
+    /// spent, so that no ballot begins (6).
+    pub fn tick(&mut self, alloc: Global, tick: Tick) -> Result<Outbox, NodeFault>
+        ensures took { IfOk result (λ o. Steps A.has_applied (A.meaning self.old.setup.names) (ticked tick) self.old self.new o) }
+        ensures stopped { IsErrOf result NodeFault.Stopped ↔ (self.old.member.acceptor.is_stopped ≡ true) }
+        ensures store { IsErrOf result NodeFault.Store → HasFailed R.stands R.is_kept R.failed self.old self.new }
+        ensures spent { (u : Running) → RunsAs A.has_applied u self.old → IsErrOf result NodeFault.Spent
+            → (tick ≡ Tick.Begin) × (may_begin self.old.setup.members self.old.member.acceptor.kept u ≡ false) }
+        ensures refused { IfErr result (λ fault. (fault ≡ NodeFault.Store → ⊥) → IsUnchanged A.has_applied R.failed self.old self.new) }
+        ensures setup { self.new.setup ≡ self.old.setup }
+    {
+        let draft = self.draft_tick(alloc, tick)?;
+        self.commit(alloc, draft)
+    }
+
+    /// How many positions it has learnt from 1 on without a gap.
+    pub fn prefix(&self) -> u32
+        ensures { (u : Running) → RunsAs A.has_applied u self.now → result ≡ prefix self.now.setup.members (news u.heard) }
+    {
+        self.member.prefix()
+    }
+
+    /// The value that it has learnt at a position, if there is one.
+    pub fn learned(&self, position: u32) -> Option<&Value>
+        ensures { (u : Running) → RunsAs A.has_applied u self.now → option_copied result ≡ learnt_at self.now.setup.members position (news u.heard) }
+    {
+        self.member.learned(position)
+    }
+
+    /// The application: what it has applied are the first values that the node has learnt.
+    pub fn state(&self) -> &A
+        ensures state { result.now ≡ self.now.application }
+        ensures applied { (u : Running) → RunsAs A.has_applied u self.now → A.has_applied self.now.setup.names (values_of self.now.setup.members u) result.now }
+    {
+        &self.application
+    }
+
+    /// The answer to a question of that text at a level of the language, where as many positions are applied as the floor says.
+    ///
+    /// Faults: the node has stopped (5); memory was refused (3).
+    pub fn answer(
+        &self,
+        alloc: Global,
+        floor: u32,
+        level: u8,
+        text: &str,
+    ) -> Result<Reading, NodeFault>
+        ensures reads { IfOk result (λ reading. (u : Running) → RunsAs A.has_applied u self.now → Reads (A.meaning self.now.setup.names) self.now.setup.members u floor level text.now reading) }
+        ensures stopped { IsErrOf result NodeFault.Stopped ↔ (self.now.member.acceptor.is_stopped ≡ true) }
+        ensures faults { IfErr result (λ fault. (fault ≡ NodeFault.Stopped) ⊎ (fault ≡ NodeFault.Memory)) }
+    {
+        if self.member.has_stopped() {
+            return Err(NodeFault::Stopped);
+        }
+        let applied = self.application.applied();
+        if applied < floor {
+            return Ok(Reading::Behind(applied));
+        }
+        let answer = self.application.answer(alloc, level, text)?;
+        Ok(Reading::At(applied, answer))
+    }
+
+    /// The records, as they were left.
+    pub fn into_records(self) -> R
+        ensures records { result ≡ self.member.acceptor.records }
+        ensures stands { self.member.acceptor.is_stopped ≡ false → R.is_kept result → R.stands result self.member.acceptor.kept self.member.acceptor.kept }
+    {
+        self.member.into_records()
+    }
+}
