@@ -3,14 +3,12 @@
 //! Rows: `all HEX..`, where spaces may stand between digits, and `cut N HEX..`, the first N bytes of them.
 #![tactic(auto)]
 
-mod hex;
-
 ghost use Rattle.ballots.specs.Messages.{body_of};
-ghost use Rattle.messages.specs.Spelling.{IsDatagram};
+ghost use Rattle.messages.specs.Spelling.{Fits};
 
 use ballots::Message;
 use messages::{Packet, WireFault, decode, encode};
-use rows::{Answers, RowFault, Words, run_table};
+use rows::{Answers, RowFault, Words, hex_bytes, run_table};
 use std::alloc::Global;
 use std::process::ExitCode;
 
@@ -36,7 +34,7 @@ impl Answers for MessageRows {
                 .ok_or(RowFault::NotARow)?,
             _ => return Err(RowFault::NotARow),
         };
-        let mut bytes = hex::bytes_of(alloc, words.rest())?;
+        let mut bytes = hex_bytes(alloc, words.rest())?;
         bytes.truncate(most);
         read(alloc, &bytes)
     }
@@ -56,7 +54,7 @@ fn read(alloc: Global, bytes: &[u8]) -> Result<String, RowFault> {
 
 /// What was read, and whether it is encoded as those bytes.
 fn again(alloc: Global, bytes: &[u8], packet: &Packet) -> Result<String, RowFault>
-    requires { IsDatagram (record { group = packet.now.group; sender = packet.now.sender; body = body_of packet.now.message }) }
+    requires { Fits (body_of packet.now.message) }
 {
     let mut encoded = Vec::new(alloc);
     encode(&packet.message, packet.group, packet.sender, &mut encoded)?;

@@ -1,11 +1,11 @@
 //! Bytes written in hexadecimal digits.
 
-use rows::RowFault;
+use super::fault::RowFault;
 use std::alloc::Global;
 
 /// The bytes that digits stand for, two each; spaces are skipped. Faults: `NotARow` where a digit is none or has no other beside it, and
 /// `Memory`.
-pub(super) fn bytes_of(alloc: Global, digits: &str) -> Result<Vec<u8>, RowFault> {
+pub fn hex_bytes(alloc: Global, digits: &str) -> Result<Vec<u8>, RowFault> {
     let mut bytes = Vec::new(alloc);
     let mut high = None;
     for character in digits.chars() {

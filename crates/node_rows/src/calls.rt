@@ -1,0 +1,198 @@
+//! A node, and the calls of it that a row makes.
+
+use crate::printing::{fault_text, outbox_text, reading_text};
+use ballots::{Setup, SetupFault};
+use document_names::NamesFault;
+use line_parts::read_names;
+use member::{Target, Tick};
+use node::{Node, NodeFault, Outbox, Sent};
+use records::MemRecords;
+use rows::{RowFault, Words, hex_bytes};
+use sessions::State;
+use std::alloc::{AllocError, Global};
+
+/// How many calls a row has at most, and how many messages to itself a call delivers.
+const MOST_CALLS: u32 = 1_000;
+
+/// A node, with the messages that it has sent to itself and that it has not had yet.
+#[derive(Drop)]
+struct Played {
+    node: Node<MemRecords, State>,
+    number: u8,
+    waiting: Vec<Vec<u8>>,
+}
+
+/// What the calls after a group, a member and a number of members give.
+pub(super) fn called(alloc: Global, words: &mut Words<'_>) -> Result<String, RowFault> {
+    let mut played = opened(alloc, words)?;
+    let mut out = String::new(alloc);
+    for _ in 0..MOST_CALLS {
+        if words.is_empty() {
+            return Ok(out);
+        }
+        push_called(alloc, &mut played, words, &mut out)?;
+    }
+    Err(RowFault::NotARow)
+}
+
+/// Appends what a call gives, after a bar where something stands there.
+fn push_called(
+    alloc: Global,
+    played: &mut Played,
+    words: &mut Words<'_>,
+    out: &mut String,
+) -> Result<(), RowFault> {
+    if !out.is_empty() {
+        out.push_str(" | ")?;
+    }
+    let given = call(alloc, played, words)?;
+    out.push_str(given.as_str())?;
+    Ok(())
+}
+
+/// A number below 256.
+fn small(words: &mut Words<'_>) -> Result<u8, RowFault> {
+    u8::try_from(words.number()?).ok().ok_or(RowFault::NotARow)
+}
+
+/// A number below 2^32.
+fn word(words: &mut Words<'_>) -> Result<u32, RowFault> {
+    u32::try_from(words.number()?).ok().ok_or(RowFault::NotARow)
+}
+
+/// The bytes that a word stands for, `-` for none.
+fn bytes_of(alloc: Global, words: &mut Words<'_>) -> Result<Vec<u8>, RowFault> {
+    match words.plain()? {
+        "-" => Ok(Vec::new(alloc)),
+        digits => hex_bytes(alloc, digits),
+    }
+}
+
+/// What a node is told when it is set up.
+fn setup(alloc: Global, words: &mut Words<'_>) -> Result<Setup, RowFault> {
+    let group = word(words)?;
+    let member = small(words)?;
+    let members = small(words)?;
+    let names = match read_names(alloc, "db") {
+        Ok(names) => names,
+        Err(NamesFault::Memory) => return Err(RowFault::Memory),
+        Err(NamesFault::Wrong) => return Err(RowFault::NotARow),
+    };
+    match Setup::new(alloc, group, member, members, &names) {
+        Ok(setup) => Ok(setup),
+        Err(SetupFault::Memory) => Err(RowFault::Memory),
+        Err(SetupFault::Numbers) => Err(RowFault::NotARow),
+    }
+}
+
+/// A node that has never done anything.
+fn opened(alloc: Global, words: &mut Words<'_>) -> Result<Played, RowFault> {
+    let setup = setup(alloc, words)?;
+    let number = setup.member();
+    match Node::open(alloc, setup, MemRecords::new(alloc)) {
+        Ok(node) => Ok(Played {
+            node,
+            number,
+            waiting: Vec::new(alloc),
+        }),
+        Err(_) => Err(RowFault::Memory),
+    }
+}
+
+/// What a call gives.
+fn call(alloc: Global, played: &mut Played, words: &mut Words<'_>) -> Result<String, RowFault> {
+    match words.plain()? {
+        "receive" => {
+            let bytes = bytes_of(alloc, words)?;
+            let given = played.node.receive(alloc, &bytes);
+            stepped(alloc, played, given)
+        }
+        "taken" => taken(alloc, played, words),
+        "begin" => ticked(alloc, played, Tick::Begin),
+        "resend" => ticked(alloc, played, Tick::Resend),
+        "catchup" => ticked(alloc, played, Tick::CatchUp),
+        "turn" => turned(alloc, played),
+        "answer" => answered(alloc, played, words),
+        "seen" => seen(alloc, played),
+        _ => Err(RowFault::NotARow),
+    }
+}
+
+/// Whether bytes are taken, or their fault.
+fn taken(alloc: Global, played: &mut Played, words: &mut Words<'_>) -> Result<String, RowFault> {
+    let bytes = bytes_of(alloc, words)?;
+    match played.node.receive(alloc, &bytes) {
+        Ok(_outbox) => Ok(format!(in alloc; "taken")?),
+        Err(fault) => fault_text(alloc, fault),
+    }
+}
+
+/// What a tick gives.
+fn ticked(alloc: Global, played: &mut Played, tick: Tick) -> Result<String, RowFault> {
+    let given = played.node.tick(alloc, tick);
+    stepped(alloc, played, given)
+}
+
+/// What a step gives; what the node sends to itself waits.
+fn stepped(
+    alloc: Global,
+    played: &mut Played,
+    given: Result<Outbox, NodeFault>,
+) -> Result<String, RowFault> {
+    match given {
+        Ok(outbox) => {
+            keep_own(played, &outbox)?;
+            outbox_text(alloc, &outbox)
+        }
+        Err(fault) => fault_text(alloc, fault),
+    }
+}
+
+/// Keeps the messages that a node has sent to itself.
+fn keep_own(played: &mut Played, outbox: &Outbox) -> Result<(), AllocError> {
+    for sent in outbox.sent() {
+        if is_own(sent, played.number) {
+            played.waiting.push(sent.bytes.clone()?)?;
+        }
+    }
+    Ok(())
+}
+
+/// Whether a message goes to the node that sends it.
+fn is_own(sent: &Sent, number: u8) -> bool {
+    match sent.to {
+        Target::One(member) => member == number,
+        Target::All => true,
+        Target::Others | Target::Client => false,
+    }
+}
+
+/// Hands a node all that it has sent to itself, in order.
+fn turned(alloc: Global, played: &mut Played) -> Result<String, RowFault> {
+    for turns in 0..MOST_CALLS {
+        if played.waiting.is_empty() {
+            return Ok(format!(in alloc; "{turns} messages")?);
+        }
+        let bytes = played.waiting.remove(0);
+        let given = played.node.receive(alloc, &bytes);
+        let _said = stepped(alloc, played, given)?;
+    }
+    Err(RowFault::NotARow)
+}
+
+/// `FLOOR TEXT`: what a question reads.
+fn answered(alloc: Global, played: &Played, words: &mut Words<'_>) -> Result<String, RowFault> {
+    let floor = word(words)?;
+    let text = words.text(alloc)?;
+    match played.node.answer(alloc, floor, 1, text.as_str()) {
+        Ok(reading) => reading_text(alloc, &reading),
+        Err(fault) => fault_text(alloc, fault),
+    }
+}
+
+/// How much a node has applied and learnt.
+fn seen(alloc: Global, played: &Played) -> Result<String, RowFault> {
+    let applied = played.node.state().applied();
+    let prefix = played.node.prefix();
+    Ok(format!(in alloc; "applied {applied}, learnt {prefix}")?)
+}

@@ -1,0 +1,36 @@
+//! `node_rows FILE`: prints what comes of calls of a node, from received bytes to sent bytes.
+//!
+//! A row is `node GROUP MEMBER MEMBERS CALL ..`: a node with the document `db`, whose record is in memory. `receive HEX` hands it bytes (`-` is none),
+//! `begin`, `resend` and `catchup` tick it: they give what it sends, each message in hexadecimal digits after whom it goes to, or a
+//! fault's number; `taken HEX` says whether it takes bytes. `turn` hands it all that it has sent to itself, until that is nothing, and gives how many messages that were. `answer FLOOR
+//! TEXT` asks it, and `seen` says how much it has applied and learnt.
+#![tactic(auto)]
+
+mod calls;
+mod printing;
+
+use rows::{Answers, RowFault, Words, run_table};
+use std::alloc::Global;
+use std::process::ExitCode;
+
+/// Ends with the table's exit status: 1 where a row is not understood, and where the file cannot be read or memory is refused.
+fn main(rt: HostRuntime) -> ExitCode {
+    match run_table(&rt, &mut NodeRows) {
+        Ok(status) => ExitCode::from(status),
+        Err(_) => ExitCode::from(1),
+    }
+}
+
+/// The rows on nodes.
+#[derive(Drop)]
+struct NodeRows;
+
+impl Answers for NodeRows {
+    fn answer(&mut self, alloc: Global, row: &str) -> Result<String, RowFault> {
+        let mut words = Words::new(row);
+        match words.plain()? {
+            "node" => calls::called(alloc, &mut words),
+            _ => Err(RowFault::NotARow),
+        }
+    }
+}
