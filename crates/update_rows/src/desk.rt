@@ -67,6 +67,11 @@ impl Desk {
         self.list.len()
     }
 
+    /// How many primitives the list has, and how many the other one.
+    pub(super) fn lengths(&self) -> (usize, usize) {
+        (self.list.len(), self.other.len())
+    }
+
     /// Lets the next node of a primitive take a later identity.
     pub(super) fn raise_next(&mut self, next: u64)
         requires ready { IsReady self.old }

@@ -19,8 +19,10 @@
 //!   identity; `same` whether the store is as described.
 //! - `repeat N STEP .. end` takes the steps N times. A target written `N+M` is the identity N in the first turn, N + M in the second, and so on.
 //!
-//! Where a call finds no memory, the store is compared with a second one that never saw the call, and the call is made again; where it is refused by a
-//! code, or the update is discarded, the store is compared so too. A store that is not as it was shows as `changed`.
+//! Where an update finds no memory, the store is compared with a second one that never saw the update, which is then made again. After a code, and where
+//! an update is discarded, the store is compared so too. A store that is not as it was shows as `changed`; one of more than 20,000 nodes is not compared.
+//! Where no memory is found to add a primitive, both lists are to have as many as before, and it is added again; a check is made again; and of `merge`, whose
+//! other list is gone then, the row says `memory`.
 #![tactic(auto)]
 
 mod desk;

@@ -290,10 +290,10 @@ fn push(
 {
     let to_other = take_word(words, "other");
     let from = *words;
-    let before = desk.len();
+    let before = desk.lengths();
     let mut pushed = push_once(alloc, scene, desk, words, to_other)?;
     if pushed == Err(ListFault::Memory) {
-        if desk.len() != before {
+        if desk.lengths() != before {
             return Ok(Given::Word("changed"));
         }
         *words = from;
