@@ -1,0 +1,5 @@
+use Rattle.update_rows.specs.Ready.{IsReady}
+use Rattle.update_rows.proofs.steps.take_all.Given as goal
+
+abbrev pub invariant-loop : goal.invariant-loop
+invariant-loop l = IsReady l.desk
