@@ -1,6 +1,6 @@
 # `make` alone lists the targets.
 
-.PHONY: help demo test edits refusals paxq measure expressions record_file examples bench kills sweep clean
+.PHONY: help demo test edits refusals paxq measure expressions updates record_file examples bench kills sweep clean
 
 help:
 	@echo 'make demo      builds paxq without waiting for its proof, and runs examples/first.pxq'
@@ -11,8 +11,9 @@ help:
 	@echo 'make examples  runs bin/paxq on the examples, on those of docs/LANGUAGE.md and on input that it refuses'
 	@echo 'make measure   proves measure, which runs parts for the benchmarks, and leaves it at bin/measure'
 	@echo 'make expressions  proves query_rows, which evaluates expressions for the benchmarks, and leaves it at bin/query_rows'
+	@echo 'make updates   proves update_rows, which applies lists of update primitives for the benchmarks, and leaves it at bin/update_rows'
 	@echo 'make record_file  proves record_file, an acceptor'"'"'s record in a SQLite file, and leaves it at bin/record_file'
-	@echo 'make bench     measures bin/paxq, bin/measure, bin/query_rows and bin/record_file (figures for docs/BENCHMARKS.md)'
+	@echo 'make bench     measures bin/paxq, bin/measure, bin/query_rows, bin/update_rows and bin/record_file (figures for docs/BENCHMARKS.md)'
 	@echo 'make kills     ends bin/record_file in the middle of its writes, again and again: each acknowledged write has to be there;'
 	@echo '               and opens files with it that the program sqlite3 made (needs sqlite3)'
 	@echo 'make sweep     runs bin/paxq with each allocation refused in turn (needs a C compiler)'
@@ -50,18 +51,24 @@ expressions:
 	cd crates/query_rows && rt run -- data/expressions.rows > /dev/null
 	mkdir -p bin && cp crates/query_rows/out/query_rows bin/query_rows
 
+updates:
+	.ci/prove update_rows
+	cd crates/update_rows && rt run -- data/updates.rows > /dev/null
+	mkdir -p bin && cp crates/update_rows/out/update_rows bin/update_rows
+
 record_file:
 	.ci/prove record_file
 	cd crates/record_file && rm -f out/record_file && { rt run > /dev/null || true; }
 	mkdir -p bin && cp crates/record_file/out/record_file bin/record_file
 
-bench: paxq measure expressions record_file
+bench: paxq measure expressions updates record_file
 	bench/run bin/paxq
 	bench/limits bin/paxq
 	bench/requests bin/paxq
 	bench/parts bin/measure
 	bench/expressions bin/query_rows
 	bench/steps bin/query_rows
+	bench/updates bin/update_rows
 	bench/records bin/record_file
 
 kills: record_file
