@@ -132,6 +132,13 @@ HasFields (Behind client number applied) = IsId client number × IsApplied appli
 HasFields (Elsewhere client number member) = IsId client number
 HasFields body = Unit {0}
 
+-- The position of a reply, and how far a member has applied, are in range. The types of all else see to the rest.
+abbrev pub AreInRange : Body → Type 0
+AreInRange (Reply client number reply) = IsReply reply
+AreInRange (Answer client number applied answer) = IsApplied applied
+AreInRange (Behind client number applied) = IsApplied applied
+AreInRange body = Unit {0}
+
 -- an answer that is not too long
 abbrev pub IsWithin : Answered → Type 0
 IsWithin (text t) = length t ≤ most_answer

@@ -1,11 +1,12 @@
 //! How each message is spelt.
 
-ghost use Rattle.std.specs.Prelude.{◌≡◌, ◌<◌, ◌≤◌, ◌^◌, ◌++◌, ◌∷◌, [], length, flat_map, OnOk, OnErr};
+ghost use Rattle.std.specs.Prelude.{◌≡◌, ◌<◌, ◌≤◌, ◌^◌, ◌++◌, ◌∷◌, [], true, length, flat_map, All, OnOk, OnErr};
+ghost use Rattle.std.specs.Str.{is_utf8};
 ghost use Rattle.byteorder.specs.Endian.{big_bytes};
 ghost use Rattle.ballots.specs.Replies.{answered};
 ghost use Rattle.ballots.specs.Messages.{body_of, window_of, Promise, Chosen, Submit, Ask as OfAsk, Answer as OfAnswer};
-ghost use Rattle.ballots.specs.Spelling.{value_spelling};
-ghost use Rattle.messages.specs.Spelling.{mark, ballot_spelling, position_spelling, entry_spelling, pair_spelling, text_spelling, id_spelling, reply_spelling, answer_spelling, kind, body_spelling, spelling, Fits, IsWithin};
+ghost use Rattle.ballots.specs.Spelling.{value_spelling, IsValue};
+ghost use Rattle.messages.specs.Spelling.{mark, ballot_spelling, position_spelling, entry_spelling, pair_spelling, text_spelling, id_spelling, reply_spelling, answer_spelling, kind, body_spelling, spelling, Fits, IsWithin, IsId, IsApplied, IsAnswer, AreInRange, HasFields};
 ghost use Rattle.messages.specs.Appending.{Extends};
 
 use super::limits::MARK;
@@ -32,6 +33,7 @@ fn put_bytes(out: &mut Vec<u8>, bytes: &[u8]) -> Result<(), AllocError>
 fn put_value_of(out: &mut Vec<u8>, value: &Value) -> Result<(), AllocError>
     ensures put { OnOk result (out.new.items ≡ out.old.items ++ value_spelling value.now) }
     ensures kept { Extends out.old.items out.new.items }
+    ensures fields { OnOk result (IsValue value.now) }
 {
     match put_value(value, out) {
         Ok(()) => Ok(()),
@@ -60,6 +62,7 @@ fn put_proposal(
 ) -> Result<(), AllocError>
     ensures put { OnOk result (out.new.items ≡ out.old.items ++ (ballot_spelling ballot ++ position_spelling position ++ value_spelling value.now)) }
     ensures kept { Extends out.old.items out.new.items }
+    ensures fields { OnOk result (IsValue value.now) }
 {
     let head = proposal(ballot, position);
     put_bytes(out, head.as_slice())?;
@@ -92,6 +95,7 @@ fn position_bytes(position: u32) -> [u8; 4]
 fn put_entry(out: &mut Vec<u8>, entry: &Entry) -> Result<(), AllocError>
     ensures put { OnOk result (out.new.items ≡ out.old.items ++ entry_spelling entry.now) }
     ensures kept { Extends out.old.items out.new.items }
+    ensures fields { OnOk result (IsValue entry.now.vote.value) }
 {
     let head = place(entry.position, entry.vote.ballot);
     put_bytes(out, head.as_slice())?;
@@ -104,6 +108,7 @@ fn put_entry(out: &mut Vec<u8>, entry: &Entry) -> Result<(), AllocError>
 fn put_pair(out: &mut Vec<u8>, pair: &Pair) -> Result<(), AllocError>
     ensures put { OnOk result (out.new.items ≡ out.old.items ++ pair_spelling pair.now) }
     ensures kept { Extends out.old.items out.new.items }
+    ensures fields { OnOk result (IsValue pair.now.value) }
 {
     let head = position_bytes(pair.position);
     put_bytes(out, head.as_slice())?;
@@ -116,6 +121,7 @@ fn put_pair(out: &mut Vec<u8>, pair: &Pair) -> Result<(), AllocError>
 fn put_entries(out: &mut Vec<u8>, entries: &[Entry]) -> Result<(), AllocError>
     ensures put { OnOk result (out.new.items ≡ out.old.items ++ flat_map entry_spelling entries.now) }
     ensures kept { Extends out.old.items out.new.items }
+    ensures fields { OnOk result (All (λ e. IsValue e.vote.value) entries.now) }
 {
     let [first, rest @ ..] = entries else {
         return Ok(());
@@ -130,6 +136,7 @@ fn put_entries(out: &mut Vec<u8>, entries: &[Entry]) -> Result<(), AllocError>
 fn put_pairs(out: &mut Vec<u8>, pairs: &[Pair]) -> Result<(), AllocError>
     ensures put { OnOk result (out.new.items ≡ out.old.items ++ flat_map pair_spelling pairs.now) }
     ensures kept { Extends out.old.items out.new.items }
+    ensures fields { OnOk result (All (λ e. IsValue e.value) pairs.now) }
 {
     let [first, rest @ ..] = pairs else {
         return Ok(());
@@ -154,6 +161,7 @@ fn put_text(out: &mut Vec<u8>, text: &str) -> Result<(), AllocError>
     requires { length text.now < 65536 }
     ensures put { OnOk result (out.new.items ≡ out.old.items ++ text_spelling text.now) }
     ensures kept { Extends out.old.items out.new.items }
+    ensures utf8 { is_utf8 text.now ≡ true }
 {
     let head = length_bytes(text.len() as u16);
     put_bytes(out, head.as_slice())?;
@@ -181,6 +189,7 @@ fn put_window(out: &mut Vec<u8>, window: &Window) -> Result<(), AllocError>
     requires { length window.now.entries.items ≤ 8 }
     ensures put { OnOk result (out.new.items ≡ out.old.items ++ body_spelling (Promise (window_of window.now))) }
     ensures kept { Extends out.old.items out.new.items }
+    ensures fields { OnOk result (HasFields (Promise (window_of window.now))) }
 {
     let head = window_head(window);
     put_bytes(out, head.as_slice())?;
@@ -194,6 +203,7 @@ fn put_chosen(out: &mut Vec<u8>, pairs: &[Pair]) -> Result<(), AllocError>
     requires { length pairs.now ≤ 8 }
     ensures put { OnOk result (out.new.items ≡ out.old.items ++ body_spelling (Chosen pairs.now)) }
     ensures kept { Extends out.old.items out.new.items }
+    ensures fields { OnOk result (HasFields (Chosen pairs.now)) }
 {
     put_bytes(out, &[pairs.len() as u8])?;
     put_pairs(out, pairs)?;
@@ -202,7 +212,9 @@ fn put_chosen(out: &mut Vec<u8>, pairs: &[Pair]) -> Result<(), AllocError>
 
 /// The bytes of a request before its text.
 fn request_head(request: &Request) -> [u8; 13]
-    ensures { result ≡ big_bytes 4 request.now.client ++ big_bytes 8 request.now.number ++ request.now.level ∷ [] }
+    ensures spelt { result ≡ big_bytes 4 request.now.client ++ big_bytes 8 request.now.number ++ request.now.level ∷ [] }
+    ensures id { IsId request.now.client request.now.number }
+    ensures level { request.now.level ≡ 1 }
 {
     let mut bytes = [0; 13];
     BigEndian::write_u32(&mut bytes, request.id().client);
@@ -216,6 +228,7 @@ fn request_head(request: &Request) -> [u8; 13]
 fn put_submit(out: &mut Vec<u8>, request: &Request) -> Result<(), AllocError>
     ensures put { OnOk result (out.new.items ≡ out.old.items ++ body_spelling (Submit request.now)) }
     ensures kept { Extends out.old.items out.new.items }
+    ensures fields { OnOk result (HasFields (Submit request.now)) }
 {
     let head = request_head(request);
     put_bytes(out, head.as_slice())?;
@@ -223,9 +236,13 @@ fn put_submit(out: &mut Vec<u8>, request: &Request) -> Result<(), AllocError>
     Ok(())
 }
 
+#[tactic(auto, unfolding(ballots::specs::Values::positions))]
 /// The bytes of a question before its text.
 fn ask_head(ask: &Ask) -> [u8; 17]
-    ensures { result ≡ id_spelling ask.now.client ask.now.number ++ big_bytes 4 ask.now.floor ++ ask.now.level ∷ [] }
+    ensures spelt { result ≡ id_spelling ask.now.client ask.now.number ++ big_bytes 4 ask.now.floor ++ ask.now.level ∷ [] }
+    ensures id { IsId ask.now.client ask.now.number }
+    ensures floor { IsApplied ask.now.floor }
+    ensures level { ask.now.level ≡ 1 }
 {
     let mut bytes = [0; 17];
     BigEndian::write_u32(&mut bytes, ask.id().client);
@@ -240,6 +257,7 @@ fn ask_head(ask: &Ask) -> [u8; 17]
 fn put_ask(out: &mut Vec<u8>, ask: &Ask) -> Result<(), AllocError>
     ensures put { OnOk result (out.new.items ≡ out.old.items ++ body_spelling (OfAsk ask.now)) }
     ensures kept { Extends out.old.items out.new.items }
+    ensures fields { OnOk result (HasFields (OfAsk ask.now)) }
 {
     let head = ask_head(ask);
     put_bytes(out, head.as_slice())?;
@@ -249,7 +267,8 @@ fn put_ask(out: &mut Vec<u8>, ask: &Ask) -> Result<(), AllocError>
 
 /// A client, a number, and how far a member has applied.
 fn applied_bytes(client: u32, number: u64, applied: u32) -> [u8; 16]
-    ensures { result ≡ id_spelling client number ++ big_bytes 4 applied }
+    ensures spelt { result ≡ id_spelling client number ++ big_bytes 4 applied }
+    ensures id { IsId client number }
 {
     let mut bytes = [0; 16];
     BigEndian::write_u32(&mut bytes, client);
@@ -264,6 +283,7 @@ fn put_answered(out: &mut Vec<u8>, answer: &Answer) -> Result<(), AllocError>
     requires { IsWithin (answered answer.now) }
     ensures put { OnOk result (out.new.items ≡ out.old.items ++ answer_spelling (answered answer.now)) }
     ensures kept { Extends out.old.items out.new.items }
+    ensures fields { OnOk result (IsAnswer (answered answer.now)) }
 {
     match answer {
         Answer::Text(text) => {
@@ -287,6 +307,7 @@ fn put_answer(
     requires { IsWithin (answered answer.now) }
     ensures put { OnOk result (out.new.items ≡ out.old.items ++ body_spelling (OfAnswer client number applied (answered answer.now))) }
     ensures kept { Extends out.old.items out.new.items }
+    ensures fields { OnOk result (IsApplied applied → HasFields (OfAnswer client number applied (answered answer.now))) }
 {
     let head = applied_bytes(client, number, applied);
     put_bytes(out, head.as_slice())?;
@@ -296,7 +317,8 @@ fn put_answer(
 
 /// A Reply's client, number and outcome.
 fn reply_bytes(client: u32, number: u64, reply: Reply) -> [u8; 17]
-    ensures { result ≡ id_spelling client number ++ reply_spelling reply }
+    ensures spelt { result ≡ id_spelling client number ++ reply_spelling reply }
+    ensures id { IsId client number }
 {
     let (outcome, position) = match reply {
         Reply::Done(position) => (0, position),
@@ -312,7 +334,8 @@ fn reply_bytes(client: u32, number: u64, reply: Reply) -> [u8; 17]
 
 /// A client, a number, and another member.
 fn elsewhere_bytes(client: u32, number: u64, member: u8) -> [u8; 13]
-    ensures { result ≡ id_spelling client number ++ member ∷ [] }
+    ensures spelt { result ≡ id_spelling client number ++ member ∷ [] }
+    ensures id { IsId client number }
 {
     let mut bytes = [0; 13];
     BigEndian::write_u32(&mut bytes, client);
@@ -327,6 +350,7 @@ fn put_body(out: &mut Vec<u8>, message: &Message) -> Result<(), AllocError>
     requires fits { Fits (body_of message.now) }
     ensures put { OnOk result (out.new.items ≡ out.old.items ++ body_spelling (body_of message.now)) }
     ensures kept { Extends out.old.items out.new.items }
+    ensures fields { OnOk result (AreInRange (body_of message.now) → HasFields (body_of message.now)) }
 {
     match message {
         Message::Prepare(ballot, from) => put_bytes(out, proposal(*ballot, *from).as_slice()),
@@ -398,6 +422,7 @@ fn put_message(
     requires fits { Fits (body_of message.now) }
     ensures put { OnOk result (out.new.items ≡ out.old.items ++ spelling (record { group = group; sender = sender; body = body_of message.now })) }
     ensures kept { Extends out.old.items out.new.items }
+    ensures fields { OnOk result (AreInRange (body_of message.now) → HasFields (body_of message.now)) }
 {
     let head = header(group, sender, kind_of(message));
     put_bytes(out, head.as_slice())?;
@@ -409,7 +434,8 @@ fn put_message(
 /// Appends the spelling of a message of a group from a sender, a member (1 to 63) or the clients (0).
 ///
 /// A message that may not be sent is spelt as well, but nothing reads so (`IsDatagram`); it only may not have more entries or a longer answer
-/// than there is room for. Where memory is refused nothing is appended.
+/// than there is room for. What it spells has its fields, where the numbers that its type doesn't bound are in range. Where memory is refused
+/// nothing is appended.
 pub fn encode(
     message: &Message,
     group: u32,
@@ -418,6 +444,7 @@ pub fn encode(
 ) -> Result<(), AllocError>
     requires { Fits (body_of message.now) }
     ensures put { OnOk result (out.new.items ≡ out.old.items ++ spelling (record { group = group; sender = sender; body = body_of message.now })) }
+    ensures fields { OnOk result (AreInRange (body_of message.now) → HasFields (body_of message.now)) }
     ensures refused { OnErr result (out.new.items ≡ out.old.items) }
 {
     let length = out.len();

@@ -8,5 +8,5 @@ use Rattle.messages.proofs.encoding.put_answer.Goals as goal
 pub returns-clause-put : goal.returns-clause-put
 returns-clause-put c =
     let head : List ℕ = id_spelling c.args.client c.args.number ++ big_bytes 4 c.args.applied in
-    let first : c.put_bytes.new.out.items ≡ c.args.out.now.items ++ head = rw (c.in_ok-put_bytes.ensures.put, c.as_slice.ensures, c.applied_bytes-head.ensures) refl in
+    let first : c.put_bytes.new.out.items ≡ c.args.out.now.items ++ head = rw (c.in_ok-put_bytes.ensures.put, c.as_slice.ensures, c.applied_bytes-head.ensures.spelt) refl in
     twice _ head _ (answer_spelling (answered c.args.answer.now)) _ first c.in_ok-put_answered.ensures.put
