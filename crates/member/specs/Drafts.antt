@@ -1,6 +1,6 @@
 -- What a member is about to do, and when that is what its step says.
 use Rattle.std.specs.Prelude.{◌≡◌, ◌≤◌, false, List, [], ◌∷◌, length, Option, Some}
-use Rattle.ballots.specs.Messages.{Body, Promise as Promises, Chosen, Answer as Answers, Packet, body_of}
+use Rattle.ballots.specs.Messages.{Body, Promise as Promises, Chosen, Reply as Replies, Answer as Answers, Behind, Packet, body_of}
 use Rattle.ballots.specs.declared.value.Value.{Value}
 use Rattle.acceptor.specs.Drafts.{IsDue as MayBeWritten}
 use Rattle.ballots.specs.declared.ballot.Ballot.{Ballot}
@@ -126,11 +126,13 @@ prepare_send b a = send_to (target.One a.member) (message.Prepare b a.from)
 abbrev pub accept_send : Ballot → Pair → Send
 accept_send b e = send_to target.All (message.Accept e.position (record { ballot = b; value = e.value }))
 
--- a message of at most 8 entries, and no answer
+-- a message of at most 8 entries, and none that says what is applied
 abbrev pub IsShort : Body → Type 0
 IsShort (Promises w) = length w.entries ≤ 8
 IsShort (Chosen pairs) = length pairs ≤ 8
+IsShort (Replies client number reply) = ⊥
 IsShort (Answers client number applied answer) = ⊥
+IsShort (Behind client number applied) = ⊥
 IsShort body = Unit {0}
 
 -- each message is
