@@ -1,8 +1,15 @@
--- How long an answer may be (our own choice).
-use Rattle.std.specs.Prelude.{◌≤◌, length}
+-- How long an answer may be (our own choice), and where a reply's request was applied.
+use Rattle.std.specs.Prelude.{ℕ, ◌≤◌, length}
 use Rattle.ballots.specs.Replies.{Answered, text, fault}
+use Rattle.ballots.specs.declared.reply.Reply.{Reply}
+use Rattle.ballots.specs.declared.reply.Reply.TheVariants.{Done, Fault}
 
 -- its text has at most 32,768 bytes
 abbrev pub IsWithin : Answered → Type 0
 IsWithin (text t) = length t ≤ 32768
 IsWithin (fault code) = Unit {0}
+
+-- the position at which its request was applied
+abbrev pub applied_at : Reply → ℕ
+applied_at (Done position) = position
+applied_at (Fault code position) = position

@@ -1,7 +1,7 @@
 //! A state to which values are applied.
 
-ghost use Rattle.std.specs.Prelude.{◌≡◌, ◌<◌, ℕ, List, [], ◌∷◌, ◌++◌, length, IfOk, OnErr, OnOk};
-ghost use Rattle.applications.specs.Limits.{IsWithin};
+ghost use Rattle.std.specs.Prelude.{◌≡◌, ◌<◌, ◌≤◌, ℕ, List, [], ◌∷◌, ◌++◌, length, IfOk, IfSome, OnErr, OnOk};
+ghost use Rattle.applications.specs.Limits.{IsWithin, applied_at};
 ghost use Rattle.ballots.specs.Replies.{answered};
 ghost use Rattle.ballots.specs.Values.{positions};
 ghost use Rattle.ballots.specs.declared.value.Value.{Value as ValueTerm};
@@ -52,4 +52,10 @@ pub trait Application {
         requires room { count self.old < positions }
         ensures applied { OnOk result ((names : List (List ℕ)) (values : List ValueTerm) → has_applied names values self.old → has_applied names (values ++ value.now ∷ []) self.new) }
         ensures refused { OnErr result (self.new ≡ self.old) };
+
+    /// A kept reply is of a request that was applied: its position is that of one of the values.
+    ghost ranges: { (names : List (List ℕ)) (values : List ValueTerm) (client number : ℕ) → IfSome ((meaning names).reply values client number) (λ reply. (1 ≤ applied_at reply) × (applied_at reply ≤ length values)) };
+
+    /// How many it has applied is how many there are.
+    ghost counts: { (names : List (List ℕ)) (values : List ValueTerm) (state : Self) → has_applied names values state → count state ≡ length values };
 }

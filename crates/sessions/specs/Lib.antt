@@ -3,3 +3,4 @@ pub mod Meaning
 pub mod Session
 pub mod Inside
 pub mod Applying
+pub mod Positions

@@ -8,6 +8,7 @@ use std::alloc::{AllocError, Global};
 
 impl Application for State {
     ghost use Rattle.sessions.specs.Applying.{application_of};
+    ghost use Rattle.sessions.specs.Positions.{kept_reply-between};
     ghost use Rattle.sessions.specs.Session.{Means};
 
     ghost meaning = { application_of };
@@ -15,6 +16,10 @@ impl Application for State {
     ghost has_applied = { Means };
 
     ghost count = { λ s. s.applied };
+
+    ghost ranges = { λ names values client number. kept_reply-between names values (record { client = client; number = number }) };
+
+    ghost counts = { λ _ _ _ means. means.applied };
 
     fn new(alloc: Global, names: &Names) -> Result<State, AllocError> {
         match State::new(alloc, names) {
