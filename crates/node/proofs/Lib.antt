@@ -1,4 +1,5 @@
 pub mod Going
 pub mod Spelt
+pub mod SpeltBack
 pub mod Planning
 pub mod Stepping

@@ -2,20 +2,26 @@
 use Rattle.std.proofs.Common.{◌≡◌, ℕ, zero, suc, ◌≤◌, ◌&&◌, Bool, true, false, cond, arith, refl, sym, ap, ap₂, subst, ◌∙◌, List, [], ◌∷◌, ◌++◌, map, Option, Some}
 use Rattle.std.specs.Prelude.{nat_le, option_map, option_to_list}
 use Rattle.std.proofs.lemmas.Bool.{le-leb}
+use Rattle.ballots.specs.Ballot.{most_members}
+use Rattle.ballots.specs.Messages.{Packet}
 use Rattle.ballots.specs.declared.value.Value.{Value}
 use Rattle.member.proofs.Keeping.{grows, heard_by, keeps}
-use Rattle.member.specs.Steps.{Input, Hears, Begins, Resends, CatchesUp, Member, Took as TookOf, all_packets, effect_of}
+use Rattle.member.specs.Steps.{Input, Hears, Begins, Resends, CatchesUp, MayCome, Member, Took as TookOf, all_packets, effect_of}
 use Rattle.member.specs.Drafts.{Plans}
 use Rattle.member.specs.declared.draft.Draft.{Draft as MemberDraft}
 use Rattle.member.specs.declared.outcome.Outcome.{Outcome}
 use Rattle.paxos.proofs.News.{learnt_stays, prefix_learnt}
 use Rattle.paxos.specs.Application.{Application}
 use Rattle.paxos.specs.Knowledge.{Heard, news, news_of, prefix, values_to}
-use Rattle.paxos.specs.Records.{Record, written}
+use Rattle.paxos.specs.Lists.{Has}
+use Rattle.paxos.specs.Records.{Record, Write, written}
+use Rattle.paxos.specs.WellFormed.{IsMessage, IsState}
 use Rattle.paxos.specs.Step.{Effect, Running, is_called_for, values_of}
 use Rattle.paxos.specs.World.{applies, applies_to}
+use Rattle.acceptor.specs.Steps.{Stopped}
 use Rattle.node.specs.Applying.{HasGone, IsAt}
-use Rattle.node.specs.Nodes.{HasStayed, Node, RunsAs, Steps, Took, posted, spelt, step_of}
+use Rattle.node.proofs.SpeltBack.{step_is}
+use Rattle.node.specs.Nodes.{HasFailed, HasStayed, Node, ReadsBack, RunsAs, Steps, Took, posted, spelt, step_of}
 use Rattle.node.specs.declared.outbox.Outbox.{Outbox}
 
 -- two values that are one option
@@ -56,9 +62,11 @@ applied_then a j most h k = rw (le-leb a j h, le-leb j most k) refl
 pub stepped : {R A : Type 0} (has_applied : List (List ℕ) → List Value → A → Type 0) (app : Application) (i : Input) (u : Running) (old new : Node R A) (outcome : Outcome) (o : Outbox)
     → old.member.members ≡ old.setup.members → old.member.number ≡ old.setup.member → new.setup ≡ old.setup → RunsAs has_applied u old
     → TookOf (effect_of app old.setup.members old.setup.member old.member.acceptor.kept u i) old.member new.member outcome → HasGone has_applied new.member old.application new.application o.is_short
-    → posted old.setup.members old.setup.member o.sent.items ≡ map (spelt old.setup.group) (all_packets old.setup.members old.setup.member outcome.sends.items) → o.tells.items ≡ outcome.tells.items
+    → posted old.setup.members old.setup.member o.sent.items ≡ map (spelt old.setup.group) (all_packets old.setup.members old.setup.member outcome.sends.items)
+    → ((k : Packet) → Has (all_packets old.setup.members old.setup.member outcome.sends.items) k → IsMessage old.setup.members k → ReadsBack old.setup.group k) → o.tells.items ≡ outcome.tells.items
+    → 1 ≤ old.setup.member → old.setup.member ≤ old.setup.members → old.setup.members ≤ most_members → MayCome old.setup.members i
     → (j : ℕ) × Took has_applied (step_of app old u i j) old new o
-stepped has_applied app i u old new outcome o members number setup r took gone sends tells =
+stepped has_applied app i u old new outcome o members number setup r took gone sends reads tells least most few comes =
     let n = old.setup.members in
     let m = old.setup.member in
     let e = effect_of app n m old.member.acceptor.kept u i in
@@ -84,6 +92,8 @@ stepped has_applied app i u old new outcome o members number setup r took gone s
           applied = subst (λ s. has_applied s.names (values_of s.members (applies_to n j v)) new.application) (sym setup) (subst (λ k. has_applied old.setup.names (values_to n (news v.heard) k) new.application) (sym is) there.1);
         };
         sends = ap (map (spelt old.setup.group)) (took.sends ∙ same_packets) ∙ sym sends;
+        reads = λ k h. reads k (subst (λ xs. Has xs k) (took.sends ∙ same_packets) h)
+            ((step_is app n m i old.member.acceptor.kept u least most few comes (subst (λ j. IsState n j old.member.acceptor.kept u) number (subst (λ j. IsState j old.member.number old.member.acceptor.kept u) members r.this.state))).sends k h);
         tells = took.tells ∙ sym tells;
         whole = λ short. is ∙ went.3 short ∙ ap (λ k. prefix k (news v.heard)) many;
       },
@@ -114,6 +124,7 @@ took_since has_applied app i u j old mid new o stayed t = record {
   runs = sym (ap (λ (e : Effect). e.running) same) ∙ t.runs;
   runs_as = t.runs_as;
   sends = ap₂ (λ s (e : Effect). map (spelt s.group) e.sends) (sym stayed.setup) (sym same) ∙ t.sends ∙ ap (λ s. posted s.members s.member o.sent.items) stayed.setup;
+  reads = λ k h. subst (λ s. ReadsBack s.group k) stayed.setup (t.reads k (subst (λ (e : Effect). Has e.sends k) (sym same) h));
   tells = sym (ap (λ (e : Effect). e.tells) same) ∙ t.tells;
   whole = λ short. t.whole short ∙ ap (λ s. prefix s.members (news t.running.heard)) stayed.setup;
 }
@@ -126,3 +137,15 @@ pub since : {R A : Type 0} (has_applied : List (List ℕ) → List Value → A �
 since has_applied meaning i old mid new o stayed h = subst (λ s. Steps has_applied (meaning s.names) i old new o) stayed.setup (λ u r.
     let s = h u (stayed.runs_as u r) in
     (s.0, took_since has_applied (meaning mid.setup.names) i u s.0 old mid new o stayed s.1))
+
+-- So is a failure of its store.
+pub failed_since : {R A : Type 0} (stands : R → Record → Record → Type 0) (is_kept : R → Type 0) (failed : R → ℕ) (has_applied : List (List ℕ) → List Value → A → Type 0) (meaning : List (List ℕ) → Application) (i : Input)
+    (old mid new : Node R A) (write : Write) → HasStayed has_applied old mid
+    → Stopped stands is_kept failed mid.member.acceptor new.member.acceptor write
+    → ((u : Running) → RunsAs has_applied u mid → (effect_of (meaning mid.setup.names) mid.setup.members mid.setup.member mid.member.acceptor.kept u i).write ≡ write)
+    → HasFailed stands is_kept failed has_applied (meaning old.setup.names) i old new
+failed_since stands is_kept failed has_applied meaning i old mid new write stayed stopped plans = (
+  write,
+  subst (λ a. Stopped stands is_kept failed a new.member.acceptor write) stayed.acceptor stopped,
+  λ u r. sym (ap₂ (λ s a. (effect_of (meaning s.names) s.members s.member a.kept u i).write) (sym stayed.setup) (sym stayed.acceptor) ∙ plans u (stayed.runs_as u r)),
+)

@@ -1,6 +1,6 @@
 //! A node.
 
-ghost use Rattle.std.specs.Prelude.{◌≡◌, ◌≤◌, ◌⊎◌, ◌↔◌, ℕ, false, true, map, IfOk, IfErr, OnErr, OnOk, IsErrOf, None, Ok};
+ghost use Rattle.std.specs.Prelude.{◌≡◌, ◌≤◌, ◌⊎◌, ◌↔◌, ℕ, [], false, true, map, IfOk, IfErr, OnErr, OnOk, IsErrOf, None, Ok};
 ghost use Rattle.std.specs.Option.{option_copied};
 ghost use Rattle.acceptor.specs.Drafts.{IsRefused};
 ghost use Rattle.acceptor.specs.Steps.{IsAsWas, Stopped};
@@ -8,12 +8,13 @@ ghost use Rattle.ballots.specs.Ballot.{most_members};
 ghost use Rattle.ballots.specs.Messages.{Packet as Posted, Ask as Asks, body_of, packet as packet_of};
 ghost use Rattle.member.specs.Drafts.{IsReady, write_in};
 ghost use Rattle.member.specs.Steps.{Input as InputTerm, Hears, IsNew, IsNoQuestion, all_packets, ticked};
-ghost use Rattle.messages.specs.Reading.{Fails, datagram_read};
-ghost use Rattle.messages.specs.Spelling.{Datagram, IsDatagram, spelling};
+ghost use Rattle.messages.specs.Reading.{Fails, Gives, datagram_read};
+ghost use Rattle.messages.specs.Spelling.{AreInRange, Datagram, Fits, IsDatagram, spelling};
 ghost use Rattle.messages.specs.declared.fault.WireFault.{WireFault as WireFaultTerm};
-ghost use Rattle.node.specs.Nodes.{AreFit, HasFailed, HasStayed, IsDrafted, IsForClients, IsFrom, IsPlanned, IsStrange, IsUnchanged, Reads, RunsAs, Steps, posted, records_fault, spelt};
+ghost use Rattle.node.specs.Nodes.{AreAll, HasFailed, HasStayed, IsDrafted, IsForClients, IsFrom, IsPlanned, IsSpent, IsStrange, IsUnchanged, Reads, ReadsBack, RunsAs, Steps, of_records, posted, records_fault, spelt};
 ghost use Rattle.paxos.specs.Knowledge.{learnt as learnt_at, news, prefix};
-ghost use Rattle.paxos.specs.Records.{Record as RecordTerm};
+ghost use Rattle.paxos.specs.Lists.{Has};
+ghost use Rattle.paxos.specs.Records.{Record as RecordTerm, writes, written};
 ghost use Rattle.paxos.specs.Step.{Running, may_begin, values_of};
 ghost use Rattle.paxos.specs.WellFormed.{IsMessage, IsRecord, IsSender};
 ghost use Rattle.paxos.specs.World.{started};
@@ -94,6 +95,8 @@ impl<R: Records + Drop, A: Application + Drop> Node<R, A> {
         ensures loaded { IfOk result (λ x. R.is_kept x.member.acceptor.records → (a b : RecordTerm) → R.stands records a b → (x.member.acceptor.kept ≡ a) ⊎ (x.member.acceptor.kept ≡ b)) }
         ensures stands { IfOk result (λ x. R.is_kept x.member.acceptor.records → R.stands x.member.acceptor.records x.member.acceptor.kept x.member.acceptor.kept) }
         ensures kept { IfOk result (λ x. R.is_kept x.member.acceptor.records → R.is_kept records) }
+        ensures counts { IfOk result (λ x. R.failed x.member.acceptor.records ≡ R.failed records) }
+        ensures fates { IfOk result (λ x. (k : ℕ) → R.fates x.member.acceptor.records k ≡ R.fates records k) }
         ensures refused { IfErr result (λ e. (e.1 ≡ setup) × IsRefused R.stands R.is_kept R.failed R.fates records e.2 (records_fault e.0)) }
     {
         let Ok(application) = A::new(alloc, setup.names()) else {
@@ -125,10 +128,10 @@ impl<R: Records + Drop, A: Application + Drop> Node<R, A> {
         ensures drafted { IfOk result (λ d. (k : Posted) × IsFrom self.new.setup bytes.now k × IsDrafted A.has_applied (A.meaning self.new.setup.names) (Hears k) self.new d) }
         ensures same { HasStayed A.has_applied self.old self.new }
         ensures wire { (f : WireFaultTerm) → IsErrOf result (NodeFault.Wire f) → datagram_read bytes.now ≡ Fails f }
-        ensures stranger { IsErrOf result NodeFault.Stranger → (d : Datagram) × (bytes.now ≡ spelling d) × IsStrange self.old.setup d }
+        ensures stranger { IsErrOf result NodeFault.Stranger → (d : Datagram) × (bytes.now ≡ spelling d) × (datagram_read bytes.now ≡ Gives d []) × IsStrange self.old.setup d }
         ensures stopped { IsErrOf result NodeFault.Stopped ↔ (self.old.member.acceptor.is_stopped ≡ true) }
         ensures store { IsErrOf result NodeFault.Store → ⊥ }
-        ensures spent { (u : Running) → RunsAs A.has_applied u self.old → IsErrOf result NodeFault.Spent → ⊥ }
+        ensures spent { (u : Running) → RunsAs A.has_applied u self.new → IsErrOf result NodeFault.Spent → ⊥ }
     {
         if self.member.has_stopped() {
             return Err(NodeFault::Stopped);
@@ -153,7 +156,7 @@ impl<R: Records + Drop, A: Application + Drop> Node<R, A> {
         ensures stranger { IsErrOf result NodeFault.Stranger → IsStrange self.old.setup (record { group = packet.now.group; sender = packet.now.sender; body = body_of packet.now.message }) }
         ensures stopped { IsErrOf result NodeFault.Stopped → ⊥ }
         ensures store { IsErrOf result NodeFault.Store → ⊥ }
-        ensures spent { (u : Running) → RunsAs A.has_applied u self.old → IsErrOf result NodeFault.Spent → ⊥ }
+        ensures spent { (u : Running) → RunsAs A.has_applied u self.new → IsErrOf result NodeFault.Spent → ⊥ }
     {
         if packet.group != self.setup.group() {
             return Err(NodeFault::Stranger);
@@ -164,9 +167,10 @@ impl<R: Records + Drop, A: Application + Drop> Node<R, A> {
 
     /// A member's draft, with what it sends as bytes.
     fn spell(&self, alloc: Global, draft: MemberDraft) -> Result<Draft, NodeFault>
-        requires fits { AreFit draft.sends.items }
+        requires fits { AreAll Fits draft.sends.items }
         ensures member { IfOk result (λ d. d.member ≡ draft) }
         ensures sends { IfOk result (λ d. posted self.now.setup.members self.now.setup.member d.sent.items ≡ map (spelt self.now.setup.group) (all_packets self.now.setup.members self.now.setup.member draft.sends.items)) }
+        ensures reads { OnOk result (AreAll AreInRange draft.sends.items → (k : Posted) → Has (all_packets self.now.setup.members self.now.setup.member draft.sends.items) k → IsMessage self.now.setup.members k → ReadsBack self.now.setup.group k) }
         ensures fault { IfErr result (λ fault. fault ≡ NodeFault.Memory) }
     {
         let group = self.setup.group();
@@ -189,7 +193,7 @@ impl<R: Records + Drop, A: Application + Drop> Node<R, A> {
         ensures for_members { IfOk result (λ d. IsForClients (body_of message.now) → ⊥) }
         ensures stranger { IsErrOf result NodeFault.Stranger → IsForClients (body_of message.now) ⊎ (IsMessage self.old.setup.members (packet_of sender (body_of message.now) self.old.setup.member) → ⊥) }
         ensures faults { IfErr result (λ fault. (fault ≡ NodeFault.Stranger) ⊎ (fault ≡ NodeFault.Memory) ⊎ (fault ≡ NodeFault.Spent)) }
-        ensures spent { (u : Running) → RunsAs A.has_applied u self.old → IsErrOf result NodeFault.Spent → ⊥ }
+        ensures spent { (u : Running) → RunsAs A.has_applied u self.new → IsErrOf result NodeFault.Spent → ⊥ }
     {
         match message {
             Message::Submit(request) => {
@@ -230,7 +234,7 @@ impl<R: Records + Drop, A: Application + Drop> Node<R, A> {
         ensures same { HasStayed A.has_applied self.old self.new }
         ensures stranger { IsErrOf result NodeFault.Stranger → IsMessage self.old.setup.members (packet_of sender (body_of message.now) self.old.setup.member) → ⊥ }
         ensures faults { IfErr result (λ fault. (fault ≡ NodeFault.Stranger) ⊎ (fault ≡ NodeFault.Memory) ⊎ (fault ≡ NodeFault.Spent)) }
-        ensures spent { (u : Running) → RunsAs A.has_applied u self.old → IsErrOf result NodeFault.Spent → ⊥ }
+        ensures spent { (u : Running) → RunsAs A.has_applied u self.new → IsErrOf result NodeFault.Spent → ⊥ }
     {
         if !self.member.hears(sender, message) {
             return Err(NodeFault::Stranger);
@@ -267,6 +271,10 @@ impl<R: Records + Drop, A: Application + Drop> Node<R, A> {
             × ((u : Running) → RunsAs A.has_applied u self.old → RunsAs A.has_applied u self.new) }
         ensures store { IsErrOf result NodeFault.Store → Stopped R.stands R.is_kept R.failed self.old.member.acceptor self.new.member.acceptor (write_in draft.member.change) }
         ensures faults { IfErr result (λ fault. (fault ≡ NodeFault.Memory) ⊎ (fault ≡ NodeFault.Store)) }
+        ensures runs { OnOk result (self.old.member.acceptor.is_stopped ≡ false → self.new.member.acceptor.is_stopped ≡ false) }
+        ensures writes { IsErrOf result NodeFault.Store → self.old.member.acceptor.is_stopped ≡ false → writes (write_in draft.member.change) ≡ true }
+        ensures went { self.old.member.acceptor.is_stopped ≡ false → R.is_kept self.new.member.acceptor.records → Went (R.stands self.new.member.acceptor.records) (R.fates self.old.member.acceptor.records) (R.fates self.new.member.acceptor.records) false self.old.member.acceptor.kept (write_in draft.member.change) (of_records result) }
+        ensures kept { R.is_kept self.new.member.acceptor.records → R.is_kept self.old.member.acceptor.records }
         ensures setup { self.new.setup ≡ self.old.setup }
     {
         let Draft { member, sent } = draft;
@@ -284,6 +292,30 @@ impl<R: Records + Drop, A: Application + Drop> Node<R, A> {
         }
     }
 
+    /// Makes just the write of what was drafted for this very node, which has not changed since: what a stop inside the write leaves, where the
+    /// write is kept. The node may only be stopped then.
+    ///
+    /// Faults: memory was refused, and nothing that shows has changed; the store failed, and the node has stopped.
+    pub fn cut(&mut self, alloc: Global, draft: Draft) -> Result<(), NodeFault>
+        requires ready { IsReady self.old.member draft.member }
+        ensures wrote { OnOk result (self.old.member.acceptor.is_stopped ≡ false
+            → (self.new.member.acceptor.kept ≡ written (write_in draft.member.change) self.old.member.acceptor.kept) × (self.new.member.acceptor.is_stopped ≡ false)) }
+        ensures memory { IsErrOf result NodeFault.Memory → IsAsWas R.failed self.old.member.acceptor self.new.member.acceptor
+            × ((u : Running) → RunsAs A.has_applied u self.old → RunsAs A.has_applied u self.new) }
+        ensures store { IsErrOf result NodeFault.Store → Stopped R.stands R.is_kept R.failed self.old.member.acceptor self.new.member.acceptor (write_in draft.member.change) }
+        ensures faults { IfErr result (λ fault. (fault ≡ NodeFault.Memory) ⊎ (fault ≡ NodeFault.Store)) }
+        ensures writes { IsErrOf result NodeFault.Store → self.old.member.acceptor.is_stopped ≡ false → writes (write_in draft.member.change) ≡ true }
+        ensures went { self.old.member.acceptor.is_stopped ≡ false → R.is_kept self.new.member.acceptor.records → Went (R.stands self.new.member.acceptor.records) (R.fates self.old.member.acceptor.records) (R.fates self.new.member.acceptor.records) true self.old.member.acceptor.kept (write_in draft.member.change) (of_records result) }
+        ensures kept { R.is_kept self.new.member.acceptor.records → R.is_kept self.old.member.acceptor.records }
+        ensures setup { self.new.setup ≡ self.old.setup }
+    {
+        match self.member.cut(alloc, draft.member) {
+            Ok(()) => Ok(()),
+            Err(RecordsFault::Memory) => Err(NodeFault::Memory),
+            Err(RecordsFault::Store) => Err(NodeFault::Store),
+        }
+    }
+
     /// Takes the step of received bytes: what it writes is acknowledged before anything that rests on it is given, and what is learnt is applied
     /// while memory is found.
     ///
@@ -293,9 +325,9 @@ impl<R: Records + Drop, A: Application + Drop> Node<R, A> {
     pub fn receive(&mut self, alloc: Global, bytes: &[u8]) -> Result<Outbox, NodeFault>
         ensures took { IfOk result (λ o. (k : Posted) × IsFrom self.old.setup bytes.now k × Steps A.has_applied (A.meaning self.old.setup.names) (Hears k) self.old self.new o) }
         ensures wire { (f : WireFaultTerm) → IsErrOf result (NodeFault.Wire f) → datagram_read bytes.now ≡ Fails f }
-        ensures stranger { IsErrOf result NodeFault.Stranger → (d : Datagram) × (bytes.now ≡ spelling d) × IsStrange self.old.setup d }
+        ensures stranger { IsErrOf result NodeFault.Stranger → (d : Datagram) × (bytes.now ≡ spelling d) × (datagram_read bytes.now ≡ Gives d []) × IsStrange self.old.setup d }
         ensures stopped { IsErrOf result NodeFault.Stopped ↔ (self.old.member.acceptor.is_stopped ≡ true) }
-        ensures store { IsErrOf result NodeFault.Store → HasFailed R.stands R.is_kept R.failed self.old self.new }
+        ensures store { IsErrOf result NodeFault.Store → (k : Posted) × IsFrom self.old.setup bytes.now k × HasFailed R.stands R.is_kept R.failed A.has_applied (A.meaning self.old.setup.names) (Hears k) self.old self.new }
         ensures spent { (u : Running) → RunsAs A.has_applied u self.old → IsErrOf result NodeFault.Spent → ⊥ }
         ensures refused { IfErr result (λ fault. (fault ≡ NodeFault.Store → ⊥) → IsUnchanged A.has_applied R.failed self.old self.new) }
         ensures setup { self.new.setup ≡ self.old.setup }
@@ -309,11 +341,13 @@ impl<R: Records + Drop, A: Application + Drop> Node<R, A> {
     /// Faults: the node has stopped; memory was refused; positions or rounds are spent, so that no ballot begins.
     pub fn draft_tick(&mut self, alloc: Global, tick: Tick) -> Result<Draft, NodeFault>
         ensures drafted { IfOk result (λ d. IsDrafted A.has_applied (A.meaning self.new.setup.names) (ticked tick) self.new d) }
+        ensures begins { OnOk result ((u : Running) → RunsAs A.has_applied u self.new → IsSpent self.new u (ticked tick) → ⊥) }
         ensures same { HasStayed A.has_applied self.old self.new }
         ensures stopped { IsErrOf result NodeFault.Stopped ↔ (self.old.member.acceptor.is_stopped ≡ true) }
         ensures faults { IfErr result (λ fault. (fault ≡ NodeFault.Stopped) ⊎ (fault ≡ NodeFault.Memory) ⊎ (fault ≡ NodeFault.Spent)) }
         ensures spent { (u : Running) → RunsAs A.has_applied u self.old → IsErrOf result NodeFault.Spent
             → (tick ≡ Tick.Begin) × (may_begin self.old.setup.members self.old.member.acceptor.kept u ≡ false) }
+        ensures still_spent { (u : Running) → RunsAs A.has_applied u self.new → IsErrOf result NodeFault.Spent → IsSpent self.new u (ticked tick) }
     {
         if self.member.has_stopped() {
             return Err(NodeFault::Stopped);
@@ -326,10 +360,12 @@ impl<R: Records + Drop, A: Application + Drop> Node<R, A> {
     fn plan_tick(&mut self, alloc: Global, tick: Tick) -> Result<MemberDraft, NodeFault>
         requires runs { self.old.member.acceptor.is_stopped ≡ false }
         ensures planned { IfOk result (λ d. IsPlanned A.has_applied (A.meaning self.new.setup.names) (ticked tick) self.new d) }
+        ensures begins { OnOk result ((u : Running) → RunsAs A.has_applied u self.new → IsSpent self.new u (ticked tick) → ⊥) }
         ensures same { HasStayed A.has_applied self.old self.new }
         ensures faults { IfErr result (λ fault. (fault ≡ NodeFault.Memory) ⊎ (fault ≡ NodeFault.Spent)) }
         ensures spent { (u : Running) → RunsAs A.has_applied u self.old → IsErrOf result NodeFault.Spent
             → (tick ≡ Tick.Begin) × (may_begin self.old.setup.members self.old.member.acceptor.kept u ≡ false) }
+        ensures still_spent { (u : Running) → RunsAs A.has_applied u self.new → IsErrOf result NodeFault.Spent → IsSpent self.new u (ticked tick) }
     {
         Ok(self.member.draft(alloc, &Input::Tick(tick))?)
     }
@@ -341,7 +377,7 @@ impl<R: Records + Drop, A: Application + Drop> Node<R, A> {
     pub fn tick(&mut self, alloc: Global, tick: Tick) -> Result<Outbox, NodeFault>
         ensures took { IfOk result (λ o. Steps A.has_applied (A.meaning self.old.setup.names) (ticked tick) self.old self.new o) }
         ensures stopped { IsErrOf result NodeFault.Stopped ↔ (self.old.member.acceptor.is_stopped ≡ true) }
-        ensures store { IsErrOf result NodeFault.Store → HasFailed R.stands R.is_kept R.failed self.old self.new }
+        ensures store { IsErrOf result NodeFault.Store → HasFailed R.stands R.is_kept R.failed A.has_applied (A.meaning self.old.setup.names) (ticked tick) self.old self.new }
         ensures spent { (u : Running) → RunsAs A.has_applied u self.old → IsErrOf result NodeFault.Spent
             → (tick ≡ Tick.Begin) × (may_begin self.old.setup.members self.old.member.acceptor.kept u ≡ false) }
         ensures refused { IfErr result (λ fault. (fault ≡ NodeFault.Store → ⊥) → IsUnchanged A.has_applied R.failed self.old self.new) }
@@ -349,6 +385,13 @@ impl<R: Records + Drop, A: Application + Drop> Node<R, A> {
     {
         let draft = self.draft_tick(alloc, tick)?;
         self.commit(alloc, draft)
+    }
+
+    /// How many positions it has applied, from 1 on.
+    pub fn applied(&self) -> u32
+        ensures { (u : Running) → RunsAs A.has_applied u self.now → result ≡ u.applied }
+    {
+        self.application.applied()
     }
 
     /// How many positions it has learnt from 1 on without a gap.
@@ -404,5 +447,14 @@ impl<R: Records + Drop, A: Application + Drop> Node<R, A> {
         ensures stands { self.member.acceptor.is_stopped ≡ false → R.is_kept result → R.stands result self.member.acceptor.kept self.member.acceptor.kept }
     {
         self.member.into_records()
+    }
+
+    /// What it was told when it was set up, and the records, as they were left: all that opens it again.
+    pub fn into_parts(self) -> (Setup, R)
+        ensures setup { result.0 ≡ self.setup }
+        ensures records { result.1 ≡ self.member.acceptor.records }
+        ensures stands { self.member.acceptor.is_stopped ≡ false → R.is_kept result.1 → R.stands result.1 self.member.acceptor.kept self.member.acceptor.kept }
+    {
+        (self.setup, self.member.into_records())
     }
 }

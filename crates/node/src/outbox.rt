@@ -37,6 +37,14 @@ impl Outbox {
         &self.tells
     }
 
+    /// What is sent, and the values that are newly learnt.
+    pub fn into_parts(self) -> (Vec<Sent>, Vec<Pair>)
+        ensures sent { result.0 ≡ self.sent }
+        ensures tells { result.1 ≡ self.tells }
+    {
+        (self.sent, self.tells)
+    }
+
     /// Whether not all is applied that is learnt without a gap, since memory was refused. The next call goes on.
     pub fn short(&self) -> bool
         ensures { result ≡ self.now.is_short }

@@ -1,5 +1,6 @@
 use Rattle.std.proofs.Common.{◌∙◌, ℕ, ap, map, refl, subst, sym}
 use Rattle.member.specs.Steps.{Input, MayCome, all_packets}
+use Rattle.paxos.specs.Lists.{Has}
 use Rattle.paxos.specs.Step.{Running}
 use Rattle.node.specs.Nodes.{IsDrafted, Node, RunsAs, Took, spelt, step_of}
 use Rattle.node.specs.declared.outbox.Outbox.{Outbox}
@@ -22,4 +23,5 @@ returns-in-Ok-clause-took g c =
     (member_took {R = g.row.R.Denot} {A = g.row.A.Denot} app i u old c.commit.new.self c.in-Ok.outcome c.self.invariant.0 c.self.invariant.1 took)
     c.apply_learnt-is_short.ensures.gone
     (drafted.sends ∙ ap (λ xs. map (spelt s.setup.group) (all_packets s.setup.members s.setup.member xs)) (sym c.in-Ok.ensures.says.0))
-    refl)
+    (λ k h. drafted.reads u r k (subst (λ xs. Has (all_packets s.setup.members s.setup.member xs) k) c.in-Ok.ensures.says.0 h))
+    refl c.self.invariant.2.0 c.self.invariant.2.1 c.self.invariant.2.2 drafted.comes)

@@ -1,5 +1,6 @@
-use Rattle.std.proofs.Common.{◌≡◌, ◌∙◌, ap, refl}
+use Rattle.std.proofs.Common.{◌∙◌, ap, refl, []}
 use Rattle.ballots.specs.Messages.{body_of, packet}
+use Rattle.messages.specs.Reading.{Gives}
 use Rattle.messages.specs.Spelling.{spelling}
 use Rattle.node.proofs.Spelt.{if_both}
 use Rattle.node.proofs.node.Node.draft.Goals as goal
@@ -11,6 +12,7 @@ returns-in-Ok-clause-drafted g c =
     if_both c.draft_packet.result _ _ _ (λ d drafted members. (
       packet p.sender (body_of p.message) m,
       record {
+        reads_so = c.in-Ok.ensures.packet ∙ ap (λ n. Gives (record { group = n; sender = p.sender; body = body_of p.message }) []) drafted.0;
         spelt_so = c.in-Ok.ensures.spelt ∙ ap (λ n. spelling (record { group = n; sender = p.sender; body = body_of p.message })) drafted.0;
         target = refl;
         may_be_sent = drafted.1;
@@ -22,4 +24,4 @@ returns-in-Ok-clause-drafted g c =
 pub returns-in-Ok-clause-stranger : goal.returns-in-Ok-clause-stranger
 returns-in-Ok-clause-stranger g c = λ e.
     let p = c.in-Ok.packet in
-    (record { group = p.group; sender = p.sender; body = body_of p.message }, c.in-Ok.ensures.spelt, c.draft_packet.ensures.stranger e)
+    (record { group = p.group; sender = p.sender; body = body_of p.message }, c.in-Ok.ensures.spelt, c.in-Ok.ensures.packet, c.draft_packet.ensures.stranger e)
