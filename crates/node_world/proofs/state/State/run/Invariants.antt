@@ -1,0 +1,10 @@
+use Rattle.std.proofs.Common.{map, take}
+use Rattle.node_world.specs.Held.{IsHeld, shown}
+use Rattle.node_world.specs.Reached.{event_of}
+use Rattle.node_world.specs.Runs.{LeadsTo}
+use Rattle.node_world.proofs.state.State.run.Given as goal
+
+-- the events before have happened
+abbrev pub invariant-loop-before : goal.invariant-loop-before
+invariant-loop-before g l = IsHeld {R = g.row.R.Denot} {A = g.row.A.Denot} l.self
+    × LeadsTo {R = g.row.R.Denot} {A = g.row.A.Denot} g.R.Records.stands g.R.Records.is_kept g.A.Application.has_applied (g.A.Application.meaning l.fn.self.names) (shown l.fn.self) (shown l.self) (take l.before (map event_of l.events))

@@ -1,0 +1,179 @@
+//! All members of a group in one program.
+
+ghost use Rattle.std.specs.Prelude.{◌≡◌, ◌↔◌, ◌+◌, ◌*◌, ◌≤◌, ℕ, List, [], Some, false, IfErr, IfOk, IsErrOf, OnErr, OnOk, length, map, true};
+ghost use Rattle.std.specs.List.{list_all};
+ghost use Rattle.std.specs.Option.{option_copied};
+ghost use Rattle.node.specs.Nodes.{Node as NodeTerm};
+ghost use Rattle.node_world.specs.Alike.{AreAlike};
+ghost use Rattle.paxos.specs.Application.{Application as Meaning};
+ghost use Rattle.paxos.specs.Lists.{Has};
+ghost use Rattle.paxos.specs.World.{Event as Happens};
+ghost use Rattle.node_world.specs.Placed.{AreOf, OneRefused};
+ghost use Rattle.node_world.specs.Reached.{HasHappened, IsUnmoved, Reached, ReachedSmoothly, event_of};
+ghost use Rattle.node_world.specs.Runs.{Agrees, AreUpToDate, HasDone, IsStraight, IsUnwritten, LeadsSmoothly, LeadsTo, OneIsBehind, is_for, node_at, straight_run};
+ghost use Rattle.node_world.specs.Shown.{AreKept};
+ghost use Rattle.node_world.specs.Tellings.{told_in};
+
+use crate::event::{Event, are_for};
+use crate::fault::WorldFault;
+use crate::state::State;
+use crate::told::Told;
+use applications::Application;
+use ballots::{Members, Request};
+use document_names::Names;
+use node::Node;
+use records::{Records, RecordsFault};
+use std::alloc::{AllocError, Global};
+use std::marker::Model;
+
+/// All members of a group, every message that was ever sent, and all that members were told to be chosen ("Paxos Made Simple",
+/// section 2.1: messages can take arbitrarily long, can be duplicated, and can be lost; members may stop and restart).
+///
+/// Messages are numbered from 1 in the order in which they were sent, one number for each target, and by target where a message goes
+/// to several. A request of a client is one too. Each can be delivered as often as the events say.
+#[derive(Drop)]
+pub struct World<R: Records + Drop, A: Application + Drop> {
+    state: State<R, A>,
+}
+
+impl<R: Records + Drop, A: Application + Drop> Model for World<R, A> {
+    ghost use Rattle.node_world.specs.Held.{IsHeld, shown};
+    ghost use Rattle.node_world.specs.Shown.{World as WorldTerm};
+
+    ghost Value = { WorldTerm R A };
+
+    ghost view = { λ x. shown x.state };
+
+    ghost invariant = { λ x. IsHeld x.state };
+}
+
+impl<R: Records + Drop, A: Application + Drop> World<R, A> {
+    /// Nodes that never did anything, over documents of these names, each of which starts from its store.
+    ///
+    /// There is one store a member, in order, and nobody has written it. It fails where memory is refused, or where a store fails.
+    pub fn new(
+        alloc: Global,
+        members: Members,
+        names: &Names,
+        stores: Vec<R>,
+    ) -> Result<World<R, A>, RecordsFault>
+        requires many { length stores.items ≡ members }
+        requires unwritten { (r : R) → Has stores.items r → IsUnwritten R.stands R.is_kept r }
+        ensures members { IfOk result (λ w. w.members ≡ members) }
+        ensures names { IfOk result (λ w. w.names ≡ names.now) }
+        ensures reached { IfOk result (λ w. AreKept R.is_kept w → Reached R.stands A.has_applied (A.meaning names.now) w []) }
+        ensures smoothly { IfOk result (λ w. AreKept R.is_kept w → ReachedSmoothly R.stands A.has_applied (A.meaning names.now) w []) }
+        ensures stores { IfOk result (λ w. AreOf R.fates w.seats stores.items) }
+        ensures refused { IsErrOf result RecordsFault.Store → OneRefused R.stands R.is_kept R.failed R.fates stores.items }
+    {
+        Ok(World {
+            state: State::begin(alloc, members, names, stores)?,
+        })
+    }
+
+    /// How many members there are.
+    pub fn members(&self) -> Members
+        ensures count { result ≡ self.now.members }
+        ensures seats { length self.now.seats ≡ self.now.members }
+    {
+        self.state.members
+    }
+
+    /// An event happens. The member that it names, if it names one, is one of the world's.
+    ///
+    /// Nothing happens by a delivery to a client, an unknown number, any event but a start and a request at a stopped member, the start
+    /// of a running one or where its store fails, and a ballot that cannot begin.
+    ///
+    /// Where the member writes, its store does what was known of it before, and fails only if its count of failures grows.
+    ///
+    /// It fails where memory is refused, and then nothing that shows has changed.
+    pub fn happen(&mut self, alloc: Global, event: &Event) -> Result<(), AllocError>
+        requires named { is_for self.old.members event.now ≡ true }
+        ensures happened { OnOk result (HasHappened R.stands R.is_kept R.failed R.fates A.has_applied (A.meaning self.old.names) (event_of event.now) self.old self.new) }
+        ensures refused { OnErr result (IsUnmoved R.stands R.is_kept A.has_applied self.old self.new) }
+    {
+        self.state.happen(alloc, event)
+    }
+
+    /// All events happen, in order, each as [`World::happen`] says. A store that fails stops its member, and a node to which memory is refused
+    /// applies later what it has learnt; the events go on.
+    ///
+    /// Faults: memory was refused, after that many events, and the next one has changed nothing; an event names no member that there is,
+    /// and none has happened. A store's failure is none of them.
+    pub fn run(&mut self, alloc: Global, events: &[Event]) -> Result<(), WorldFault>
+        ensures done { OnOk result (LeadsTo R.stands R.is_kept A.has_applied (A.meaning self.old.names) self.old self.new (map event_of events.now)) }
+        ensures refused { IfErr result (λ fault. HasDone R.stands R.is_kept A.has_applied (A.meaning self.old.names) self.old self.new (map event_of events.now) fault) }
+        ensures member { IsErrOf result WorldFault.Member ↔ (list_all (is_for self.old.members) events.now ≡ false) }
+        ensures store { IsErrOf result WorldFault.Store → ⊥ }
+    {
+        if !are_for(self.state.members, events) {
+            return Err(WorldFault::Member);
+        }
+        self.state.run(alloc, events)
+    }
+
+    /// Makes the straight run of a world in which nothing has happened yet, and answers its number of deliveries: n² + 3n + 1 for n
+    /// members. The member begins, all is delivered, the request is submitted to it, and all is delivered. Each member has been told the
+    /// request at position 1 then, runs, and has applied it.
+    ///
+    /// Faults: memory was refused, after that many events, to the next one or to a node that was to apply what it learnt in the last one; there is
+    /// no such member, and nothing has happened; a store failed, in the last event that happened.
+    pub fn straight(
+        &mut self,
+        alloc: Global,
+        member: u8,
+        request: Request,
+    ) -> Result<u64, WorldFault>
+        ensures done { OnOk result (LeadsSmoothly R.stands R.is_kept A.has_applied (A.meaning self.old.names) self.old self.new (straight_run self.old.members member request)) }
+        ensures deliveries { IfOk result (λ deliveries. deliveries ≡ self.old.members * self.old.members + 3 * self.old.members + 1) }
+        ensures straight { IfOk result (λ deliveries. AreKept R.is_kept self.new → ReachedSmoothly R.stands A.has_applied (A.meaning self.old.names) self.old [] → IsStraight A.has_applied self.new request deliveries) }
+        ensures refused { IfErr result (λ fault. HasDone R.stands R.is_kept A.has_applied (A.meaning self.old.names) self.old self.new (straight_run self.old.members member request) fault) }
+        ensures member { IsErrOf result WorldFault.Member → 1 ≤ member → member ≤ self.old.members → ⊥ }
+    {
+        if member == 0 || member > self.state.members.count() {
+            return Err(WorldFault::Member);
+        }
+        self.state.straight(alloc, member, &request)?;
+        let members = u64::from(self.state.members.count());
+        Ok(members * members + 3 * members + 1)
+    }
+
+    /// How many messages were sent, one for each target.
+    pub fn messages(&self) -> usize
+        ensures { result ≡ length self.now.sent }
+    {
+        self.state.mail.count()
+    }
+
+    /// All that members were told, in order: the position and the value, which is chosen there. No two values were told for a position.
+    ///
+    /// Whatever events have led to this world, of deliveries, losses, repeats and reorderings, ticks, requests, stops (inside a write too) and
+    /// starts: two nodes that have applied as many positions have applied the same values, each chosen at its position. So they hold equal
+    /// stores and answer every question alike, as the application's meaning says for these values.
+    pub fn told(&self) -> &[Told]
+        ensures told { told_in result.now ≡ self.now.told }
+        ensures agreed { (app : Meaning) (events : List Happens) → Reached R.stands A.has_applied app self.now events → Agrees A.has_applied app self.now events }
+        ensures alike { (events : List Happens) → Reached R.stands A.has_applied (A.meaning self.now.names) self.now events → (k m : ℕ) (x y : NodeTerm R A)
+            → node_at self.now.seats k ≡ Some x → node_at self.now.seats m ≡ Some y → AreAlike A.has_applied (A.meaning self.now.names) self.now events x y }
+    {
+        &self.state.told
+    }
+
+    /// The node of a number while it runs.
+    pub fn node(&self, member: u8) -> Option<&Node<R, A>>
+        ensures { option_copied result ≡ node_at self.now.seats member }
+    {
+        if member == 0 || member > self.state.members.count() {
+            return None;
+        }
+        self.state.seats[(member - 1) as usize].node.as_ref()
+    }
+
+    /// Whether each node that runs has applied all that it has learnt without a gap. One has not where memory was refused to it.
+    pub fn all_applied(&self) -> bool
+        ensures all { result ≡ true → AreUpToDate A.has_applied self.now }
+        ensures one { result ≡ false → OneIsBehind A.has_applied self.now }
+    {
+        self.state.all_applied()
+    }
+}
