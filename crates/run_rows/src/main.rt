@@ -1,18 +1,14 @@
-//! `run_rows FILE`: prints each row of a file with what comes of it: scripts and event files that are read, what runs of them print, and
-//! what calls of states give.
+//! `run_rows FILE`: prints each row of a file with what comes of it: scripts that are read, what runs of them print, and what
+//! calls of states give.
 #![tactic(auto)]
 
 mod again;
-mod bytes;
-mod events;
 mod failing;
 mod reading;
 mod running;
-mod simulating;
 mod states;
 
-use bytes::bytes_of;
-use rows::{Answers, RowFault, Words, run_table};
+use rows::{Answers, RowFault, Words, bytes_of, run_table};
 use std::alloc::Global;
 use std::process::ExitCode;
 
@@ -58,8 +54,6 @@ fn result_at(alloc: Global, name: &str, bytes: &[u8]) -> Result<String, RowFault
         "script" => reading::script(alloc, bytes),
         "run" => running::run(alloc, bytes),
         "unread" => running::unread(alloc, bytes),
-        "events" => events::events(alloc, bytes),
-        "sim" => simulating::sim(alloc, bytes),
         _ => Err(RowFault::NotARow),
     }
 }

@@ -1,9 +1,8 @@
 //! Scripts that are read, and the first wrong lines of other texts.
 
-use super::bytes::text_of;
 use ballots::{Request, RequestId};
 use paxq_files::{Command, Script, ScriptFault, read_script};
-use rows::RowFault;
+use rows::{RowFault, text_of};
 use std::alloc::{AllocError, Global};
 
 /// How many commands of a script are shown at most.

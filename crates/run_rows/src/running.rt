@@ -1,9 +1,8 @@
 //! Runs of scripts, by readers and writers in memory.
 
-use super::bytes::text_of;
 use super::failing::{FailingReader, FailingWriter};
 use paxq_run::run_script;
-use rows::RowFault;
+use rows::{RowFault, shown, text_of};
 use std::alloc::Global;
 
 /// `run BYTES`: the exit status of a run of a script, its output and its error output.
@@ -50,17 +49,4 @@ pub(super) fn unwritten(alloc: Global, writes: u64, bytes: &[u8]) -> Result<Stri
         Ok(status) => format!(in alloc; "{status} {errors:?}")?,
         Err(_) => format!(in alloc; "not written {errors:?}")?,
     })
-}
-
-/// The exit status, the output and the error output of a run.
-pub(super) fn shown(
-    alloc: Global,
-    status: Option<u8>,
-    output: &[u8],
-    errors: &[u8],
-) -> Result<String, RowFault> {
-    let status = status.ok_or(RowFault::Memory)?;
-    let output = text_of(output)?;
-    let errors = text_of(errors)?;
-    Ok(format!(in alloc; "{status} {output:?} {errors:?}")?)
 }

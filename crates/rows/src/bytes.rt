@@ -1,14 +1,15 @@
 //! The bytes of a row, to its end or the word `gives`: texts one after the other, `repeat N TEXT`, `byte N`, and `lines N TEXT TEXT` for N
 //! lines that have their numbers, from 1, between the two texts.
 
-use rows::{RowFault, Words};
+use super::fault::RowFault;
+use super::words::Words;
 use std::alloc::{AllocError, Global};
 
 /// How many parts the bytes of a row have at most.
 const MOST_PARTS: u32 = 1_000;
 
 /// The bytes that the words of a row make, up to the word `gives`, which is taken too.
-pub(super) fn bytes_of(alloc: Global, words: &mut Words<'_>) -> Result<Vec<u8>, RowFault> {
+pub fn bytes_of(alloc: Global, words: &mut Words<'_>) -> Result<Vec<u8>, RowFault> {
     let mut bytes = Vec::new(alloc);
     for _ in 0..MOST_PARTS {
         if words.is_empty() || take_gives(words) {
@@ -81,6 +82,6 @@ fn push_line(
 }
 
 /// The bytes as a text. Fault: `NotARow` where they are none.
-pub(super) fn text_of(bytes: &[u8]) -> Result<&str, RowFault> {
+pub fn text_of(bytes: &[u8]) -> Result<&str, RowFault> {
     str::from_utf8(bytes).ok().ok_or(RowFault::NotARow)
 }
