@@ -1,5 +1,5 @@
 -- A node that makes what was drafted, and goes on to what is learnt, has taken the step.
-use Rattle.std.proofs.Common.{◌≡◌, ℕ, zero, suc, ◌≤◌, ◌&&◌, Bool, true, false, cond, arith, refl, sym, ap, ap₂, subst, ◌∙◌, List, [], ◌∷◌, ◌++◌, map, Option, Some}
+use Rattle.std.proofs.Common.{◌≡◌, ℕ, zero, suc, ◌≤◌, ◌<◌, ◌&&◌, Bool, true, false, cond, arith, refl, sym, ap, ap₂, subst, ◌∙◌, List, [], ◌∷◌, ◌++◌, map, Option, Some}
 use Rattle.std.specs.Prelude.{nat_le, option_map, option_to_list}
 use Rattle.std.proofs.lemmas.Bool.{le-leb}
 use Rattle.ballots.specs.Ballot.{most_members}
@@ -95,7 +95,8 @@ stepped has_applied app i u old new outcome o members number setup r took gone s
         reads = λ k h. reads k (subst (λ xs. Has xs k) (took.sends ∙ same_packets) h)
             ((step_is app n m i old.member.acceptor.kept u least most few comes (subst (λ j. IsState n j old.member.acceptor.kept u) number (subst (λ j. IsState j old.member.number old.member.acceptor.kept u) members r.this.state))).sends k h);
         tells = took.tells ∙ sym tells;
-        whole = λ short. is ∙ went.3 short ∙ ap (λ k. prefix k (news v.heard)) many;
+        whole = λ whole. is ∙ went.3 whole ∙ ap (λ k. prefix k (news v.heard)) many;
+        short = λ short. let less = went.4 short in let same = ap (λ k. prefix k (news v.heard)) many in omega (arith, is, less, same);
       },
     )
   where
@@ -126,7 +127,8 @@ took_since has_applied app i u j old mid new o stayed t = record {
   sends = ap₂ (λ s (e : Effect). map (spelt s.group) e.sends) (sym stayed.setup) (sym same) ∙ t.sends ∙ ap (λ s. posted s.members s.member o.sent.items) stayed.setup;
   reads = λ k h. subst (λ s. ReadsBack s.group k) stayed.setup (t.reads k (subst (λ (e : Effect). Has e.sends k) (sym same) h));
   tells = sym (ap (λ (e : Effect). e.tells) same) ∙ t.tells;
-  whole = λ short. t.whole short ∙ ap (λ s. prefix s.members (news t.running.heard)) stayed.setup;
+  whole = λ whole. t.whole whole ∙ ap (λ s. prefix s.members (news t.running.heard)) stayed.setup;
+  short = λ short. subst (λ s. t.running.applied < prefix s.members (news t.running.heard)) stayed.setup (t.short short);
 }
   where
     same : step_of app mid u i j ≡ step_of app old u i j

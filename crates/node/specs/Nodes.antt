@@ -1,5 +1,5 @@
 -- What a node is, when it is one of a world, and when it has taken a step of the protocol: from received bytes to sent bytes.
-use Rattle.std.specs.Prelude.{◌≡◌, ◌<◌, ◌≤◌, ◌⊎◌, ℕ, not, ◌==◌, false, List, [], ◌∷◌, map, filter, flat_map, Some, None, Result, Ok, Err}
+use Rattle.std.specs.Prelude.{◌≡◌, ◌<◌, ◌≤◌, ◌⊎◌, ℕ, not, ◌==◌, true, false, List, [], ◌∷◌, map, filter, flat_map, Some, None, Result, Ok, Err}
 use Rattle.acceptor.specs.Steps.{IsAsWas, Stopped}
 use Rattle.ballots.specs.Messages.{Body, Reply, Answer, Behind, Elsewhere, Packet, body_of, packet, up_to}
 use Rattle.ballots.specs.Replies.{answered}
@@ -71,7 +71,7 @@ abbrev pub posted : (members self : ℕ) → List Sent → List (List ℕ × ℕ
 posted n m sent = flat_map (λ (s : Sent). map (λ k. (s.bytes.items, k)) (targets n m s.to)) sent
 
 -- The node has taken a step: its record is written, it runs on as the step says, it sends just the spellings of the step's messages, each to
--- its target, which read as these messages, and is told what the step tells. Where it doesn't say that it stopped short, all is applied that is
+-- its target, which read as these messages, and is told what the step tells. It says that it stopped short exactly where less is applied than is
 -- learnt without a gap.
 pub record Took {R A : Type 0} (has_applied : List (List ℕ) → List Value → A → Type 0) (e : Effect) (old new : Node R A) (o : Outbox) : Type 0 where
   pub setup : new.setup ≡ old.setup
@@ -83,6 +83,7 @@ pub record Took {R A : Type 0} (has_applied : List (List ℕ) → List Value →
   pub reads : (k : Packet) → Has e.sends k → ReadsBack old.setup.group k
   pub tells : e.tells ≡ o.tells.items
   pub whole : o.is_short ≡ false → running.applied ≡ prefix old.setup.members (news running.heard)
+  pub short : o.is_short ≡ true → running.applied < prefix old.setup.members (news running.heard)
 
 -- the step of an input, in which its store does not fail and so much is applied
 abbrev pub step_of : {R A : Type 0} → Application → Node R A → Running → Input → (applied : ℕ) → Effect

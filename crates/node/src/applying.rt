@@ -1,6 +1,6 @@
 //! How an application goes on to what is learnt.
 
-ghost use Rattle.std.specs.Prelude.{◌≡◌, ℕ, suc, List};
+ghost use Rattle.std.specs.Prelude.{◌≡◌, ◌<◌, ℕ, suc, List};
 ghost use Rattle.member.specs.Steps.{IsThis};
 ghost use Rattle.node.specs.Applying.{HasGone, IsAt};
 ghost use Rattle.paxos.specs.Knowledge.{news, prefix};
@@ -34,6 +34,8 @@ fn apply_next<R: Records + Drop, A: Application + Drop>(
         → IsAt A.has_applied names member.now.members u k application.old → IsAt A.has_applied names member.now.members u (suc k) application.new }
     ensures done { result ≡ Turn.Done → (names : List (List ℕ)) (u : Running) (k : ℕ) → IsThis u member.now
         → IsAt A.has_applied names member.now.members u k application.old → k ≡ prefix member.now.members (news u.heard) }
+    ensures short { result ≡ Turn.Short → (names : List (List ℕ)) (u : Running) (k : ℕ) → IsThis u member.now
+        → IsAt A.has_applied names member.now.members u k application.old → k < prefix member.now.members (news u.heard) }
     ensures same { (result ≡ Turn.Applied → ⊥) → application.new ≡ application.old }
 {
     let before = application.applied();

@@ -11,14 +11,14 @@ pub returns-in-Done : goal.returns-in-Done
 returns-in-Done g c = record {
   gone = λ names u k this at.
       let r = c.loop-turn.invariant names u k this at in
-      (r.0, r.1, subst (IsAt g.A.Application.has_applied names c.args.member.now.members u r.0) (sym (c.in-Done.ensures.same (λ e. let f : ⊥ = cc in f))) r.3, λ whole. c.in-Done.ensures.done refl names u r.0 this r.3);
+      (r.0, r.1, subst (IsAt g.A.Application.has_applied names c.args.member.now.members u r.0) (sym (c.in-Done.ensures.same (λ e. let f : ⊥ = cc in f))) r.3, λ whole. c.in-Done.ensures.done refl names u r.0 this r.3, λ short. let f : ⊥ = cc in absurd f);
 }
 
 pub returns-in-Short : goal.returns-in-Short
 returns-in-Short g c = record {
   gone = λ names u k this at.
       let r = c.loop-turn.invariant names u k this at in
-      (r.0, r.1, subst (IsAt g.A.Application.has_applied names c.args.member.now.members u r.0) (sym (c.in-Short.ensures.same (λ e. let f : ⊥ = cc in f))) r.3, λ whole. let f : ⊥ = cc in absurd f);
+      (r.0, r.1, subst (IsAt g.A.Application.has_applied names c.args.member.now.members u r.0) (sym (c.in-Short.ensures.same (λ e. let f : ⊥ = cc in f))) r.3, λ whole. let f : ⊥ = cc in absurd f, λ short. c.in-Short.ensures.short refl names u r.0 this r.3);
 }
 
 pub loop-turn-preserved : goal.loop-turn-preserved
@@ -34,5 +34,5 @@ returns g c = record {
       let r = c.loop-turn.invariant names u k this at in
       let low = r.2 in
       let ended = c.loop-turn-test.false in
-      (r.0, r.1, r.3, λ whole. all_done c.args.member.now.members (news u.heard) r.0 r.3.0 (all_positions r.0 (omega (arith, low, ended))));
+      (r.0, r.1, r.3, λ whole. all_done c.args.member.now.members (news u.heard) r.0 r.3.0 (all_positions r.0 (omega (arith, low, ended))), λ short. let f : ⊥ = cc in absurd f);
 }

@@ -19,6 +19,14 @@ returns-in_default-clause-done g c = λ d names u k this at.
     let next : c.applied-before.result + 1 ≡ suc k = (let e = count in omega (arith, e)) in
     none_next n (news u.heard) k at.0 (subst (λ j. learnt_at n j (news u.heard) ≡ None) next (sym (c.learned.ensures u this) ∙ ap option_copied c.in_default.is))
 
+pub returns-in-Err-clause-short : goal.returns-in-Err-clause-short
+returns-in-Err-clause-short g c = λ d names u k this at.
+    let n = c.args.member.now.members in
+    let count : c.applied-before.result ≡ k = c.applied-before.ensures.means names (values_to n (news u.heard) k) at.1 ∙ values_count n (news u.heard) k at.0 in
+    let next : c.applied-before.result + 1 ≡ suc k = (let e = count in omega (arith, e)) in
+    let there : learnt_at n (suc k) (news u.heard) ≡ Some c.in-Some.value.now = subst (λ j. learnt_at n j (news u.heard) ≡ Some c.in-Some.value.now) next (sym (c.learned.ensures u this) ∙ ap option_copied c.in-Some.is) in
+    some_next n (news u.heard) k c.in-Some.value.now at.0 (position_left k (let e = count in let f = c.if-before-ge-POSITIONS.false in omega (arith, e, f))) there
+
 pub returns-in-Ok-clause-applied : goal.returns-in-Ok-clause-applied
 returns-in-Ok-clause-applied g c = λ d names u k this at.
     let n = c.args.member.now.members in
