@@ -6,9 +6,9 @@ use Rattle.std.specs.Str.{bytes_eq, is_utf8}
 use Rattle.ballots.specs.Terms.{Request as RequestTerm}
 use Rattle.document_names.specs.Names.{are_document_names}
 use Rattle.line_parts.specs.Parts.{has_text_length, is_space, number_below, ◌>>=◌}
-use Rattle.world.specs.declared.event.Event.TheVariants as event
-use Rattle.world.specs.declared.event.Step.{Step}
-use Rattle.world.specs.declared.event.Step.TheVariants as step
+use Rattle.events.specs.declared.event.Event.TheVariants as event
+use Rattle.events.specs.declared.event.Step.{Step}
+use Rattle.events.specs.declared.event.Step.TheVariants as step
 use Rattle.member.specs.declared.input.Tick.{Tick}
 use Rattle.member.specs.declared.input.Tick.TheVariants as tick
 use Rattle.event_files.specs.declared.command.Command.{Command}

@@ -1,9 +1,9 @@
 -- The members that an event file speaks of are the group's.
 use Rattle.std.specs.Prelude.{◌≤◌, ℕ}
-use Rattle.world.specs.declared.event.Event.{Event}
-use Rattle.world.specs.declared.event.Event.TheVariants as event
-use Rattle.world.specs.declared.event.Step.{Step}
-use Rattle.world.specs.declared.event.Step.TheVariants as step
+use Rattle.events.specs.declared.event.Event.{Event}
+use Rattle.events.specs.declared.event.Event.TheVariants as event
+use Rattle.events.specs.declared.event.Step.{Step}
+use Rattle.events.specs.declared.event.Step.TheVariants as step
 use Rattle.event_files.specs.declared.command.Command.{Command}
 use Rattle.event_files.specs.declared.command.Command.TheVariants.{Happens, DeliverAll}
 use Rattle.event_files.specs.declared.first.Failure.{Failure}

@@ -7,9 +7,9 @@ ghost use Rattle.event_files.specs.Within.{IsCommandOf, IsStepOf};
 use super::lines::utf8_of;
 use super::parts::{read_kept, read_member};
 use ballots::{Members, Request};
+use events::{Event, Step, Tick};
 use line_parts::{cut_at, has_text_length, new_request, read_client, read_number};
 use std::alloc::{AllocError, Global};
-use world::{Event, Step, Tick};
 
 /// What a line asks for.
 #[derive(Drop)]

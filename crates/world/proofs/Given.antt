@@ -1,5 +1,5 @@
 -- What holds of a result that may hold nothing.
-use Rattle.std.proofs.Common.{◌≡◌, false, refl, sym, is_some, Result, Ok, Err, Option, Some, None, IfOk, IfSome, IsSome, OnErr, OnOk}
+use Rattle.std.proofs.Common.{◌≡◌, false, refl, sym, ap, is_some, Result, Ok, Err, Option, Some, None, IfOk, IfSome, IsSome, OnErr, OnOk}
 use Rattle.std.proofs.lemmas.Bool.{false≢true}
 
 -- what follows for each follows for the one that there may be
@@ -36,3 +36,15 @@ ok_so (Err e) P Q f h = tt
 pub none_there : {A : Type 0} (o : Option A) → is_some o ≡ false → o ≡ None
 none_there (Some x) h = absurd (false≢true (sym h))
 none_there None h = refl
+
+-- what holds of what is given
+pub on_at_ok : {A E : Type 0} (r : Result A E) {x : A} {P : Type 0} → r ≡ Ok x → OnOk r P → P
+on_at_ok r q h = rw q at h
+
+-- one error is one whatever might have been given
+pub same_error : {A B E : Type 0} (e f : E) → ◌≡◌ {A = Result A E} (Err e) (Err f) → ◌≡◌ {A = Result B E} (Err e) (Err f)
+same_error {A} {B} {E} e f q = ap error q
+  where
+    error : Result A E → Result B E
+    error (Ok x) = Err f
+    error (Err x) = Err x

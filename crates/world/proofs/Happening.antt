@@ -1,10 +1,11 @@
 -- What each event does in the protocol's world is what a seat does.
-use Rattle.std.proofs.Common.{◌≡◌, ◌⊎◌, ℕ, Bool, true, false, refl, inl, inr, sym, subst, ap, ◌∙◌, Option, Some, None, ⊎_elim, [], length, append-nil}
+use Rattle.std.proofs.Common.{◌≡◌, ◌⊎◌, ℕ, Bool, true, false, refl, inl, inr, sym, subst, ap, ◌∙◌, Option, Some, None, ⊎_elim, [], length, append-nil, List}
 use Rattle.std.specs.Prelude.{if◌then◌else◌}
 use Rattle.std.proofs.lemmas.Option.{same_Some}
 use Rattle.ballots.specs.Messages.{Packet}
-use Rattle.member.specs.Drafts.{IsSpent}
-use Rattle.member.specs.Steps.{Input, Hears, Begins, Resends, CatchesUp, IsThis, Member, effect_of}
+use Rattle.ballots.specs.declared.value.Value.{Value}
+use Rattle.member.specs.Steps.{Input, Hears, Begins, Resends, CatchesUp, effect_of}
+use Rattle.node.specs.Nodes.{Node, RunsAs, IsSpent}
 use Rattle.paxos.specs.Lists.{at}
 use Rattle.paxos.specs.Application.{Application}
 use Rattle.paxos.specs.Records.{Record, Write, Nothing, writes}
@@ -21,8 +22,8 @@ stay_same : (v : Whole) (m : ℕ) (y : Part) → at v.members m ≡ Some y → a
 stay_same v m y h = rw (put-same v.members m y h) (simp append-nil)
 
 -- nothing happens
-pub stayed : {R : Type 0} (old : World R) (s : Seat R) (m : ℕ) (v z : Whole) → Steps old s m MayStay v z → Stays v z
-stayed old s m v z t = t.is ∙ ap (after v m t.part.kept) t.may ∙ stay_same v m t.part t.there
+pub stayed : {R A : Type 0} (has_applied : List (List ℕ) → List Value → A → Type 0) (old : World R A) (s : Seat R A) (m : ℕ) (v z : Whole) → Steps has_applied old s m MayStay v z → Stays v z
+stayed has_applied old s m v z t = t.is ∙ ap (after v m t.part.kept) t.may ∙ stay_same v m t.part t.there
 
 -- what a store does comes to something else: so for an event, for steps, stops in a write, and starts
 pub happened_so : (Does Other : ℕ → Write → Option Bool → Type 0) → ((m : ℕ) (w : Write) (f : Option Bool) → Does m w f → Other m w f)
@@ -43,15 +44,15 @@ module _ (Does Other : Write → Option Bool → Type 0) (into : (w : Write) (f 
   )
 
 -- a step that may be so
-pub steps_so : {R : Type 0} (May Other : Part → Effect → Type 0) → ((y : Part) (e : Effect) → May y e → Other y e) → (old : World R) (s : Seat R) (m : ℕ) (v z : Whole)
-    → Steps old s m May v z → Steps old s m Other v z
-steps_so May Other into old s m v z t = record { size = t.size; sent = t.sent; part = t.part; there = t.there; kept = t.kept; is_part = t.is_part; effect = t.effect; may = into t.part t.effect t.may; is = t.is }
+pub steps_so : {R A : Type 0} (has_applied : List (List ℕ) → List Value → A → Type 0) (May Other : Part → Effect → Type 0) → ((y : Part) (e : Effect) → May y e → Other y e) → (old : World R A) (s : Seat R A) (m : ℕ) (v z : Whole)
+    → Steps has_applied old s m May v z → Steps has_applied old s m Other v z
+steps_so has_applied May Other into old s m v z t = record { size = t.size; sent = t.sent; part = t.part; there = t.there; kept = t.kept; is_part = t.is_part; effect = t.effect; may = into t.part t.effect t.may; is = t.is }
 
 -- it has happened, in any case
 pub happened : (Does : ℕ → Write → Option Bool → Type 0) (app : Application) (e : Happens) (v z : Whole) → HappenedIf Does app e v z → Happened app e v z
 happened Does app e v z h = (h.0, h.2)
 
-module _ {R : Type 0} (Does : ℕ → Write → Option Bool → Type 0) (app : Application) (n : ℕ) (old : World R) (s : Seat R) (m : ℕ) (len : length old.seats ≡ n) where
+module _ {R A : Type 0} (has_applied : List (List ℕ) → List Value → A → Type 0) (Does : ℕ → Write → Option Bool → Type 0) (app : Application) (n : ℕ) (old : World R A) (s : Seat R A) (m : ℕ) (len : length old.seats ≡ n) where
   -- a running member that is there
   there_runs : (v : Whole) (y : Part) (u : Running) → at v.members m ≡ Some y → y.running ≡ Some u → at v.members m ≡ Some (record { kept = y.kept; running = Some u })
   there_runs v y u h r = h ∙ ap (λ o. Some (record { kept = y.kept; running = o })) r
@@ -85,7 +86,7 @@ module _ {R : Type 0} (Does : ℕ → Write → Option Bool → Type 0) (app : A
   does_so j w x f same is d = subst (λ i. Does i w f) (sym same) (subst (λ y. Does m y f) (sym is) d)
 
   -- a delivery
-  pub delivers_step : (k : ℕ) (p : Packet) → at old.sent k ≡ Some p → p.target ≡ m → (v z : Whole) → Steps old s m (MayStep (Does m) app n m (Hears p)) v z → HappenedIf Does app (Deliver k) v z
+  pub delivers_step : (k : ℕ) (p : Packet) → at old.sent k ≡ Some p → p.target ≡ m → (v z : Whole) → Steps has_applied old s m (MayStep (Does m) app n m (Hears p)) v z → HappenedIf Does app (Deliver k) v z
   delivers_step k p is target v z t =
       let u = t.may.0 in
       let c = t.may.2 in (
@@ -98,7 +99,7 @@ module _ {R : Type 0} (Does : ℕ → Write → Option Bool → Type 0) (app : A
       )
 
   -- a stop in a delivery
-  pub stops_in_delivery : (k : ℕ) (p : Packet) → at old.sent k ≡ Some p → p.target ≡ m → (v z : Whole) → Steps old s m (MayStopIn (Does m) app n m (Hears p) true) v z → HappenedIf Does app (StopInDeliver k true) v z
+  pub stops_in_delivery : (k : ℕ) (p : Packet) → at old.sent k ≡ Some p → p.target ≡ m → (v z : Whole) → Steps has_applied old s m (MayStopIn (Does m) app n m (Hears p) true) v z → HappenedIf Does app (StopInDeliver k true) v z
   stops_in_delivery k p is target v z t =
       let u = t.may.0 in
       let c : Choice = record { fails = t.may.2; applied = 0 } in (
@@ -111,7 +112,7 @@ module _ {R : Type 0} (Does : ℕ → Write → Option Bool → Type 0) (app : A
       )
 
   -- the tick Resend
-  pub resends : (v z : Whole) → Steps old s m (MayStep (Does m) app n m Resends) v z → HappenedIf Does app (Resend m) v z
+  pub resends : (v z : Whole) → Steps has_applied old s m (MayStep (Does m) app n m Resends) v z → HappenedIf Does app (Resend m) v z
   resends v z t =
       let c = t.may.2 in (
         c,
@@ -121,7 +122,7 @@ module _ {R : Type 0} (Does : ℕ → Write → Option Bool → Type 0) (app : A
       )
 
   -- the tick CatchUp
-  pub catches_up : (v z : Whole) → Steps old s m (MayStep (Does m) app n m CatchesUp) v z → HappenedIf Does app (CatchUp m) v z
+  pub catches_up : (v z : Whole) → Steps has_applied old s m (MayStep (Does m) app n m CatchesUp) v z → HappenedIf Does app (CatchUp m) v z
   catches_up v z t =
       let c = t.may.2 in (
         c,
@@ -131,7 +132,7 @@ module _ {R : Type 0} (Does : ℕ → Write → Option Bool → Type 0) (app : A
       )
 
   -- a stop in a Begin
-  pub stops_in_begin : (v z : Whole) → Steps old s m (MayStopIn (Does m) app n m Begins true) v z → HappenedIf Does app (StopInBegin m true) v z
+  pub stops_in_begin : (v z : Whole) → Steps has_applied old s m (MayStopIn (Does m) app n m Begins true) v z → HappenedIf Does app (StopInBegin m true) v z
   stops_in_begin v z t =
       let c : Choice = record { fails = t.may.2; applied = 0 } in (
         c,
@@ -141,15 +142,15 @@ module _ {R : Type 0} (Does : ℕ → Write → Option Bool → Type 0) (app : A
       )
 
   -- a ballot that can begin
-  pub begins_step : (x : Member _) → s.member ≡ Some x → x.members ≡ n → ((u : Running) → IsThis u x → IsSpent x u Begins → ⊥)
-      → (v z : Whole) → Steps old s m (MayStep (Does m) app n m Begins) v z → HappenedIf Does app (Begin m) v z
+  pub begins_step : (x : Node R A) → s.node ≡ Some x → x.setup.members ≡ n → ((u : Running) → RunsAs has_applied u x → IsSpent x u Begins → ⊥)
+      → (v z : Whole) → Steps has_applied old s m (MayStep (Does m) app n m Begins) v z → HappenedIf Does app (Begin m) v z
   begins_step x there place due v z t =
       let c = t.may.2 in
       let known = t.is_part.running x there in
       let same : known.0 ≡ t.may.0 = same_Some known.0 t.may.0 (sym known.1 ∙ t.may.1) in
       let may : may_begin n t.part.kept t.may.0 ≡ true = ⊎_elim (λ (h : may_begin n t.part.kept t.may.0 ≡ true). h)
-      (λ (h : may_begin n t.part.kept t.may.0 ≡ false). absurd (due known.0 known.2.this
-      (subst (λ w. may_begin x.members x.acceptor.kept w ≡ false) (sym same) (subst (λ j. may_begin j x.acceptor.kept t.may.0 ≡ false) (sym place)
+      (λ (h : may_begin n t.part.kept t.may.0 ≡ false). absurd (due known.0 known.2
+      (subst (λ w. may_begin x.setup.members x.member.acceptor.kept w ≡ false) (sym same) (subst (λ j. may_begin j x.member.acceptor.kept t.may.0 ≡ false) (sym place)
       (subst (λ r. may_begin n r t.may.0 ≡ false) (t.is_part.kept_is ∙ known.3) h)))))
       (bool_cases (may_begin n t.part.kept t.may.0)) in (
         c,
@@ -165,7 +166,7 @@ module _ {R : Type 0} (Does : ℕ → Write → Option Bool → Type 0) (app : A
       bool_cases false = inr refl
 
   -- a start, or a store that fails to give the record
-  pub starts_step : (v z : Whole) → Steps old s m (MayStart (Does m)) v z → HappenedIf Does app (Start m) v z
+  pub starts_step : (v z : Whole) → Steps has_applied old s m (MayStart (Does m)) v z → HappenedIf Does app (Start m) v z
   starts_step v z t = ⊎_elim
       (λ (e : Does m Nothing None × (t.effect ≡ quiet started)).
       (record { fails = None; applied = 0 }, e.0, t.is ∙ ap (after v m t.part.kept) e.1 ∙ sym (ap (restarts v None m t.part.kept) t.may.0) ∙ sym (ap (starts v None m) t.there)))
@@ -180,11 +181,11 @@ module _ {R : Type 0} (Does : ℕ → Write → Option Bool → Type 0) (app : A
   -- where nothing is written, a store does nothing
   module _ (none : (j : ℕ) (w : Write) → writes w ≡ false → Does j w None) where
     -- a stop
-    pub stops : (v z : Whole) → Steps old s m MayStop v z → HappenedIf Does app (Stop m) v z
+    pub stops : (v z : Whole) → Steps has_applied old s m MayStop v z → HappenedIf Does app (Stop m) v z
     stops v z t = (record { fails = None; applied = 0 }, none m Nothing refl, acted v z t.part t.may.0 t.effect (λ r w. stops_in false (quiet w)) t.there t.may.1 t.may.2 t.is)
 
     -- a stop whose write is lost, in a delivery
-    pub stops_at_delivery : (k : ℕ) (p : Packet) → at old.sent k ≡ Some p → p.target ≡ m → (v z : Whole) → Steps old s m MayStop v z → HappenedIf Does app (StopInDeliver k false) v z
+    pub stops_at_delivery : (k : ℕ) (p : Packet) → at old.sent k ≡ Some p → p.target ≡ m → (v z : Whole) → Steps has_applied old s m MayStop v z → HappenedIf Does app (StopInDeliver k false) v z
     stops_at_delivery k p is target v z t = (
       record { fails = None; applied = 0 },
       none (reader (at v.sent k)) Nothing refl,
@@ -193,7 +194,7 @@ module _ {R : Type 0} (Does : ℕ → Write → Option Bool → Type 0) (app : A
     )
 
     -- and in a Begin
-    pub stops_at_begin : (v z : Whole) → Steps old s m MayStop v z → HappenedIf Does app (StopInBegin m false) v z
+    pub stops_at_begin : (v z : Whole) → Steps has_applied old s m MayStop v z → HappenedIf Does app (StopInBegin m false) v z
     stops_at_begin v z t = (
       record { fails = None; applied = 0 },
       none m Nothing refl,
@@ -201,15 +202,15 @@ module _ {R : Type 0} (Does : ℕ → Write → Option Bool → Type 0) (app : A
     )
 
     -- a stop in a Begin that writes nothing, since no ballot can begin
-    pub stops_unbegun : Skips s Begins → (x : Member R) → s.member ≡ Some x → x.members ≡ n → (v z : Whole) → Steps old s m MayStop v z → HappenedIf Does app (StopInBegin m true) v z
+    pub stops_unbegun : Skips has_applied s Begins → (x : Node R A) → s.node ≡ Some x → x.setup.members ≡ n → (v z : Whole) → Steps has_applied old s m MayStop v z → HappenedIf Does app (StopInBegin m true) v z
     stops_unbegun skips x there place v z t =
         let known = t.is_part.running x there in
         let same : known.0 ≡ t.may.0 = same_Some known.0 t.may.0 (sym known.1 ∙ t.may.1) in
-        let spent : may_begin x.members x.acceptor.kept known.0 ≡ false =
-        ⊎_elim (λ (f : Unit {0} → ⊥). absurd (f tt)) (λ (f : (u : Running) → IsThis u x → may_begin x.members x.acceptor.kept u ≡ false). f known.0 known.2.this) (skips x there) in
+        let spent : may_begin x.setup.members x.member.acceptor.kept known.0 ≡ false =
+        ⊎_elim (λ (f : Unit {0} → ⊥). absurd (f tt)) (λ (f : (u : Running) → RunsAs has_applied u x → may_begin x.setup.members x.member.acceptor.kept u ≡ false). f known.0 known.2) (skips x there) in
         let may : may_begin (length v.members) t.part.kept t.may.0 ≡ false =
         subst (λ w. may_begin (length v.members) t.part.kept w ≡ false) same (subst (λ j. may_begin j t.part.kept known.0 ≡ false) (place ∙ sym len ∙ sym t.size)
-        (subst (λ r. may_begin x.members r known.0 ≡ false) (sym (t.is_part.kept_is ∙ known.3)) spent)) in (
+        (subst (λ r. may_begin x.setup.members r known.0 ≡ false) (sym (t.is_part.kept_is ∙ known.3)) spent)) in (
           record { fails = None; applied = 0 },
           none m _ (ap writes (wrote v t.part t.may.0 (on_begin (length v.members) m) t.there t.may.1) ∙ ap (λ b. writes (if b then begins (length v.members) m t.part.kept t.may.0 else quiet t.may.0).write) may),
           acted v z t.part t.may.0 t.effect (λ r w. stops_in true (effect_of app (length v.members) m r w Begins)) t.there t.may.1

@@ -1,7 +1,8 @@
-pub mod Answered
 pub mod Posted
 pub mod Given
 pub mod Settling
+pub mod Clients
+pub mod Hearing
 pub mod Lifting
 pub mod Reaching
 pub mod Leading
@@ -14,3 +15,4 @@ pub mod Resting
 pub mod Stopping
 pub mod Begun
 pub mod Straightly
+pub mod Alike

@@ -5,7 +5,7 @@ use Rattle.std.proofs.lemmas.Bool.{cases_eq, eqb-true}
 use Rattle.std.proofs.lemmas.Option.{none-some, same_Some}
 use Rattle.ballots.specs.Messages.{Packet}
 use Rattle.ballots.specs.declared.value.Pair.{Pair}
-use Rattle.member.specs.Steps.{IsNoQuestion}
+use Rattle.ballots.specs.declared.value.Value.{Value}
 use Rattle.paxos.specs.Lists.{at, put, Has}
 use Rattle.paxos.specs.Records.{Record}
 use Rattle.paxos.specs.Step.{Effect}
@@ -15,10 +15,11 @@ use Rattle.world.specs.Seats.{IsKeptAt, IsPart, Moves, Stands, part_after}
 use Rattle.world.specs.Shown.{World, AllStand, AreKept, Picks, Shows}
 use Rattle.world.specs.Reached.{Follows, Stays, Steps}
 use Rattle.world.specs.declared.seat.Seat.{Seat}
+use Rattle.world.proofs.Clients.{GoesToClients}
 
 -- what code holds after one seat has moved
-abbrev pub moved : {R : Type 0} → World R → (m : ℕ) → Seat R → List Packet → List Pair → World R
-moved w m s sends tells = record { members = w.members; seats = put w.seats m s; sent = w.sent ++ sends; told = w.told ++ map (told_to m) tells }
+abbrev pub moved : {R A : Type 0} → World R A → (m : ℕ) → Seat R A → List Packet → List Pair → World R A
+moved w m s sends tells = record { members = w.members; group = w.group; names = w.names; seats = put w.seats m s; sent = w.sent ++ sends; told = w.told ++ map (told_to m) tells }
 
 -- where a member sits there is one
 pub some_at : {A B : Type 0} (xs : List A) (ys : List B) (m : ℕ) (x : A) → length ys ≡ length xs → at xs m ≡ Some x → (y : B) × (at ys m ≡ Some y)
@@ -39,15 +40,15 @@ eq_other j m d = bool_cases (j == m) (λ h. absurd (d (eqb-true j m h))) (λ h. 
     bool_cases true f g = f refl
     bool_cases false f g = refl
 
-module _ {R : Type 0} (stands : R → Record → Record → Type 0) (is_kept : R → Type 0) (MayBe : Whole → Type 0) (Given : Part → Type 0) (May : Part → Effect → Type 0)
-    (old : World R) (m : ℕ) (s t : Seat R) (sends : List Packet) (tells : List Pair) (there : at old.seats m ≡ Some s) (moves : Moves stands is_kept Given May s t sends tells)
-    (given : (before : ℕ → Record) (v : Whole) (y : Part) → MayBe v → Shows old before v → at v.members m ≡ Some y → Given y)
-    (no_question : (before : ℕ → Record) (v : Whole) (y : Part) (e : Effect) → MayBe v → Shows old before v → at v.members m ≡ Some y → May y e → e.sends ≡ sends → (k : Packet) → Has sends k → IsNoQuestion k.body) where
-  abbrev new : World R
+module _ {R A : Type 0} (stands : R → Record → Record → Type 0) (is_kept : R → Type 0) (has_applied : List (List ℕ) → List Value → A → Type 0) (MayBe : Whole → Type 0) (Given : Part → Type 0) (May : Part → Effect → Type 0)
+    (old : World R A) (m : ℕ) (s t : Seat R A) (sends : List Packet) (tells : List Pair) (there : at old.seats m ≡ Some s) (moves : Moves stands is_kept has_applied Given May s t sends tells)
+    (given : (before : ℕ → Record) (v : Whole) (y : Part) → MayBe v → Shows has_applied old before v → at v.members m ≡ Some y → Given y)
+    (for_clients : (before : ℕ → Record) (v : Whole) (y : Part) (e : Effect) → MayBe v → Shows has_applied old before v → at v.members m ≡ Some y → May y e → e.sends ≡ sends → (k : Packet) → Has sends k → GoesToClients k) where
+  abbrev new : World R A
   new = moved old m t sends tells
 
   -- that very seat, or another as it was
-  each_seat : (P : ℕ → Seat R → Type 0) → P m t → ((j : ℕ) (r : Seat R) → (j ≡ m → ⊥) → at old.seats j ≡ Some r → P j r) → (j : ℕ) (r : Seat R) → at (put old.seats m t) j ≡ Some r → P j r
+  each_seat : (P : ℕ → Seat R A → Type 0) → P m t → ((j : ℕ) (r : Seat R A) → (j ≡ m → ⊥) → at old.seats j ≡ Some r → P j r) → (j : ℕ) (r : Seat R A) → at (put old.seats m t) j ≡ Some r → P j r
   each_seat P own others j r h = ⊎_elim
       (λ (q : j ≡ m). subst (λ i. P i r) (sym q) (subst (P m) (same_Some t r (sym (at_put old.seats m s t there) ∙ subst (λ i. at (put old.seats m t) i ≡ Some r) q h)) own))
       (λ (d : j ≡ m → ⊥). others j r d (sym (at_put_other old.seats m j t d) ∙ h))
@@ -77,9 +78,10 @@ module _ {R : Type 0} (stands : R → Record → Record → Type 0) (is_kept : R
   pick_own a b now c d p = subst (λ x. (now m ≡ x) ⊎ (now m ≡ d)) (with_own a c) (subst (λ x. (now m ≡ with a c m) ⊎ (now m ≡ x)) (with_own b d) (p m))
 
   -- What code holds follows the member's step.
-  pub follows : Follows stands is_kept MayBe (Steps old s m May) old new
+  pub follows : Follows stands is_kept has_applied MayBe (Steps has_applied old s m May) old new
   follows = record {
     members = refl;
+    names = refl;
     kept = before;
     changes = λ k a b stand.
         let step = moves.changes (k m t (at_put old.seats m s t there)) (a m) (b m) (stand m s there) in (
@@ -92,7 +94,7 @@ module _ {R : Type 0} (stands : R → Record → Record → Type 0) (is_kept : R
                 pick_with a b now step.0 step.1 p choice.0 choice.1,
                 λ v may shows.
                     let part = some_at old.seats v.members m s shows.size there in
-                    let own : IsPart s choice.0 part.0 = subst (λ r. IsPart s r part.0) (with_own now choice.0) (shows.parts m s part.0 there part.1) in
+                    let own : IsPart has_applied s choice.0 part.0 = subst (λ r. IsPart has_applied s r part.0) (with_own now choice.0) (shows.parts m s part.0 there part.1) in
                     let did = choice.2 part.0 (given (with now choice.0) v part.0 may shows part.1) own in (
                       after v m part.0.kept did.0,
                       record { size = shows.size; sent = shows.sent; part = part.0; there = part.1; kept = choice.0; is_part = own; effect = did.0; may = did.1; is = refl },
@@ -113,22 +115,22 @@ module _ {R : Type 0} (stands : R → Record → Record → Type 0) (is_kept : R
           (subst (λ x. Stands stands t x (with b d m)) (sym (with_own a c)) (subst (Stands stands t c) (sym (with_own b d)) own))
           (λ j r n h. subst (λ x. Stands stands r x (with b d j)) (sym (with_other a c j n)) (subst (Stands stands r (a j)) (sym (with_other b d j n)) (stand j r h)))
 
-      shown : (now : ℕ → Record) (r : Record) (v : Whole) (y : Part) (e : Effect) → MayBe v → Shows old (with now r) v → at v.members m ≡ Some y → May y e
-          → e.sends ≡ sends → e.tells ≡ tells → IsPart t (now m) (part_after y e) → Shows new now (after v m y.kept e)
+      shown : (now : ℕ → Record) (r : Record) (v : Whole) (y : Part) (e : Effect) → MayBe v → Shows has_applied old (with now r) v → at v.members m ≡ Some y → May y e
+          → e.sends ≡ sends → e.tells ≡ tells → IsPart has_applied t (now m) (part_after y e) → Shows has_applied new now (after v m y.kept e)
       shown now r v y e may shows here does sends_are tells_are own = record {
         sent = ap₂ (λ xs ys. xs ++ ys) shows.sent sends_are;
         told = ap₂ (λ xs ys. xs ++ map (told_to m) ys) shows.told tells_are;
         size = length_put v.members m (part_after y e) ∙ shows.size ∙ sym (length_put old.seats m t);
-        parts = λ j q z h o. each_seat (λ i u. (x : Part) → at (put v.members m (part_after y e)) i ≡ Some x → IsPart u (now i) x)
-            (λ x g. subst (IsPart t (now m)) (same_Some (part_after y e) x (sym (at_put v.members m y (part_after y e) here) ∙ g)) own)
-            (λ i u n g x f. subst (λ w. IsPart u w x) (with_other now r i n) (shows.parts i u x g (sym (at_put_other v.members m i (part_after y e) n) ∙ f)))
+        parts = λ j q z h o. each_seat (λ i u. (x : Part) → at (put v.members m (part_after y e)) i ≡ Some x → IsPart has_applied u (now i) x)
+            (λ x g. subst (IsPart has_applied t (now m)) (same_Some (part_after y e) x (sym (at_put v.members m y (part_after y e) here) ∙ g)) own)
+            (λ i u n g x f. subst (λ w. IsPart has_applied u w x) (with_other now r i n) (shows.parts i u x g (sym (at_put_other v.members m i (part_after y e) n) ∙ f)))
             j q h z o;
-        no_question = λ k h. ⊎_elim (λ (o : Has old.sent k). shows.no_question k o) (λ (o : Has sends k). no_question (with now r) v y e may shows here does sends_are k o) (has_cases old.sent sends k h);
+        for_clients = λ k h. ⊎_elim (λ (o : Has old.sent k). shows.for_clients k o) (λ (o : Has sends k). for_clients (with now r) v y e may shows here does sends_are k o) (has_cases old.sent sends k h);
       }
 
 -- a seat that moves so, moves as that comes to
-pub moves_so : {R : Type 0} {stands : R → Record → Record → Type 0} {is_kept : R → Type 0} {Given : Part → Type 0} {s t : Seat R} {sends : List Packet} {tells : List Pair} (May Other : Part → Effect → Type 0)
-    → ((y : Part) (e : Effect) → May y e → Other y e) → Moves stands is_kept Given May s t sends tells → Moves stands is_kept Given Other s t sends tells
+pub moves_so : {R A : Type 0} {stands : R → Record → Record → Type 0} {is_kept : R → Type 0} {has_applied : List (List ℕ) → List Value → A → Type 0} {Given : Part → Type 0} {s t : Seat R A} {sends : List Packet} {tells : List Pair} (May Other : Part → Effect → Type 0)
+    → ((y : Part) (e : Effect) → May y e → Other y e) → Moves stands is_kept has_applied Given May s t sends tells → Moves stands is_kept has_applied Given Other s t sends tells
 moves_so May Other into moves = record {
   kept = moves.kept;
   changes = λ k a b stand.
@@ -142,11 +144,12 @@ moves_so May Other into moves = record {
       );
 }
 
-module _ {R : Type 0} {stands : R → Record → Record → Type 0} {is_kept : R → Type 0} {MayBe : Whole → Type 0} where
+module _ {R A : Type 0} {stands : R → Record → Record → Type 0} {is_kept : R → Type 0} {has_applied : List (List ℕ) → List Value → A → Type 0} {MayBe : Whole → Type 0} where
   -- What follows one change and then another.
-  pub joined : (Next : Whole → Whole → Type 0) (old mid end : World R) → Follows stands is_kept MayBe Stays old mid → Follows stands is_kept MayBe Next mid end → Follows stands is_kept MayBe Next old end
+  pub joined : (Next : Whole → Whole → Type 0) (old mid end : World R A) → Follows stands is_kept has_applied MayBe Stays old mid → Follows stands is_kept has_applied MayBe Next mid end → Follows stands is_kept has_applied MayBe Next old end
   joined Next old mid end f g = record {
     members = g.members ∙ f.members;
+    names = g.names ∙ f.names;
     kept = λ k. f.kept (g.kept k);
     changes = λ k a b stand.
         let one = f.changes (g.kept k) a b stand in
@@ -168,10 +171,11 @@ module _ {R : Type 0} {stands : R → Record → Record → Type 0} {is_kept : R
   }
 
   -- What follows a change follows what that comes to in a world that was shown.
-  pub so_shown : (One Other : Whole → Whole → Type 0) (old end : World R) → ((before : ℕ → Record) (v z : Whole) → MayBe v → Shows old before v → One v z → Other v z)
-      → Follows stands is_kept MayBe One old end → Follows stands is_kept MayBe Other old end
+  pub so_shown : (One Other : Whole → Whole → Type 0) (old end : World R A) → ((before : ℕ → Record) (v z : Whole) → MayBe v → Shows has_applied old before v → One v z → Other v z)
+      → Follows stands is_kept has_applied MayBe One old end → Follows stands is_kept has_applied MayBe Other old end
   so_shown One Other old end into f = record {
     members = f.members;
+    names = f.names;
     kept = f.kept;
     changes = λ k a b stand.
         let one = f.changes k a b stand in (
@@ -185,9 +189,9 @@ module _ {R : Type 0} {stands : R → Record → Record → Type 0} {is_kept : R
   }
 
   -- so in any
-  pub so : (One Other : Whole → Whole → Type 0) (old end : World R) → ((v z : Whole) → MayBe v → One v z → Other v z) → Follows stands is_kept MayBe One old end → Follows stands is_kept MayBe Other old end
+  pub so : (One Other : Whole → Whole → Type 0) (old end : World R A) → ((v z : Whole) → MayBe v → One v z → Other v z) → Follows stands is_kept has_applied MayBe One old end → Follows stands is_kept has_applied MayBe Other old end
   so One Other old end into f = so_shown One Other old end (λ before v z may shows one. into v z may one) f
 
   -- What has not changed follows what changes nothing.
-  pub idle : (Next : Whole → Whole → Type 0) (old : World R) → ((before : ℕ → Record) (v : Whole) → MayBe v → Shows old before v → Next v v) → Follows stands is_kept MayBe Next old old
-  idle Next old does = record { members = refl; kept = λ k. k; changes = λ k a b stand. (a, b, stand, λ now p. (now, p, λ v may shows. (v, does now v may shows, shows))) }
+  pub idle : (Next : Whole → Whole → Type 0) (old : World R A) → ((before : ℕ → Record) (v : Whole) → MayBe v → Shows has_applied old before v → Next v v) → Follows stands is_kept has_applied MayBe Next old old
+  idle Next old does = record { members = refl; names = refl; kept = λ k. k; changes = λ k a b stand. (a, b, stand, λ now p. (now, p, λ v may shows. (v, does now v may shows, shows))) }

@@ -1,20 +1,23 @@
 -- Messages by number, and what is posted.
-use Rattle.std.proofs.Common.{◌≡◌, ◌<◌, ◌≤◌, ℕ, zero, suc, ◌+◌, ◌-◌, ◌==◌, not, arith, refl, sym, subst, ap, ap₂, ◌∙◌, List, [], ◌∷◌, ◌++◌, filter, map, length, Option, None, Some, slice_get}
+use Rattle.std.proofs.Common.{◌≡◌, ◌<◌, ◌≤◌, ℕ, zero, suc, ◌+◌, ◌-◌, ◌==◌, Bool, true, false, arith, cond, refl, sym, subst, ap, ap₂, ◌∙◌, ◌⊎◌, ⊎_elim, inl, inr, List, [], ◌∷◌, ◌++◌, map, length, Option, None, Some, slice_get}
 use Rattle.std.proofs.lemmas.List.{append_assoc, length-append, map-append}
-use Rattle.ballots.specs.Messages.{CatchUp, Packet, packet, body_of, to_all, up_to}
+use Rattle.ballots.specs.Messages.{Packet, Submit, packet}
+use Rattle.ballots.specs.Terms.{Request}
 use Rattle.ballots.specs.declared.value.Pair.{Pair}
-use Rattle.member.specs.Steps.{all_packets, packets_of}
-use Rattle.member.specs.declared.outcome.Send.{Send}
-use Rattle.member.specs.declared.outcome.Target.{Target}
-use Rattle.member.specs.declared.outcome.Target.TheVariants as target
+use Rattle.messages.specs.Reading.{Read, Gives, Fails, datagram_read}
+use Rattle.messages.specs.Spelling.{Datagram, spelling}
+use Rattle.node.specs.Nodes.{ReadsBack, datagram, posted as posted_by, spelt, targets}
+use Rattle.node.specs.declared.outbox.Sent.{Sent}
+use Rattle.paxos.specs.Lists.{Has}
 use Rattle.paxos.specs.World.{told_to}
-use Rattle.world.specs.Posts.{AreThere, all_deliveries, deliveries, delivery, packet_of, targets}
+use Rattle.world.specs.Posts.{AreThere, all_deliveries, deliveries, delivery, packet_in, packet_of, said, unsaid}
+use Rattle.world.proofs.Lifting.{eq_self}
 use Rattle.world.specs.Tellings.{told_in, telling}
 use Rattle.world.specs.declared.mail.Delivery.{Delivery}
 use Rattle.world.specs.declared.told.Told.{Told}
 use Rattle.std.specs.Option.{option_map}
 use Rattle.std.proofs.Math.ListN.{get_or}
-use Rattle.std.proofs.lemmas.Option.{slice_get-map, slice_get_read}
+use Rattle.std.proofs.lemmas.Option.{same_Some, slice_get-map, slice_get_read}
 use Rattle.paxos.specs.Lists.{at}
 
 -- the element of a number in a mapped list
@@ -40,54 +43,50 @@ slice_get_next [] y ys = refl
 slice_get_next (x ∷ xs) y ys = slice_get_next xs y ys
 
 -- what a delivery of a message says
-abbrev said : Delivery → Option Send → Packet
-said d o = elim o as (λ o. Packet) [
-  | Some s ↦ packet d.sender (body_of s.message) d.target
-  | None ↦ packet d.sender (CatchUp 0) d.target
+abbrev says : (group : ℕ) → Delivery → Option Sent → Packet
+says g d o = elim o as (λ o. Packet) [
+  | Some s ↦ packet_in g (s.bytes.items, d.target)
+  | None ↦ unsaid d.target
 ]
 
 -- what was sent was sent still
-sent_still : (messages more : List Send) (ds : List Delivery) → AreThere (length messages) ds → map (packet_of (messages ++ more)) ds ≡ map (packet_of messages) ds
-sent_still messages more [] a = refl
-sent_still messages more (d ∷ ds) a = ap₂ (λ x xs. x ∷ xs) (ap (said d) (slice_get_left messages more d.message a.0)) (sent_still messages more ds a.1)
+sent_still : (g : ℕ) (messages more : List Sent) (ds : List Delivery) → AreThere (length messages) ds → map (packet_of g (messages ++ more)) ds ≡ map (packet_of g messages) ds
+sent_still g messages more [] a = refl
+sent_still g messages more (d ∷ ds) a = ap₂ (λ x xs. x ∷ xs) (ap (says g d) (slice_get_left messages more d.message a.0)) (sent_still g messages more ds a.1)
 
 -- the deliveries of one message are what is sent
-mapped_said : (all : List Send) (m i : ℕ) (s : Send) → slice_get all i ≡ Some s → (ks : List ℕ) → map (packet_of all) (map (delivery m i) ks) ≡ map (packet m (body_of s.message)) ks
-mapped_said all m i s q [] = refl
-mapped_said all m i s q (k ∷ ks) = ap₂ (λ x xs. x ∷ xs) (ap (said (delivery m i k)) q) (mapped_said all m i s q ks)
-
-delivered_one : (n m i : ℕ) (all : List Send) (s : Send) → slice_get all i ≡ Some s → map (packet_of all) (deliveries n m i s.to) ≡ packets_of n m s
-delivered_one n m i all s q = mapped_said all m i s q (targets n m s.to) ∙ to_each s.to
-  where
-    to_each : (t : Target) → map (packet m (body_of s.message)) (targets n m t) ≡ elim t as (λ t. List Packet) [
-      | target.One k ↦ packet m (body_of s.message) k ∷ []
-      | target.All ↦ to_all n m (body_of s.message)
-      | target.Others ↦ map (packet m (body_of s.message)) (filter (λ k. not (k == m)) (up_to n))
-      | target.Client ↦ packet m (body_of s.message) 0 ∷ []
-    ]
-    to_each (target.One k) = refl
-    to_each target.All = refl
-    to_each target.Others = refl
-    to_each target.Client = refl
+mapped_said : (g i : ℕ) (all : List Sent) (s : Sent) → slice_get all i ≡ Some s → (ks : List ℕ) → map (packet_of g all) (map (delivery i) ks) ≡ map (packet_in g) (map (λ k. (s.bytes.items, k)) ks)
+mapped_said g i all s q [] = refl
+mapped_said g i all s q (k ∷ ks) = ap₂ (λ x xs. x ∷ xs) (ap (says g (delivery i k)) q) (mapped_said g i all s q ks)
 
 -- so for all messages
-delivered_all : (n m : ℕ) (messages sends : List Send) → map (packet_of (messages ++ sends)) (all_deliveries n m (length messages) sends) ≡ all_packets n m sends
-delivered_all n m messages [] = refl
-delivered_all n m messages (s ∷ sends) =
-    map-append (packet_of (messages ++ s ∷ sends)) (deliveries n m (length messages) s.to) (all_deliveries n m (suc (length messages)) sends)
-    ∙ ap₂ (λ xs ys. xs ++ ys) (delivered_one n m (length messages) (messages ++ s ∷ sends) s (slice_get_next messages s sends))
-    (subst (λ (xs : List Send). map (packet_of xs) (all_deliveries n m (suc (length messages)) sends) ≡ all_packets n m sends) (append_assoc messages (s ∷ []) sends)
-    (subst (λ k. map (packet_of ((messages ++ s ∷ []) ++ sends)) (all_deliveries n m k sends) ≡ all_packets n m sends) (one_more messages s) (delivered_all n m (messages ++ s ∷ []) sends)))
+delivered_all : (g n m : ℕ) (messages sent : List Sent) → map (packet_of g (messages ++ sent)) (all_deliveries n m (length messages) sent) ≡ map (packet_in g) (posted_by n m sent)
+delivered_all g n m messages [] = refl
+delivered_all g n m messages (s ∷ sent) =
+    map-append (packet_of g (messages ++ s ∷ sent)) (deliveries n m (length messages) s.to) (all_deliveries n m (suc (length messages)) sent)
+    ∙ ap₂ (λ xs ys. xs ++ ys) (mapped_said g (length messages) (messages ++ s ∷ sent) s (slice_get_next messages s sent) (targets n m s.to))
+    (subst (λ (xs : List Sent). map (packet_of g xs) (all_deliveries n m (suc (length messages)) sent) ≡ map (packet_in g) (posted_by n m sent)) (append_assoc messages (s ∷ []) sent)
+    (subst (λ k. map (packet_of g ((messages ++ s ∷ []) ++ sent)) (all_deliveries n m k sent) ≡ map (packet_in g) (posted_by n m sent)) (one_more messages s) (delivered_all g n m (messages ++ s ∷ []) sent)))
+    ∙ sym (map-append (packet_in g) (map (λ k. (s.bytes.items, k)) (targets n m s.to)) (posted_by n m sent))
   where
-    one_more : (xs : List Send) (x : Send) → length (xs ++ x ∷ []) ≡ suc (length xs)
+    one_more : (xs : List Sent) (x : Sent) → length (xs ++ x ∷ []) ≡ suc (length xs)
     one_more [] x = refl
     one_more (y ∷ xs) x = ap suc (one_more xs x)
 
--- What is sent then: what was, and the messages to all their targets.
-pub posted : (n m : ℕ) (messages sends : List Send) (ds : List Delivery) → AreThere (length messages) ds
-    → map (packet_of (messages ++ sends)) (ds ++ all_deliveries n m (length messages) sends) ≡ map (packet_of messages) ds ++ all_packets n m sends
-posted n m messages sends ds a =
-    map-append (packet_of (messages ++ sends)) ds (all_deliveries n m (length messages) sends) ∙ ap₂ (λ xs ys. xs ++ ys) (sent_still messages sends ds a) (delivered_all n m messages sends)
+-- What is sent then: what was, and what the bytes say to all their targets.
+pub posted : (g n m : ℕ) (messages sent : List Sent) (ds : List Delivery) → AreThere (length messages) ds
+    → map (packet_of g (messages ++ sent)) (ds ++ all_deliveries n m (length messages) sent) ≡ map (packet_of g messages) ds ++ map (packet_in g) (posted_by n m sent)
+posted g n m messages sent ds a =
+    map-append (packet_of g (messages ++ sent)) ds (all_deliveries n m (length messages) sent) ∙ ap₂ (λ xs ys. xs ++ ys) (sent_still g messages sent ds a) (delivered_all g n m messages sent)
+
+-- bytes that read as a datagram of the group say that
+pub says_so : (g t : ℕ) (bytes : List ℕ) (k : Packet) → k.target ≡ t → datagram_read bytes ≡ Gives (datagram g k) [] → packet_in g (bytes, t) ≡ k
+says_so g t bytes k target reads = ap (said g t) reads ∙ ap (λ b. cond b (packet k.sender k.body t) (unsaid t)) (eq_self g) ∙ ap (packet k.sender k.body) (sym target)
+
+-- What reads back says the messages that were spelt.
+pub says_all : (g : ℕ) (ks : List Packet) → ((k : Packet) → Has ks k → ReadsBack g k) → map (packet_in g) (map (spelt g) ks) ≡ ks
+says_all g [] reads = refl
+says_all g (k ∷ ks) reads = ap₂ (λ x xs. x ∷ xs) (says_so g k.target (spelling (datagram g k)) k refl (reads k (inl refl))) (says_all g ks (λ x h. reads x (inr h)))
 
 -- both lists
 there_append : (n : ℕ) (xs ys : List Delivery) → AreThere n xs → AreThere n ys → AreThere n (xs ++ ys)
@@ -99,21 +98,21 @@ bound_more : (ds : List Delivery) (a b : ℕ) → a ≤ b → AreThere a ds → 
 bound_more [] a b h all = tt
 bound_more (d ∷ ds) a b h all = (omega (arith, h, all.0), bound_more ds a b h all.1)
 
-mapped_within : (m i b : ℕ) → i < b → (ks : List ℕ) → AreThere b (map (delivery m i) ks)
-mapped_within m i b h [] = tt
-mapped_within m i b h (k ∷ ks) = (h, mapped_within m i b h ks)
+mapped_within : (i b : ℕ) → i < b → (ks : List ℕ) → AreThere b (map (delivery i) ks)
+mapped_within i b h [] = tt
+mapped_within i b h (k ∷ ks) = (h, mapped_within i b h ks)
 
-all_within : (n m i b : ℕ) (sends : List Send) → i + length sends ≤ b → AreThere b (all_deliveries n m i sends)
+all_within : (n m i b : ℕ) (sent : List Sent) → i + length sent ≤ b → AreThere b (all_deliveries n m i sent)
 all_within n m i b [] h = tt
-all_within n m i b (s ∷ sends) h = there_append b (deliveries n m i s.to) (all_deliveries n m (suc i) sends)
-    (mapped_within m i b (omega (arith, h)) (targets n m s.to)) (all_within n m (suc i) b sends (omega (arith, h)))
+all_within n m i b (s ∷ sent) h = there_append b (deliveries n m i s.to) (all_deliveries n m (suc i) sent)
+    (mapped_within i b (omega (arith, h)) (targets n m s.to)) (all_within n m (suc i) b sent (omega (arith, h)))
 
 -- Each delivery's message is there then.
-pub whole_posted : (n m : ℕ) (messages sends : List Send) (ds : List Delivery) → AreThere (length messages) ds
-    → AreThere (length (messages ++ sends)) (ds ++ all_deliveries n m (length messages) sends)
-whole_posted n m messages sends ds a = there_append (length (messages ++ sends)) ds (all_deliveries n m (length messages) sends)
-    (bound_more ds (length messages) (length (messages ++ sends)) (subst (λ k. length messages ≤ k) (sym (length-append messages sends)) (omega arith)) a)
-    (all_within n m (length messages) (length (messages ++ sends)) sends (subst (λ k. length messages + length sends ≤ k) (sym (length-append messages sends)) (omega arith)))
+pub whole_posted : (n m : ℕ) (messages sent : List Sent) (ds : List Delivery) → AreThere (length messages) ds
+    → AreThere (length (messages ++ sent)) (ds ++ all_deliveries n m (length messages) sent)
+whole_posted n m messages sent ds a = there_append (length (messages ++ sent)) ds (all_deliveries n m (length messages) sent)
+    (bound_more ds (length messages) (length (messages ++ sent)) (subst (λ k. length messages ≤ k) (sym (length-append messages sent)) (omega arith)) a)
+    (all_within n m (length messages) (length (messages ++ sent)) sent (subst (λ k. length messages + length sent ≤ k) (sym (length-append messages sent)) (omega arith)))
 
 -- what is told then
 pub told_posted : (m : ℕ) (old : List Told) (tells : List Pair) → told_in (old ++ map (telling m) tells) ≡ told_in old ++ map (told_to m) tells
@@ -131,23 +130,49 @@ there_read n (x ∷ ds) zero d all h q = subst (λ (e : Delivery). e.message < n
 there_read n (x ∷ ds) (suc i) d all h q = there_read n ds i d all.1 (omega (arith, h)) q
 
 -- what a client asks is posted
-pub asked : (messages : List Send) (ds : List Delivery) (target : ℕ) (s : Send) → AreThere (length messages) ds
-    → map (packet_of (messages ++ s ∷ [])) (ds ++ delivery 0 (length messages) target ∷ []) ≡ map (packet_of messages) ds ++ packet 0 (body_of s.message) target ∷ []
-asked messages ds target s a =
-    map-append (packet_of (messages ++ s ∷ [])) ds (delivery 0 (length messages) target ∷ [])
-    ∙ ap₂ (λ xs ys. xs ++ ys) (sent_still messages (s ∷ []) ds a) (ap (λ o. said (delivery 0 (length messages) target) o ∷ []) (slice_get_next messages s []))
+pub asked : (g : ℕ) (messages : List Sent) (ds : List Delivery) (target : ℕ) (s : Sent) (q : Request) → AreThere (length messages) ds → datagram_read s.bytes.items ≡ Gives (record { group = g; sender = 0; body = Submit q }) []
+    → map (packet_of g (messages ++ s ∷ [])) (ds ++ delivery (length messages) target ∷ []) ≡ map (packet_of g messages) ds ++ packet 0 (Submit q) target ∷ []
+asked g messages ds target s q a reads =
+    map-append (packet_of g (messages ++ s ∷ [])) ds (delivery (length messages) target ∷ [])
+    ∙ ap₂ (λ xs ys. xs ++ ys) (sent_still g messages (s ∷ []) ds a) (ap (λ o. says g (delivery (length messages) target) o ∷ []) (slice_get_next messages s [])
+    ∙ ap (λ x. x ∷ []) (says_so g target s.bytes.items (packet 0 (Submit q) target) refl reads))
 
-pub whole_asked : (messages : List Send) (ds : List Delivery) (target : ℕ) (s : Send) → AreThere (length messages) ds
-    → AreThere (length (messages ++ s ∷ [])) (ds ++ delivery 0 (length messages) target ∷ [])
+pub whole_asked : (messages : List Sent) (ds : List Delivery) (target : ℕ) (s : Sent) → AreThere (length messages) ds
+    → AreThere (length (messages ++ s ∷ [])) (ds ++ delivery (length messages) target ∷ [])
 whole_asked messages ds target s a =
     let more : length (messages ++ s ∷ []) ≡ length messages + 1 = length-append messages (s ∷ []) in
-    there_append (length (messages ++ s ∷ [])) ds (delivery 0 (length messages) target ∷ [])
+    there_append (length (messages ++ s ∷ [])) ds (delivery (length messages) target ∷ [])
     (bound_more ds (length messages) (length (messages ++ s ∷ [])) (omega (arith, more)) a) (omega (arith, more), tt)
 
 -- to whom a delivery goes
-pub target_of : (messages : List Send) (d : Delivery) → (packet_of messages d).target ≡ d.target
-target_of messages d = one (slice_get messages d.message)
+pub target_of : (g : ℕ) (messages : List Sent) (d : Delivery) → (packet_of g messages d).target ≡ d.target
+target_of g messages d = one (slice_get messages d.message)
   where
-    one : (o : Option Send) → (said d o).target ≡ d.target
-    one (Some s) = refl
+    on : (r : Read Datagram) → (said g d.target r).target ≡ d.target
+    on (Gives x []) = in_group (x.group == g)
+      where
+        in_group : (b : Bool) → (cond b (packet x.sender x.body d.target) (unsaid d.target)).target ≡ d.target
+        in_group true = refl
+        in_group false = refl
+    on (Gives x (b ∷ rest)) = refl
+    on (Fails why) = refl
+
+    one : (o : Option Sent) → (says g d o).target ≡ d.target
+    one (Some s) = on (datagram_read s.bytes.items)
     one None = refl
+
+-- a delivery to no member that there is
+pub to_nobody : {A : Type 0} (g : ℕ) (messages : List Sent) (d : Delivery) (seats : List A) (o : Option Packet) → option_map (packet_of g messages) (Some d) ≡ o → (d.target ≡ 0) ⊎ (length seats < d.target)
+    → (p : Packet) → o ≡ Some p → at seats p.target ≡ None
+to_nobody g messages d seats o is beyond p there =
+    let same : packet_of g messages d ≡ p = same_Some (packet_of g messages d) p (is ∙ there) in
+    subst (λ k. at seats k ≡ None) (sym (target_of g messages d) ∙ ap (λ (x : Packet). x.target) same) (⊎_elim
+    (λ (e : d.target ≡ 0). subst (λ k. at seats k ≡ None) (sym e) refl)
+    (λ (l : length seats < d.target). past seats d.target l)
+    beyond)
+  where
+    past : {A : Type 0} (xs : List A) (k : ℕ) → length xs < k → at xs k ≡ None
+    past xs zero l = absurd (omega (arith, l))
+    past [] (suc i) l = refl
+    past (x ∷ xs) (suc zero) l = absurd (omega (arith, l))
+    past (x ∷ xs) (suc (suc i)) l = past xs (suc i) (omega (arith, l))

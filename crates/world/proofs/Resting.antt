@@ -1,11 +1,13 @@
 -- Ticks, stops and starts at which nothing changes, ticks that are steps, and requests of clients.
-use Rattle.std.proofs.Common.{◌≡◌, ◌≤◌, ℕ, Bool, true, false, refl, inl, inr, sym, subst, ap, ◌∙◌, Option, Some, None, ⊎_elim, [], ◌∷◌, ◌++◌, length}
+use Rattle.std.proofs.Common.{◌≡◌, ◌≤◌, ℕ, Bool, true, false, refl, inl, inr, sym, subst, ap, ◌∙◌, Option, Some, None, ⊎_elim, [], ◌∷◌, ◌++◌, length, List}
 use Rattle.std.specs.Prelude.{if◌then◌else◌}
 use Rattle.ballots.specs.Ballot.{most_members}
 use Rattle.ballots.specs.Messages.{Packet, Submit, packet}
 use Rattle.ballots.specs.Terms.{Request}
-use Rattle.member.specs.Steps.{IsNoQuestion, IsThis, Member, ticked}
-use Rattle.member.specs.declared.draft.Draft.{Draft}
+use Rattle.ballots.specs.declared.value.Value.{Value}
+use Rattle.member.specs.Steps.{ticked}
+use Rattle.node.specs.Nodes.{IsForClients, Node, RunsAs}
+use Rattle.node.specs.declared.draft.Draft.{Draft}
 use Rattle.paxos.specs.Lists.{at, Has}
 use Rattle.paxos.specs.Application.{Application}
 use Rattle.paxos.specs.Records.{Record, Write, Nothing, writes}
@@ -14,26 +16,22 @@ use Rattle.paxos.specs.World.{World as Whole, Member as Part, Choice, Begin, Cat
 use Rattle.paxos.proofs.Lists.{has_cases}
 use Rattle.paxos.specs.Sound.{Sound}
 use Rattle.paxos.proofs.Worlds.{acts-there, quiet-same}
-use Rattle.world.specs.Reached.{Follows, HappenedIf, IsDue, Steps, event_of, is_cut, reader, write_at, write_in, write_upon}
-use Rattle.world.specs.Seats.{IsPlanned, IsSeat, MayStep, Skips}
+use Rattle.events.specs.Events.{event_of}
+use Rattle.world.specs.Reached.{Follows, HappenedIf, Steps, is_cut, reader, write_at, write_in, write_upon}
+use Rattle.world.specs.Seats.{IsPlanned, MayStep, Skips}
 use Rattle.world.specs.Shown.{World, Shows}
-use Rattle.world.specs.declared.event.Event.TheVariants as event
+use Rattle.events.specs.declared.event.Event.TheVariants as event
 use Rattle.member.specs.declared.input.Tick.{Tick}
 use Rattle.member.specs.declared.input.Tick.TheVariants as tick
 use Rattle.world.specs.declared.seat.Seat.{Seat}
 use Rattle.world.proofs.Happening.{begins_step, catches_up, resends}
+use Rattle.world.proofs.Clients.{GoesToClients}
 use Rattle.world.proofs.Idling.{part_of, stopped_silent, stopped_still}
 use Rattle.world.proofs.Lifting.{idle, some_at}
 
 -- a choice where nothing is open
 abbrev any : Choice
 any = record { fails = None; applied = 0 }
-
--- a tick is due
-pub due_tick : {R : Type 0} (w : World R) (m : ℕ) (t : Tick) → IsDue w m (ticked t)
-due_tick w m tick.Begin = tt
-due_tick w m tick.Resend = tt
-due_tick w m tick.CatchUp = tt
 
 -- a tick is no stop
 pub tick_cut : (m : ℕ) (t : Tick) → is_cut (event_of (event.Tick m t)) ≡ false
@@ -42,103 +40,104 @@ tick_cut m tick.Resend = refl
 tick_cut m tick.CatchUp = refl
 
 -- a tick that is a step
-pub tick_step : {R : Type 0} (Does : ℕ → Write → Option Bool → Type 0) (app : Application) (n : ℕ) (w : World R) (m : ℕ) (s : Seat R) (t : Tick) (d : Draft) → length w.seats ≡ n → IsSeat n m s → IsPlanned s (ticked t) d
-    → (v z : Whole) → Steps w s m (MayStep (Does m) app n m (ticked t)) v z → HappenedIf Does app (event_of (event.Tick m t)) v z
-tick_step Does app n w m s tick.Begin d len seat planned v z step = begins_step Does app n w s m len planned.member planned.there (seat planned.member planned.there).0 planned.due v z step
-tick_step Does app n w m s tick.Resend d len seat planned v z step = resends Does app n w s m len v z step
-tick_step Does app n w m s tick.CatchUp d len seat planned v z step = catches_up Does app n w s m len v z step
+pub tick_step : {R A : Type 0} (has_applied : List (List ℕ) → List Value → A → Type 0) (Does : ℕ → Write → Option Bool → Type 0) (app : Application) (n : ℕ) (w : World R A) (m : ℕ) (s : Seat R A) (t : Tick) (d : Draft) → length w.seats ≡ n → ((x : Node R A) → s.node ≡ Some x → x.setup.members ≡ n) → IsPlanned has_applied app s (ticked t) d
+    → (v z : Whole) → Steps has_applied w s m (MayStep (Does m) app n m (ticked t)) v z → HappenedIf Does app (event_of (event.Tick m t)) v z
+tick_step has_applied Does app n w m s tick.Begin d len seat planned v z step = begins_step has_applied Does app n w s m len planned.node planned.there (seat planned.node planned.there) planned.due v z step
+tick_step has_applied Does app n w m s tick.Resend d len seat planned v z step = resends has_applied Does app n w s m len v z step
+tick_step has_applied Does app n w m s tick.CatchUp d len seat planned v z step = catches_up has_applied Does app n w s m len v z step
 
-module _ {R : Type 0} (stands : R → Record → Record → Type 0) (is_kept : R → Type 0) (Does : ℕ → Write → Option Bool → Type 0) (silent : (j : ℕ) (w : Write) → writes w ≡ false → Does j w None)
-    (app : Application) (n : ℕ) (few : n ≤ most_members) (w : World R) (m : ℕ) (s : Seat R) (there : at w.seats m ≡ Some s) where
+module _ {R A : Type 0} (stands : R → Record → Record → Type 0) (is_kept : R → Type 0) (has_applied : List (List ℕ) → List Value → A → Type 0) (Does : ℕ → Write → Option Bool → Type 0) (silent : (j : ℕ) (w : Write) → writes w ≡ false → Does j w None)
+    (app : Application) (n : ℕ) (few : n ≤ most_members) (w : World R A) (m : ℕ) (s : Seat R A) (there : at w.seats m ≡ Some s) where
   -- a tick of which nothing comes
-  pub skipped_tick : (t : Tick) → IsSeat n m s → Skips s (ticked t) → Follows stands is_kept (Sound n) (HappenedIf Does app (event_of (event.Tick m t))) w w
-  skipped_tick tick.Begin seat skips = idle (HappenedIf Does app (Begin m)) w (λ before v sound shows. (any, silent m _ (quietly before v sound shows s.member refl), sym (one before v sound shows s.member refl)))
+  pub skipped_tick : (t : Tick) → ((x : Node R A) → s.node ≡ Some x → x.setup.members ≡ n) → Skips has_applied s (ticked t) → Follows stands is_kept has_applied (Sound n) (HappenedIf Does app (event_of (event.Tick m t))) w w
+  skipped_tick tick.Begin seat skips = idle (HappenedIf Does app (Begin m)) w (λ before v sound shows. (any, silent m _ (quietly before v sound shows s.node refl), sym (one before v sound shows s.node refl)))
     where
-      spent_there : (before : ℕ → Record) (v : Whole) → Sound n v → Shows w before v → (x : Member R) → s.member ≡ Some x
+      spent_there : (before : ℕ → Record) (v : Whole) → Sound n v → Shows has_applied w before v → (x : Node R A) → s.node ≡ Some x
           → (r : Record) × (u : Running) × (at v.members m ≡ Some (record { kept = r; running = Some u })) × (may_begin (length v.members) r u ≡ false)
       spent_there before v sound shows x q =
-          let y = part_of n few w m before v sound shows s there in
+          let y = part_of has_applied n few w m before v sound shows s there in
           let u = y.2.running x q in
-          let spent : may_begin x.members x.acceptor.kept u.0 ≡ false = ⊎_elim (λ (f : Unit {0} → ⊥). absurd (f tt)) (λ (f : (u : Running) → IsThis u x → may_begin x.members x.acceptor.kept u ≡ false). f u.0 u.2.this) (skips x q) in (
+          let spent : may_begin x.setup.members x.member.acceptor.kept u.0 ≡ false = ⊎_elim (λ (f : Unit {0} → ⊥). absurd (f tt)) (λ (f : (u : Running) → RunsAs has_applied u x → may_begin x.setup.members x.member.acceptor.kept u ≡ false). f u.0 u.2) (skips x q) in (
             y.0.kept,
             u.0,
             y.1 ∙ ap (λ o. Some (record { kept = y.0.kept; running = o })) u.1,
-            subst (λ j. may_begin j y.0.kept u.0 ≡ false) ((seat x q).0 ∙ sym sound.size) (subst (λ r. may_begin x.members r u.0 ≡ false) (sym (y.2.kept_is ∙ u.3)) spent),
+            subst (λ j. may_begin j y.0.kept u.0 ≡ false) (seat x q ∙ sym sound.size) (subst (λ r. may_begin x.setup.members r u.0 ≡ false) (sym (y.2.kept_is ∙ u.3)) spent),
           )
 
-      quietly : (before : ℕ → Record) (v : Whole) → Sound n v → Shows w before v → (o : Option (Member R)) → s.member ≡ o → writes (write_at (on_begin (length v.members) m) (at v.members m)) ≡ false
-      quietly before v sound shows None q = stopped_silent n few w m before v sound shows s there q (on_begin (length v.members) m)
+      quietly : (before : ℕ → Record) (v : Whole) → Sound n v → Shows has_applied w before v → (o : Option (Node R A)) → s.node ≡ o → writes (write_at (on_begin (length v.members) m) (at v.members m)) ≡ false
+      quietly before v sound shows None q = stopped_silent has_applied n few w m before v sound shows s there q (on_begin (length v.members) m)
       quietly before v sound shows (Some x) q =
           let t = spent_there before v sound shows x q in
           ap (λ o. writes (write_at (on_begin (length v.members) m) o)) t.2 ∙ ap (λ b. writes (if b then begins (length v.members) m t.0 t.1 else quiet t.1).write) t.3
 
-      one : (before : ℕ → Record) (v : Whole) → Sound n v → Shows w before v → (o : Option (Member R)) → s.member ≡ o → acts v m (begins_in v any m) ≡ v
-      one before v sound shows None q = stopped_still n few w m before v sound shows s there q (begins_in v any m)
+      one : (before : ℕ → Record) (v : Whole) → Sound n v → Shows has_applied w before v → (o : Option (Node R A)) → s.node ≡ o → acts v m (begins_in v any m) ≡ v
+      one before v sound shows None q = stopped_still has_applied n few w m before v sound shows s there q (begins_in v any m)
       one before v sound shows (Some x) q =
           let t = spent_there before v sound shows x q in
           acts-there v m t.0 t.1 (begins_in v any m) t.2
           ∙ ap (λ (e : Effect). Rattle.paxos.specs.World.after v m t.0 e) (ap (λ b. if b then settles (length v.members) any (begins (length v.members) m t.0 t.1) else quiet t.1) t.3)
           ∙ quiet-same v m t.0 t.1 t.2
-  skipped_tick tick.Resend seat skips = idle (HappenedIf Does app (Resend m)) w (λ before v sound shows. (any, silent m Nothing refl, sym (one before v sound shows s.member refl)))
+  skipped_tick tick.Resend seat skips = idle (HappenedIf Does app (Resend m)) w (λ before v sound shows. (any, silent m Nothing refl, sym (one before v sound shows s.node refl)))
     where
-      one : (before : ℕ → Record) (v : Whole) → Sound n v → Shows w before v → (o : Option (Member R)) → s.member ≡ o → acts v m (λ r u. settles (length v.members) any (on_resend (length v.members) m u)) ≡ v
-      one before v sound shows None q = stopped_still n few w m before v sound shows s there q (λ r u. settles (length v.members) any (on_resend (length v.members) m u))
-      one before v sound shows (Some x) q = let y = part_of n few w m before v sound shows s there in let u = y.2.running x q in
-          absurd (⊎_elim (λ (f : Unit {0} → ⊥). f tt) (λ (f : (u : Running) → IsThis u x → ⊥). f u.0 u.2.this) (skips x q))
-  skipped_tick tick.CatchUp seat skips = idle (HappenedIf Does app (CatchUp m)) w (λ before v sound shows. (any, silent m Nothing refl, sym (one before v sound shows s.member refl)))
+      one : (before : ℕ → Record) (v : Whole) → Sound n v → Shows has_applied w before v → (o : Option (Node R A)) → s.node ≡ o → acts v m (λ r u. settles (length v.members) any (on_resend (length v.members) m u)) ≡ v
+      one before v sound shows None q = stopped_still has_applied n few w m before v sound shows s there q (λ r u. settles (length v.members) any (on_resend (length v.members) m u))
+      one before v sound shows (Some x) q = let y = part_of has_applied n few w m before v sound shows s there in let u = y.2.running x q in
+          absurd (⊎_elim (λ (f : Unit {0} → ⊥). f tt) (λ (f : (u : Running) → RunsAs has_applied u x → ⊥). f u.0 u.2) (skips x q))
+  skipped_tick tick.CatchUp seat skips = idle (HappenedIf Does app (CatchUp m)) w (λ before v sound shows. (any, silent m Nothing refl, sym (one before v sound shows s.node refl)))
     where
-      one : (before : ℕ → Record) (v : Whole) → Sound n v → Shows w before v → (o : Option (Member R)) → s.member ≡ o → acts v m (λ r u. settles (length v.members) any (on_catch_up_tick (length v.members) m u)) ≡ v
-      one before v sound shows None q = stopped_still n few w m before v sound shows s there q (λ r u. settles (length v.members) any (on_catch_up_tick (length v.members) m u))
-      one before v sound shows (Some x) q = let y = part_of n few w m before v sound shows s there in let u = y.2.running x q in
-          absurd (⊎_elim (λ (f : Unit {0} → ⊥). f tt) (λ (f : (u : Running) → IsThis u x → ⊥). f u.0 u.2.this) (skips x q))
+      one : (before : ℕ → Record) (v : Whole) → Sound n v → Shows has_applied w before v → (o : Option (Node R A)) → s.node ≡ o → acts v m (λ r u. settles (length v.members) any (on_catch_up_tick (length v.members) m u)) ≡ v
+      one before v sound shows None q = stopped_still has_applied n few w m before v sound shows s there q (λ r u. settles (length v.members) any (on_catch_up_tick (length v.members) m u))
+      one before v sound shows (Some x) q = let y = part_of has_applied n few w m before v sound shows s there in let u = y.2.running x q in
+          absurd (⊎_elim (λ (f : Unit {0} → ⊥). f tt) (λ (f : (u : Running) → RunsAs has_applied u x → ⊥). f u.0 u.2) (skips x q))
 
   -- a stop of a member that is stopped
-  pub stopped_stop : s.member ≡ None → Follows stands is_kept (Sound n) (HappenedIf Does app (Stop m)) w w
-  stopped_stop none = idle (HappenedIf Does app (Stop m)) w (λ before v sound shows. (any, silent m Nothing refl, sym (stopped_still n few w m before v sound shows s there none (λ r u. stops_in false (quiet u)))))
+  pub stopped_stop : s.node ≡ None → Follows stands is_kept has_applied (Sound n) (HappenedIf Does app (Stop m)) w w
+  stopped_stop none = idle (HappenedIf Does app (Stop m)) w (λ before v sound shows. (any, silent m Nothing refl, sym (stopped_still has_applied n few w m before v sound shows s there none (λ r u. stops_in false (quiet u)))))
 
   -- and in a Begin
-  pub stopped_begin : (kept : Bool) → s.member ≡ None → Follows stands is_kept (Sound n) (HappenedIf Does app (StopInBegin m kept)) w w
+  pub stopped_begin : (kept : Bool) → s.node ≡ None → Follows stands is_kept has_applied (Sound n) (HappenedIf Does app (StopInBegin m kept)) w w
   stopped_begin kept none = idle (HappenedIf Does app (StopInBegin m kept)) w (λ before v sound shows. (
     any,
     silently kept before v sound shows,
-    sym (stopped_still n few w m before v sound shows s there none
+    sym (stopped_still has_applied n few w m before v sound shows s there none
         (λ r u. stops_in (keeps_in None kept) (on_begin (length v.members) m r u))),
   ))
     where
-      silently : (kept : Bool) (before : ℕ → Record) (v : Whole) → Sound n v → Shows w before v → Does m (write_in app v (StopInBegin m kept)) None
-      silently true before v sound shows = silent m _ (stopped_silent n few w m before v sound shows s there none (on_begin (length v.members) m))
+      silently : (kept : Bool) (before : ℕ → Record) (v : Whole) → Sound n v → Shows has_applied w before v → Does m (write_in app v (StopInBegin m kept)) None
+      silently true before v sound shows = silent m _ (stopped_silent has_applied n few w m before v sound shows s there none (on_begin (length v.members) m))
       silently false before v sound shows = silent m Nothing refl
 
   -- and in a delivery
-  pub stopped_delivery : (k : ℕ) (p : Packet) (kept : Bool) → at w.sent k ≡ Some p → p.target ≡ m → s.member ≡ None → Follows stands is_kept (Sound n) (HappenedIf Does app (StopInDeliver k kept)) w w
+  pub stopped_delivery : (k : ℕ) (p : Packet) (kept : Bool) → at w.sent k ≡ Some p → p.target ≡ m → s.node ≡ None → Follows stands is_kept has_applied (Sound n) (HappenedIf Does app (StopInDeliver k kept)) w w
   stopped_delivery k p kept is target none = idle (HappenedIf Does app (StopInDeliver k kept)) w (λ before v sound shows. (
     any,
     silently kept before v sound shows,
     sym
         (ap (delivers app v (stops_in (keeps_in None kept))) (ap (λ xs. at xs k) shows.sent ∙ is)
         ∙ subst (λ j. acts v j (λ r u. stops_in (keeps_in None kept) (on_message app (length v.members) j p r u)) ≡ v) (sym target)
-        (stopped_still n few w m before v sound shows s there none (λ r u. stops_in (keeps_in None kept) (on_message app (length v.members) m p r u)))),
+        (stopped_still has_applied n few w m before v sound shows s there none (λ r u. stops_in (keeps_in None kept) (on_message app (length v.members) m p r u)))),
   ))
     where
-      silently : (kept : Bool) (before : ℕ → Record) (v : Whole) → Sound n v → Shows w before v → Does (reader (at v.sent k)) (write_in app v (StopInDeliver k kept)) None
+      silently : (kept : Bool) (before : ℕ → Record) (v : Whole) → Sound n v → Shows has_applied w before v → Does (reader (at v.sent k)) (write_in app v (StopInDeliver k kept)) None
       silently true before v sound shows = silent (reader (at v.sent k)) _
           (ap (λ o. writes (write_upon app v o)) (ap (λ xs. at xs k) shows.sent ∙ is)
           ∙ subst (λ j. writes (write_at (on_message app (length v.members) j p) (at v.members j)) ≡ false) (sym target)
-          (stopped_silent n few w m before v sound shows s there none (on_message app (length v.members) m p)))
+          (stopped_silent has_applied n few w m before v sound shows s there none (on_message app (length v.members) m p)))
       silently false before v sound shows = silent (reader (at v.sent k)) Nothing refl
 
   -- a start of a member that runs
-  pub running_start : (x : Member R) → s.member ≡ Some x → Follows stands is_kept (Sound n) (HappenedIf Does app (Start m)) w w
+  pub running_start : (x : Node R A) → s.node ≡ Some x → Follows stands is_kept has_applied (Sound n) (HappenedIf Does app (Start m)) w w
   running_start x q = idle (HappenedIf Does app (Start m)) w (λ before v sound shows.
-      let y = part_of n few w m before v sound shows s there in
+      let y = part_of has_applied n few w m before v sound shows s there in
       let u = y.2.running x q in
       (any, silent m Nothing refl, sym (ap (starts v None m) y.1 ∙ ap (restarts v None m y.0.kept) u.1)))
 
   -- a request of a client
-  pub submitted : (q : Request) (new : World R) → new ≡ record { members = w.members; seats = w.seats; sent = w.sent ++ packet 0 (Submit q) m ∷ []; told = w.told }
-      → Follows stands is_kept (Sound n) (HappenedIf Does app (Submits m q)) w new
-  submitted q new is = subst (λ z. Follows stands is_kept (Sound n) (HappenedIf Does app (Submits m q)) w z) (sym is) (record {
+  pub submitted : (q : Request) (new : World R A) → new ≡ record { members = w.members; group = w.group; names = w.names; seats = w.seats; sent = w.sent ++ packet 0 (Submit q) m ∷ []; told = w.told }
+      → Follows stands is_kept has_applied (Sound n) (HappenedIf Does app (Submits m q)) w new
+  submitted q new is = subst (λ z. Follows stands is_kept has_applied (Sound n) (HappenedIf Does app (Submits m q)) w z) (sym is) (record {
     members = refl;
+    names = refl;
     kept = λ k. k;
     changes = λ k a b stand. (
       a,
@@ -156,13 +155,13 @@ module _ {R : Type 0} (stands : R → Record → Record → Type 0) (is_kept : R
                 told = shows.told;
                 size = shows.size;
                 parts = shows.parts;
-                no_question = λ k h. ⊎_elim (λ (o : Has w.sent k). shows.no_question k o) (λ (o : Has (packet 0 (Submit q) m ∷ []) k). asked k o) (has_cases w.sent (packet 0 (Submit q) m ∷ []) k h);
+                for_clients = λ k h. ⊎_elim (λ (o : Has w.sent k). shows.for_clients k o) (λ (o : Has (packet 0 (Submit q) m ∷ []) k). asked k o) (has_cases w.sent (packet 0 (Submit q) m ∷ []) k h);
               },
             ),
       ),
     );
   })
     where
-      asked : (k : Packet) → Has (packet 0 (Submit q) m ∷ []) k → IsNoQuestion k.body
-      asked k (inl e) = subst (λ (x : Packet). IsNoQuestion x.body) e tt
+      asked : (k : Packet) → Has (packet 0 (Submit q) m ∷ []) k → GoesToClients k
+      asked k (inl e) = λ f. absurd (subst (λ (x : Packet). IsForClients x.body) (sym e) f)
       asked k (inr o) = absurd o

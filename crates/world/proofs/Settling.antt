@@ -1,25 +1,27 @@
--- How a seat moves: each of the facts that a member's calls give makes a move.
-use Rattle.std.proofs.Common.{◌≡◌, ℕ, suc, ◌≤◌, ◌&&◌, Bool, true, false, cond, arith, refl, ◌⊎◌, inl, inr, sym, subst, ap, ap₂, ◌∙◌, Option, Some, None, Ok, Err, ⊎_elim, []}
+-- How a seat moves: each of the facts that a node's calls give makes a move.
+use Rattle.std.proofs.Common.{◌≡◌, ℕ, suc, Bool, true, false, cond, refl, ◌⊎◌, inl, inr, sym, subst, ap, ap₂, ◌∙◌, Option, Some, None, Ok, Err, ⊎_elim, List, [], map}
 use Rattle.records.specs.Law.{Fate, Grew, Went, passing}
 use Rattle.records.specs.declared.records.RecordsFault.TheVariants.{Store}
 use Rattle.acceptor.specs.Steps.{Acceptor}
-use Rattle.std.specs.Prelude.{nat_le, option_map, if◌then◌else◌}
-use Rattle.std.proofs.lemmas.Bool.{false≢true, le-leb}
+use Rattle.std.specs.Prelude.{if◌then◌else◌}
+use Rattle.std.proofs.lemmas.Bool.{false≢true}
 use Rattle.std.proofs.lemmas.Option.{none-some, same_Some}
-use Rattle.member.specs.Drafts.{IsDrafted, IsReady, IsSpent}
-use Rattle.member.specs.Steps.{Input, Member, IsHeard, IsThis, Took, all_packets, effect_of}
-use Rattle.member.specs.declared.draft.Draft.{Draft}
-use Rattle.member.specs.declared.outcome.Outcome.{Outcome}
-use Rattle.member.proofs.Keeping.{grows}
+use Rattle.ballots.specs.Terms.{Setup}
+use Rattle.ballots.specs.declared.value.Value.{Value}
+use Rattle.member.specs.Drafts.{write_in}
+use Rattle.member.specs.Steps.{Input, effect_of}
+use Rattle.node.specs.declared.draft.Draft.{Draft}
+use Rattle.node.specs.Nodes.{IsDrafted, Node, RunsAs, Steps as StepsOf, Took, posted, step_of}
+use Rattle.node.specs.declared.outbox.Outbox.{Outbox}
 use Rattle.paxos.specs.Application.{Application}
-use Rattle.paxos.specs.Knowledge.{news, prefix}
 use Rattle.paxos.specs.Records.{Record, Write, Nothing, NewPromise, NewVote, writes, written}
 use Rattle.paxos.specs.Step.{Running, Effect, quiet}
 use Rattle.paxos.specs.WellFormed.{IsRecord}
-use Rattle.paxos.specs.World.{Member as Part, Choice, applies, applies_to, settles, started, stops_in}
-use Rattle.straight_runs.proofs.Prefixes.{prefix_empty}
-use Rattle.world.specs.Seats.{Did, IsKeptAt, IsPart, IsPlanned, RunsAs, MayStart, MayStay, MayStep, MayStop, MayStopIn, Moves, Skips, Stands, part_after, store_in}
+use Rattle.paxos.specs.World.{Member as Part, Choice, applies, settles, started, stops_in}
+use Rattle.world.specs.Seats.{Did, IsKeptAt, IsPart, IsSeat, MayStart, MayStay, MayStep, MayStop, MayStopIn, Moves, Stands, part_after, store_in}
 use Rattle.world.specs.declared.seat.Seat.{Seat}
+use Rattle.world.specs.Posts.{packet_in}
+use Rattle.world.proofs.Posted.{says_all}
 
 -- what a stop leaves, that keeps a write or loses it
 abbrev left_of : Write → Record → Bool → Record
@@ -32,71 +34,45 @@ pub record Failure (stands : Record → Record → Type 0) (Does : Option Bool �
   pub stand : stands first second
   pub leaves : (r : Record) → (r ≡ first) ⊎ (r ≡ second) → (left : Bool) × (r ≡ left_of write last left) × Does (Some left)
 
--- the running that has applied all that it has learnt without a gap
-abbrev all_applied : (members : ℕ) → Running → Running
-all_applied n u = applies_to n (prefix n (news u.heard)) u
-
--- A member that took a step runs on and has applied all, where it had before.
-applied_all : {R : Type 0} (app : Application) (x y : Member R) (u : Running) (i : Input) (outcome : Outcome) (t : Took (effect_of app x.members x.number x.acceptor.kept u i) x y outcome) → u.applied ≡ prefix x.members (news u.heard)
-    → RunsAs (all_applied x.members t.running) y
-applied_all app x y u i outcome t a =
-    let g = grows app x.members x.number x.acceptor.kept u i t.running t.runs in
-    let most : t.running.applied ≤ prefix x.members (news t.running.heard) = subst (λ k. k ≤ prefix x.members (news t.running.heard)) (sym (g.1 ∙ a)) g.0 in
-    record {
-      this = record { hears = t.is_this.hears; knows = t.is_this.knows; state = record { kept = t.is_this.state.kept; leads = t.is_this.state.leads; heard = t.is_this.state.heard }; runs = t.is_this.runs };
-      applied = all_are t.running.applied (prefix x.members (news t.running.heard)) most ∙ ap (λ j. prefix j (news t.running.heard)) (sym t.members);
-    }
-  where
-    all_are : (a k : ℕ) → a ≤ k → cond (nat_le a k && nat_le k k) k a ≡ k
-    all_are a k h = rw (le-leb a k h, le-leb k k (omega arith)) refl
-
--- One that has started has nothing to apply.
-pub runs_started : {R : Type 0} (x : Member R) → IsThis started x → RunsAs started x
-runs_started x this = record { this = this; applied = sym (prefix_empty x.members) }
-
--- One to which nothing has happened has applied as much.
-pub runs_on : {R : Type 0} (x y : Member R) → y.members ≡ x.members → ((u : Running) → IsThis u x → IsThis u y) → (u : Running) → RunsAs u x → RunsAs u y
-runs_on x y same this u r = record { this = this u r.this; applied = r.applied ∙ ap (λ j. prefix j (news u.heard)) (sym same) }
-
-module _ {R : Type 0} (stands : R → Record → Record → Type 0) (is_kept : R → Type 0) (Given : Part → Type 0) (old new : Seat R) where
+module _ {R A : Type 0} (stands : R → Record → Record → Type 0) (is_kept : R → Type 0) (has_applied : List (List ℕ) → List Value → A → Type 0) (Given : Part → Type 0) (old new : Seat R A) where
   -- a member that runs on
-  module _ (x y : Member R) (there : old.member ≡ Some x) (here : new.member ≡ Some y) (kept : is_kept y.acceptor.records → is_kept x.acceptor.records) where
+  module _ (x y : Node R A) (there : old.node ≡ Some x) (here : new.node ≡ Some y) (kept : is_kept y.member.acceptor.records → is_kept x.member.acceptor.records) where
     -- its records were kept if they are
     kept_still : IsKeptAt is_kept new → IsKeptAt is_kept old
     kept_still k = record {
-      running = λ z q. subst (λ (v : Member R). is_kept v.acceptor.records) (same_Some x z (sym there ∙ q)) (kept (k.running y here));
+      running = λ z q. subst (λ (v : Node R A). is_kept v.member.acceptor.records) (same_Some x z (sym there ∙ q)) (kept (k.running y here));
       stopped = λ r q s. absurd (none-some x (sym q ∙ there));
     }
 
     -- it has kept just what it has kept
-    stands_new : Stands stands new y.acceptor.kept y.acceptor.kept
+    stands_new : Stands stands new y.member.acceptor.kept y.member.acceptor.kept
     stands_new = record {
-      running = λ z q. let e = same_Some y z (sym here ∙ q) in (ap (λ (v : Member R). v.acceptor.kept) e, ap (λ (v : Member R). v.acceptor.kept) e);
+      running = λ z q. let e = same_Some y z (sym here ∙ q) in (ap (λ (v : Node R A). v.member.acceptor.kept) e, ap (λ (v : Node R A). v.member.acceptor.kept) e);
       stopped = λ q. absurd (none-some y (sym q ∙ here));
     }
 
     -- it sits there as it runs
-    part_new : (k : Record) (z : Part) → k ≡ y.acceptor.kept → z.kept ≡ k → (u : Running) → z.running ≡ Some u → RunsAs u y → IsPart new k z
+    part_new : (k : Record) (z : Part) → k ≡ y.member.acceptor.kept → z.kept ≡ k → (u : Running) → z.running ≡ Some u → RunsAs has_applied u y → IsPart has_applied new k z
     part_new k z own q u r this = record {
       kept_is = q;
-      running = λ v h. let e = same_Some y v (sym here ∙ h) in (u, r, subst (RunsAs {R = R} u) e this, own ∙ ap (λ (w : Member R). w.acceptor.kept) e);
+      running = λ v h. let e = same_Some y v (sym here ∙ h) in (u, r, subst (RunsAs has_applied u) e this, own ∙ ap (λ (w : Node R A). w.member.acceptor.kept) e);
       stopped = λ h. absurd (none-some y (sym h ∙ here));
     }
 
     -- nothing happens to it
-    pub stays : y.acceptor.kept ≡ x.acceptor.kept → ((u : Running) → RunsAs u x → RunsAs u y) → Moves stands is_kept Given MayStay old new [] []
+    pub stays : y.member.acceptor.kept ≡ x.member.acceptor.kept → ((u : Running) → RunsAs has_applied u x → RunsAs has_applied u y) → Moves stands is_kept has_applied Given MayStay old new [] []
     stays same this = record {
       kept = kept_still;
       changes = λ k a b s. (
-        y.acceptor.kept,
-        y.acceptor.kept,
+        y.member.acceptor.kept,
+        y.member.acceptor.kept,
         stands_new,
         λ c q. (
-          x.acceptor.kept,
+          x.member.acceptor.kept,
           inl (sym (s.running x there).0),
           λ z given p.
               let u = p.running x there in
-              let c_is : c ≡ y.acceptor.kept = ⊎_elim (λ (e : c ≡ y.acceptor.kept). e) (λ (e : c ≡ y.acceptor.kept). e) q in (
+              let c_is : c ≡ y.member.acceptor.kept = ⊎_elim (λ (e : c ≡ y.member.acceptor.kept). e) (λ (e : c ≡ y.member.acceptor.kept). e) q in (
                 record { write = Nothing; running = z.running; sends = []; tells = [] },
                 refl,
                 refl,
@@ -108,146 +84,151 @@ module _ {R : Type 0} (stands : R → Record → Record → Type 0) (is_kept : R
     }
 
     -- it takes a step
-    pub steps : (Does : Write → Option Bool → Type 0) (app : Application) (n m : ℕ) (i : Input) (outcome : Outcome) (write : Write) → (x.members ≡ n) × (x.number ≡ m)
-        → ((u : Running) → IsThis u x → Took (effect_of app x.members x.number x.acceptor.kept u i) x y outcome)
-        → ((u : Running) → IsThis u x → write ≡ (effect_of app x.members x.number x.acceptor.kept u i).write)
-        → (is_kept y.acceptor.records → Does write None)
-        → Moves stands is_kept Given (MayStep Does app n m i) old new (all_packets n m outcome.sends.items) outcome.tells.items
-    steps Does app n m i outcome write place took same_write does = record {
+    pub steps : (Does : Write → Option Bool → Type 0) (app : Application) (t : Setup) (i : Input) (o : Outbox) (write : Write) → x.setup ≡ t
+        → StepsOf has_applied app i x y o
+        → ((u : Running) → RunsAs has_applied u x → write ≡ (effect_of app x.setup.members x.setup.member x.member.acceptor.kept u i).write)
+        → (is_kept y.member.acceptor.records → Does write None)
+        → Moves stands is_kept has_applied Given (MayStep Does app t.members t.member i) old new (map (packet_in t.group) (posted t.members t.member o.sent.items)) o.tells.items
+    steps Does app t i o write place took same_write does = record {
       kept = kept_still;
       changes = λ k a b s. (
-        y.acceptor.kept,
-        y.acceptor.kept,
+        y.member.acceptor.kept,
+        y.member.acceptor.kept,
         stands_new,
         λ c q. (
-          x.acceptor.kept,
+          x.member.acceptor.kept,
           inl (sym (s.running x there).0),
           λ z given p.
               let u = p.running x there in
-              let c_is : c ≡ y.acceptor.kept = ⊎_elim (λ (e : c ≡ y.acceptor.kept). e) (λ (e : c ≡ y.acceptor.kept). e) q in
-              moved c c_is z p.kept_is u.0 u.1 u.2.applied (took u.0 u.2.this) (same_write u.0 u.2.this) (does (k.running y here)),
+              let c_is : c ≡ y.member.acceptor.kept = ⊎_elim (λ (e : c ≡ y.member.acceptor.kept). e) (λ (e : c ≡ y.member.acceptor.kept). e) q in
+              let step = took u.0 u.2 in
+              moved c c_is z p.kept_is u.0 u.1 step.0 step.1 (same_write u.0 u.2) (does (k.running y here)),
         ),
       );
     }
       where
-        moved : (c : Record) → c ≡ y.acceptor.kept → (z : Part) → z.kept ≡ x.acceptor.kept → (u : Running) → z.running ≡ Some u → u.applied ≡ prefix x.members (news u.heard)
-            → Took (effect_of app x.members x.number x.acceptor.kept u i) x y outcome → write ≡ (effect_of app x.members x.number x.acceptor.kept u i).write → Does write None
-            → (e : Effect) × MayStep Does app n m i z e × (e.sends ≡ all_packets n m outcome.sends.items) × (e.tells ≡ outcome.tells.items) × IsPart new c (part_after z e)
-        moved c c_is z z_is u r a t w d = (
-          settles n choice (effect_of app n m z.kept u i),
-          (u, r, choice, subst (λ v. Does v None) (w ∙ sym (ap (λ (e : Effect). e.write) same)) d, refl),
-          ap (λ (e : Effect). e.sends) same ∙ t.sends ∙ (rw place.0 (rw place.1 refl)),
-          ap (λ (e : Effect). e.tells) same ∙ t.tells,
-          part_new c (part_after z (settles n choice (effect_of app n m z.kept u i))) c_is
-              (ap₂ written (ap (λ (e : Effect). e.write) same) z_is ∙ sym t.record_is ∙ sym c_is)
-              (all_applied x.members t.running)
-              (ap (λ (e : Effect). option_map (applies_to n choice.applied) e.running) same ∙ ap (option_map (applies_to n choice.applied)) t.runs ∙ rw place.0 refl)
-              (applied_all app x y u i outcome t a),
+        moved : (c : Record) → c ≡ y.member.acceptor.kept → (z : Part) → z.kept ≡ x.member.acceptor.kept → (u : Running) → z.running ≡ Some u → (j : ℕ) → Took has_applied (step_of app x u i j) x y o
+            → write ≡ (effect_of app x.setup.members x.setup.member x.member.acceptor.kept u i).write → Does write None
+            → (e : Effect) × MayStep Does app t.members t.member i z e × (e.sends ≡ map (packet_in t.group) (posted t.members t.member o.sent.items)) × (e.tells ≡ o.tells.items) × IsPart has_applied new c (part_after z e)
+        moved c c_is z z_is u r j took_so w d = (
+          settles t.members choice (effect_of app t.members t.member z.kept u i),
+          (u, r, choice, subst (λ v. Does v None) (w ∙ sym (ap (λ (e : Effect). e.write) alike)) d, refl),
+          ap (λ (e : Effect). e.sends) same ∙ sym (says_all x.setup.group (step_of app x u i j).sends took_so.reads) ∙ ap (map (packet_in x.setup.group)) took_so.sends
+              ∙ ap (λ (v : Setup). map (packet_in v.group) (posted v.members v.member o.sent.items)) place,
+          ap (λ (e : Effect). e.tells) same ∙ took_so.tells,
+          part_new c (part_after z (settles t.members choice (effect_of app t.members t.member z.kept u i))) c_is
+              (ap₂ written (ap (λ (e : Effect). e.write) same) z_is ∙ sym took_so.record_is ∙ sym c_is)
+              took_so.running
+              (ap (λ (e : Effect). e.running) same ∙ took_so.runs)
+              took_so.runs_as,
         )
           where
             choice : Choice
-            choice = record { fails = None; applied = prefix n (news t.running.heard) }
+            choice = record { fails = None; applied = j }
 
-            same : effect_of app n m z.kept u i ≡ effect_of app x.members x.number x.acceptor.kept u i
-            same = rw (sym place.0) (rw (sym place.1) (rw z_is refl))
+            alike : effect_of app t.members t.member z.kept u i ≡ effect_of app x.setup.members x.setup.member x.member.acceptor.kept u i
+            alike = rw (sym place) (rw z_is refl)
+
+            same : settles t.members choice (effect_of app t.members t.member z.kept u i) ≡ step_of app x u i j
+            same = rw (sym place) (rw z_is refl)
 
   -- a member that stops, and leaves its records
-  module _ (x : Member R) (r : R) (there : old.member ≡ Some x) (empty : new.member ≡ None) (left : new.records ≡ Some r) (kept : is_kept r → is_kept x.acceptor.records) where
+  module _ (x : Node R A) (r : Setup × R) (there : old.node ≡ Some x) (empty : new.node ≡ None) (left : new.left ≡ Some r) (kept : is_kept r.1 → is_kept x.member.acceptor.records) where
     -- the records were kept if they are
     kept_before : IsKeptAt is_kept new → IsKeptAt is_kept old
     kept_before k = record {
-      running = λ z q. subst (λ (v : Member R). is_kept v.acceptor.records) (same_Some x z (sym there ∙ q)) (kept (k.stopped r empty left));
+      running = λ z q. subst (λ (v : Node R A). is_kept v.member.acceptor.records) (same_Some x z (sym there ∙ q)) (kept (k.stopped r empty left));
       stopped = λ q h. absurd (none-some x (sym h ∙ there));
     }
 
     -- these records stand
-    stands_left : (a b : Record) → stands r a b → Stands stands new a b
+    stands_left : (a b : Record) → stands r.1 a b → Stands stands new a b
     stands_left a b s = record { running = λ z q. absurd (none-some z (sym empty ∙ q)); stopped = λ q. (r, left, s) }
 
     -- a stopped member sits there
-    part_left : (k : Record) (z : Part) → z.kept ≡ k → z.running ≡ None → IsPart new k z
+    part_left : (k : Record) (z : Part) → z.kept ≡ k → z.running ≡ None → IsPart has_applied new k z
     part_left k z q h = record { kept_is = q; running = λ v e. absurd (none-some v (sym empty ∙ e)); stopped = λ e. h }
 
     -- it stops
-    pub stops : (is_kept r → stands r x.acceptor.kept x.acceptor.kept) → Moves stands is_kept Given MayStop old new [] []
+    pub stops : (is_kept r.1 → stands r.1 x.member.acceptor.kept x.member.acceptor.kept) → Moves stands is_kept has_applied Given MayStop old new [] []
     stops law = record {
       kept = kept_before;
       changes = λ k a b s. (
-        x.acceptor.kept,
-        x.acceptor.kept,
-        stands_left x.acceptor.kept x.acceptor.kept (law (k.stopped r empty left)),
+        x.member.acceptor.kept,
+        x.member.acceptor.kept,
+        stands_left x.member.acceptor.kept x.member.acceptor.kept (law (k.stopped r empty left)),
         λ c q. (
-          x.acceptor.kept,
+          x.member.acceptor.kept,
           inl (sym (s.running x there).0),
           λ z given p.
               let u = p.running x there in
-              let c_is : c ≡ x.acceptor.kept = ⊎_elim (λ (e : c ≡ x.acceptor.kept). e) (λ (e : c ≡ x.acceptor.kept). e) q in
+              let c_is : c ≡ x.member.acceptor.kept = ⊎_elim (λ (e : c ≡ x.member.acceptor.kept). e) (λ (e : c ≡ x.member.acceptor.kept). e) q in
               (stops_in false (quiet u.0), (u.0, u.1, refl), refl, refl, part_left c (part_after z (stops_in false (quiet u.0))) (p.kept_is ∙ sym c_is) refl),
         ),
       );
     }
 
     -- it stops in a write that is kept
-    pub stops_in_write : (Does : Write → Option Bool → Type 0) (app : Application) (n m : ℕ) (i : Input) (now : Record) (write : Write) → (x.members ≡ n) × (x.number ≡ m)
-        → ((u : Running) → IsThis u x → now ≡ written (effect_of app x.members x.number x.acceptor.kept u i).write x.acceptor.kept)
-        → ((u : Running) → IsThis u x → write ≡ (effect_of app x.members x.number x.acceptor.kept u i).write)
-        → (is_kept r → stands r now now) → (is_kept r → Does write None)
-        → Moves stands is_kept Given (MayStopIn Does app n m i true) old new [] []
-    stops_in_write Does app n m i now write place wrote same_write law does = record {
+    pub stops_in_write : (Does : Write → Option Bool → Type 0) (app : Application) (t : Setup) (i : Input) (now : Record) (write : Write) → x.setup ≡ t
+        → ((u : Running) → RunsAs has_applied u x → now ≡ written (effect_of app x.setup.members x.setup.member x.member.acceptor.kept u i).write x.member.acceptor.kept)
+        → ((u : Running) → RunsAs has_applied u x → write ≡ (effect_of app x.setup.members x.setup.member x.member.acceptor.kept u i).write)
+        → (is_kept r.1 → stands r.1 now now) → (is_kept r.1 → Does write None)
+        → Moves stands is_kept has_applied Given (MayStopIn Does app t.members t.member i true) old new [] []
+    stops_in_write Does app t i now write place wrote same_write law does = record {
       kept = kept_before;
       changes = λ k a b s. (
         now,
         now,
         stands_left now now (law (k.stopped r empty left)),
         λ c q. (
-          x.acceptor.kept,
+          x.member.acceptor.kept,
           inl (sym (s.running x there).0),
           λ z given p.
               let u = p.running x there in
               let c_is : c ≡ now = ⊎_elim (λ (e : c ≡ now). e) (λ (e : c ≡ now). e) q in
-              let effect = effect_of app n m z.kept u.0 i in (
+              let effect = effect_of app t.members t.member z.kept u.0 i in (
                 stops_in true effect,
-                (u.0, u.1, None, subst (λ v. Does v None) (same_write u.0 u.2.this ∙ sym (ap (λ (e : Effect). e.write) (alike z p.kept_is u.0))) (does (k.stopped r empty left)), refl),
+                (u.0, u.1, None, subst (λ v. Does v None) (same_write u.0 u.2 ∙ sym (ap (λ (e : Effect). e.write) (alike z p.kept_is u.0))) (does (k.stopped r empty left)), refl),
                 refl,
                 refl,
                 part_left c (part_after z (stops_in true effect))
-                    (same z p.kept_is u.0 ∙ sym (wrote u.0 u.2.this) ∙ sym c_is) refl,
+                    (same z p.kept_is u.0 ∙ sym (wrote u.0 u.2) ∙ sym c_is) refl,
               ),
         ),
       );
     }
       where
-        alike : (z : Part) → z.kept ≡ x.acceptor.kept → (u : Running) → effect_of app n m z.kept u i ≡ effect_of app x.members x.number x.acceptor.kept u i
-        alike z z_is u = rw (sym place.0) (rw (sym place.1) (rw z_is refl))
+        alike : (z : Part) → z.kept ≡ x.member.acceptor.kept → (u : Running) → effect_of app t.members t.member z.kept u i ≡ effect_of app x.setup.members x.setup.member x.member.acceptor.kept u i
+        alike z z_is u = rw (sym place) (rw z_is refl)
 
-        same : (z : Part) → z.kept ≡ x.acceptor.kept → (u : Running)
-            → written (effect_of app n m z.kept u i).write z.kept ≡ written (effect_of app x.members x.number x.acceptor.kept u i).write x.acceptor.kept
-        same z z_is u = rw (sym place.0) (rw (sym place.1) (rw z_is refl))
+        same : (z : Part) → z.kept ≡ x.member.acceptor.kept → (u : Running)
+            → written (effect_of app t.members t.member z.kept u i).write z.kept ≡ written (effect_of app x.setup.members x.setup.member x.member.acceptor.kept u i).write x.member.acceptor.kept
+        same z z_is u = rw (sym place) (rw z_is refl)
 
     -- its store fails, in a step or in a stop that keeps its write
-    module _ (Does : Write → Option Bool → Type 0) (app : Application) (n m : ℕ) (i : Input) (write : Write) (place : (x.members ≡ n) × (x.number ≡ m))
-        (same_write : (u : Running) → IsThis u x → write ≡ (effect_of app x.members x.number x.acceptor.kept u i).write)
-        (failure : is_kept r → Failure (stands r) (Does write) x.acceptor.kept write) where
+    module _ (Does : Write → Option Bool → Type 0) (app : Application) (t : Setup) (i : Input) (write : Write) (place : x.setup ≡ t)
+        (same_write : (u : Running) → RunsAs has_applied u x → write ≡ (effect_of app x.setup.members x.setup.member x.member.acceptor.kept u i).write)
+        (failure : is_kept r.1 → Failure (stands r.1) (Does write) x.member.acceptor.kept write) where
       -- one of the two records
       abbrev left_by : Bool → Record
-      left_by left = left_of write x.acceptor.kept left
+      left_by left = left_of write x.member.acceptor.kept left
 
-      same_effect : (z : Part) → z.kept ≡ x.acceptor.kept → (u : Running) → effect_of app n m z.kept u i ≡ effect_of app x.members x.number x.acceptor.kept u i
-      same_effect z z_is u = rw (sym place.0) (rw (sym place.1) (rw z_is refl))
+      same_effect : (z : Part) → z.kept ≡ x.member.acceptor.kept → (u : Running) → effect_of app t.members t.member z.kept u i ≡ effect_of app x.setup.members x.setup.member x.member.acceptor.kept u i
+      same_effect z z_is u = rw (sym place) (rw z_is refl)
 
       -- what may be left is left by a stop
-      left_in : (left : Bool) (c : Record) → c ≡ left_by left → (z : Part) → z.kept ≡ x.acceptor.kept → (u : Running) → IsThis u x
-          → IsPart new c (part_after z (stops_in left (effect_of app n m z.kept u i)))
-      left_in true c q z z_is u this = part_left c (part_after z (stops_in true (effect_of app n m z.kept u i)))
+      left_in : (left : Bool) (c : Record) → c ≡ left_by left → (z : Part) → z.kept ≡ x.member.acceptor.kept → (u : Running) → RunsAs has_applied u x
+          → IsPart has_applied new c (part_after z (stops_in left (effect_of app t.members t.member z.kept u i)))
+      left_in true c q z z_is u this = part_left c (part_after z (stops_in true (effect_of app t.members t.member z.kept u i)))
           (ap₂ written (ap (λ (e : Effect). e.write) (same_effect z z_is u) ∙ sym (same_write u this)) z_is ∙ sym q) refl
-      left_in false c q z z_is u this = part_left c (part_after z (stops_in false (effect_of app n m z.kept u i))) (z_is ∙ sym q) refl
+      left_in false c q z z_is u this = part_left c (part_after z (stops_in false (effect_of app t.members t.member z.kept u i))) (z_is ∙ sym q) refl
 
       -- what its store does with what is written
-      does_so : (left : Bool) → Does write (Some left) → (z : Part) → z.kept ≡ x.acceptor.kept → (u : Running) → IsThis u x → Does (effect_of app n m z.kept u i).write (Some left)
+      does_so : (left : Bool) → Does write (Some left) → (z : Part) → z.kept ≡ x.member.acceptor.kept → (u : Running) → RunsAs has_applied u x → Does (effect_of app t.members t.member z.kept u i).write (Some left)
       does_so left d z z_is u this = subst (λ v. Does v (Some left)) (same_write u this ∙ sym (ap (λ (e : Effect). e.write) (same_effect z z_is u))) d
 
       -- in a step that writes
-      pub fails_in_step : writes write ≡ true → Moves stands is_kept Given (MayStep Does app n m i) old new [] []
+      pub fails_in_step : writes write ≡ true → Moves stands is_kept has_applied Given (MayStep Does app t.members t.member i) old new [] []
       fails_in_step w = record {
         kept = kept_before;
         changes = λ k a b s.
@@ -256,32 +237,32 @@ module _ {R : Type 0} (stands : R → Record → Record → Type 0) (is_kept : R
               f.second,
               stands_left f.first f.second f.stand,
               λ c q. (
-                x.acceptor.kept,
+                x.member.acceptor.kept,
                 inl (sym (s.running x there).0),
                 λ z given p.
                     let u = p.running x there in
                     let l = f.leaves c q in
-                    failed c z p.kept_is u.0 u.1 u.2.this l.0 l.1 l.2,
+                    failed c z p.kept_is u.0 u.1 u.2 l.0 l.1 l.2,
               ),
             );
       }
         where
-          failed : (c : Record) (z : Part) → z.kept ≡ x.acceptor.kept → (u : Running) → z.running ≡ Some u → IsThis u x → (left : Bool) → c ≡ left_by left → Does write (Some left)
-              → (e : Effect) × MayStep Does app n m i z e × (e.sends ≡ []) × (e.tells ≡ []) × IsPart new c (part_after z e)
+          failed : (c : Record) (z : Part) → z.kept ≡ x.member.acceptor.kept → (u : Running) → z.running ≡ Some u → RunsAs has_applied u x → (left : Bool) → c ≡ left_by left → Does write (Some left)
+              → (e : Effect) × MayStep Does app t.members t.member i z e × (e.sends ≡ []) × (e.tells ≡ []) × IsPart has_applied new c (part_after z e)
           failed c z z_is u runs this left q d =
               let choice : Choice = record { fails = Some left; applied = 0 } in
-              let effect = effect_of app n m z.kept u i in
+              let effect = effect_of app t.members t.member z.kept u i in
               let does : writes effect.write ≡ true = ap (λ (e : Effect). writes e.write) (same_effect z z_is u) ∙ ap writes (sym (same_write u this)) ∙ w in
-              let stopped : settles n choice effect ≡ stops_in left effect = ap (λ t. applies n 0 (if t then stops_in left effect else effect)) does in (
-                settles n choice effect,
+              let stopped : settles t.members choice effect ≡ stops_in left effect = ap (λ b. applies t.members 0 (if b then stops_in left effect else effect)) does in (
+                settles t.members choice effect,
                 (u, runs, choice, does_so left d z z_is u this, refl),
                 ap (λ (e : Effect). e.sends) stopped,
                 ap (λ (e : Effect). e.tells) stopped,
-                subst (λ (e : Effect). IsPart new c (part_after z e)) (sym stopped) (left_in left c q z z_is u this),
+                subst (λ (e : Effect). IsPart has_applied new c (part_after z e)) (sym stopped) (left_in left c q z z_is u this),
               )
 
       -- in a stop that was to keep its write
-      pub fails_in_stop : Moves stands is_kept Given (MayStopIn Does app n m i true) old new [] []
+      pub fails_in_stop : Moves stands is_kept has_applied Given (MayStopIn Does app t.members t.member i true) old new [] []
       fails_in_stop = record {
         kept = kept_before;
         changes = λ k a b s.
@@ -290,42 +271,42 @@ module _ {R : Type 0} (stands : R → Record → Record → Type 0) (is_kept : R
               f.second,
               stands_left f.first f.second f.stand,
               λ c q. (
-                x.acceptor.kept,
+                x.member.acceptor.kept,
                 inl (sym (s.running x there).0),
                 λ z given p.
                     let u = p.running x there in
                     let l = f.leaves c q in
-                    (stops_in l.0 (effect_of app n m z.kept u.0 i), (u.0, u.1, Some l.0, does_so l.0 l.2 z p.kept_is u.0 u.2.this, refl), refl, refl, left_in l.0 c l.1 z p.kept_is u.0 u.2.this),
+                    (stops_in l.0 (effect_of app t.members t.member z.kept u.0 i), (u.0, u.1, Some l.0, does_so l.0 l.2 z p.kept_is u.0 u.2, refl), refl, refl, left_in l.0 c l.1 z p.kept_is u.0 u.2),
               ),
             );
       }
 
   -- a member that starts from the records that were left
-  module _ (x : Member R) (r : R) (empty : old.member ≡ None) (left : old.records ≡ Some r) (here : new.member ≡ Some x) (kept : is_kept x.acceptor.records → is_kept r) where
+  module _ (x : Node R A) (r : Setup × R) (empty : old.node ≡ None) (left : old.left ≡ Some r) (here : new.node ≡ Some x) (kept : is_kept x.member.acceptor.records → is_kept r.1) where
     -- the records were kept if they are
     kept_then : IsKeptAt is_kept new → IsKeptAt is_kept old
     kept_then k = record {
       running = λ z q. absurd (none-some z (sym empty ∙ q));
-      stopped = λ s h q. subst is_kept (same_Some r s (sym left ∙ q)) (kept (k.running x here));
+      stopped = λ s h q. subst (λ (p : Setup × R). is_kept p.1) (same_Some r s (sym left ∙ q)) (kept (k.running x here));
     }
 
     -- it starts
-    pub starts : (Does : Write → Option Bool → Type 0) (n : ℕ) → Does Nothing None → x.members ≡ n → ((z : Part) → Given z → IsRecord n z.kept) → (IsRecord x.members x.acceptor.kept → IsThis started x)
-        → (is_kept x.acceptor.records → (a b : Record) → stands r a b → (x.acceptor.kept ≡ a) ⊎ (x.acceptor.kept ≡ b))
-        → Moves stands is_kept Given (MayStart Does) old new [] []
-    starts Does n does place fits is_started loaded = record {
+    pub starts : (Does : Write → Option Bool → Type 0) (n : ℕ) → Does Nothing None → ((z : Part) → Given z → IsRecord n z.kept) → (IsRecord n x.member.acceptor.kept → RunsAs has_applied started x)
+        → (is_kept x.member.acceptor.records → (a b : Record) → stands r.1 a b → (x.member.acceptor.kept ≡ a) ⊎ (x.member.acceptor.kept ≡ b))
+        → Moves stands is_kept has_applied Given (MayStart Does) old new [] []
+    starts Does n does fits is_started loaded = record {
       kept = kept_then;
       changes = λ k a b s.
           let t = s.stopped empty in
-          let own : (x.acceptor.kept ≡ a) ⊎ (x.acceptor.kept ≡ b) = loaded (k.running x here) a b (subst (λ v. stands v a b) (same_Some t.0 r (sym t.1 ∙ left)) t.2) in (
-            x.acceptor.kept,
-            x.acceptor.kept,
+          let own : (x.member.acceptor.kept ≡ a) ⊎ (x.member.acceptor.kept ≡ b) = loaded (k.running x here) a b (subst (λ (v : Setup × R). stands v.1 a b) (same_Some t.0 r (sym t.1 ∙ left)) t.2) in (
+            x.member.acceptor.kept,
+            x.member.acceptor.kept,
             now,
             λ c q. (
-              x.acceptor.kept,
+              x.member.acceptor.kept,
               own,
               λ z given p.
-                  let c_is : c ≡ x.acceptor.kept = ⊎_elim (λ (e : c ≡ x.acceptor.kept). e) (λ (e : c ≡ x.acceptor.kept). e) q in (
+                  let c_is : c ≡ x.member.acceptor.kept = ⊎_elim (λ (e : c ≡ x.member.acceptor.kept). e) (λ (e : c ≡ x.member.acceptor.kept). e) q in (
                     quiet started,
                     (p.stopped empty, inl (does, refl)),
                     refl,
@@ -335,9 +316,8 @@ module _ {R : Type 0} (stands : R → Record → Record → Type 0) (is_kept : R
                       running = λ v h. let e = same_Some x v (sym here ∙ h) in (
                         started,
                         refl,
-                        subst (RunsAs {R = R} started) e
-                            (runs_started x (is_started (subst (λ w. IsRecord w x.acceptor.kept) (sym place) (subst (IsRecord n) p.kept_is (fits z given))))),
-                        c_is ∙ ap (λ (w : Member R). w.acceptor.kept) e,
+                        subst (RunsAs has_applied started) e (is_started (subst (IsRecord n) p.kept_is (fits z given))),
+                        c_is ∙ ap (λ (w : Node R A). w.member.acceptor.kept) e,
                       );
                       stopped = λ h. absurd (none-some x (sym h ∙ here));
                     },
@@ -346,22 +326,22 @@ module _ {R : Type 0} (stands : R → Record → Record → Type 0) (is_kept : R
           );
     }
       where
-        now : Stands stands new x.acceptor.kept x.acceptor.kept
+        now : Stands stands new x.member.acceptor.kept x.member.acceptor.kept
         now = record {
-          running = λ z q. let e = same_Some x z (sym here ∙ q) in (ap (λ (v : Member R). v.acceptor.kept) e, ap (λ (v : Member R). v.acceptor.kept) e);
+          running = λ z q. let e = same_Some x z (sym here ∙ q) in (ap (λ (v : Node R A). v.member.acceptor.kept) e, ap (λ (v : Node R A). v.member.acceptor.kept) e);
           stopped = λ q. absurd (none-some x (sym q ∙ here));
         }
 
   -- a stopped member whose records are lent to a store that fails, or that finds no memory
-  module _ (r s : R) (empty : old.member ≡ None) (left : old.records ≡ Some r) (still : new.member ≡ None) (back : new.records ≡ Some s) (kept : is_kept s → is_kept r)
-      (crash : is_kept s → (a b : Record) → stands r a b → stands s a b) where
+  module _ (r s : Setup × R) (empty : old.node ≡ None) (left : old.left ≡ Some r) (still : new.node ≡ None) (back : new.left ≡ Some s) (kept : is_kept s.1 → is_kept r.1)
+      (crash : is_kept s.1 → (a b : Record) → stands r.1 a b → stands s.1 a b) where
     -- a move in which nothing changes
     idle : (May : Part → Effect → Type 0) → ((z : Part) → z.running ≡ None → May z (record { write = Nothing; running = z.running; sends = []; tells = [] }))
-        → Moves stands is_kept Given May old new [] []
+        → Moves stands is_kept has_applied Given May old new [] []
     idle May may = record {
       kept = λ k. record {
         running = λ z q. absurd (none-some z (sym empty ∙ q));
-        stopped = λ v h q. subst is_kept (same_Some r v (sym left ∙ q)) (kept (k.stopped s still back));
+        stopped = λ v h q. subst (λ (p : Setup × R). is_kept p.1) (same_Some r v (sym left ∙ q)) (kept (k.stopped s still back));
       };
       changes = λ k a b p.
           let t = p.stopped empty in (
@@ -369,7 +349,7 @@ module _ {R : Type 0} (stands : R → Record → Record → Type 0) (is_kept : R
             b,
             record {
               running = λ z q. absurd (none-some z (sym still ∙ q));
-              stopped = λ h. (s, back, crash (k.stopped s still back) a b (subst (λ v. stands v a b) (same_Some t.0 r (sym t.1 ∙ left)) t.2));
+              stopped = λ h. (s, back, crash (k.stopped s still back) a b (subst (λ (v : Setup × R). stands v.1 a b) (same_Some t.0 r (sym t.1 ∙ left)) t.2));
             },
             λ c q. (
               c,
@@ -390,45 +370,34 @@ module _ {R : Type 0} (stands : R → Record → Record → Type 0) (is_kept : R
     }
 
     -- no memory was found
-    pub idle_stays : Moves stands is_kept Given MayStay old new [] []
+    pub idle_stays : Moves stands is_kept has_applied Given MayStay old new [] []
     idle_stays = idle MayStay (λ z h. refl)
 
     -- the store failed to give the record
-    pub idle_starts : (Does : Write → Option Bool → Type 0) → Does Nothing (Some false) → Moves stands is_kept Given (MayStart Does) old new [] []
+    pub idle_starts : (Does : Write → Option Bool → Type 0) → Does Nothing (Some false) → Moves stands is_kept has_applied Given (MayStart Does) old new [] []
     idle_starts Does does = idle (MayStart Does) (λ z h. (h, inr (does, refl)))
 
 -- Where nobody sits nothing is shown.
-pub nobody : {R : Type 0} (stands : R → Record → Record → Type 0) (is_kept : R → Type 0) (Given : Part → Type 0) (May : Part → Effect → Type 0) (old new : Seat R)
-    → old.member ≡ None → old.records ≡ None → Moves stands is_kept Given May old new [] []
-nobody stands is_kept Given May old new empty none = record {
+pub nobody : {R A : Type 0} (stands : R → Record → Record → Type 0) (is_kept : R → Type 0) (has_applied : List (List ℕ) → List Value → A → Type 0) (Given : Part → Type 0) (May : Part → Effect → Type 0) (old new : Seat R A)
+    → old.node ≡ None → old.left ≡ None → Moves stands is_kept has_applied Given May old new [] []
+nobody stands is_kept has_applied Given May old new empty none = record {
   kept = λ k. record { running = λ z q. absurd (none-some z (sym empty ∙ q)); stopped = λ r h q. absurd (none-some r (sym none ∙ q)) };
   changes = λ k a b s. let t = s.stopped empty in absurd (none-some t.0 (sym none ∙ t.1));
 }
 
 -- A seat at which nothing happens.
-pub same_seat : {R : Type 0} (stands : R → Record → Record → Type 0) (is_kept : R → Type 0) (Given : Part → Type 0) (old : Seat R) → Moves stands is_kept Given MayStay old old [] []
-same_seat stands is_kept Given old = record {
+pub same_seat : {R A : Type 0} (stands : R → Record → Record → Type 0) (is_kept : R → Type 0) (has_applied : List (List ℕ) → List Value → A → Type 0) (Given : Part → Type 0) (old : Seat R A) → Moves stands is_kept has_applied Given MayStay old old [] []
+same_seat stands is_kept has_applied Given old = record {
   kept = λ k. k;
   changes = λ k a b s. (a, b, s, λ c q. (c, q, λ z given p. (record { write = Nothing; running = z.running; sends = []; tells = [] }, refl, refl, refl, p)));
 }
 
--- what a member drafted is planned at its seat
-pub planned : {R : Type 0} (y : Member R) (d : Draft) (i j : Input) (s : Seat R) → s.member ≡ Some y → i ≡ j
-    → IsDrafted i y d × IsReady y d × ((u : Running) → IsThis u y → IsSpent y u i → ⊥) → IsPlanned s j d
-planned {R} y d i j s there q h = subst (λ k. IsPlanned {R = R} s k d) q (record { member = y; there = there; drafted = h.0; ready = h.1; due = h.2 })
-
--- what it skips is skipped there
-pub skipped : {R : Type 0} (y : Member R) (i j : Input) (s : Seat R) → s.member ≡ Some y → i ≡ j
-    → (IsHeard y.members i → ⊥) ⊎ ((u : Running) → IsThis u y → IsSpent y u i) → Skips s j
-skipped {R} y i j s there q h = λ x here. subst (λ (z : Member R). (IsHeard z.members j → ⊥) ⊎ ((u : Running) → IsThis u z → IsSpent z u j)) (same_Some y x (sym there ∙ here))
-    (subst (λ k. (IsHeard y.members k → ⊥) ⊎ ((u : Running) → IsThis u y → IsSpent y u k)) q h)
-
 -- the store of a running member, and of a stopped one
-pub store_running : {R : Type 0} (s : Seat R) (x : Member R) → s.member ≡ Some x → store_in s ≡ Some x.acceptor.records
+pub store_running : {R A : Type 0} (s : Seat R A) (x : Node R A) → s.node ≡ Some x → store_in s ≡ Some x.member.acceptor.records
 store_running s x is = rw is refl
 
-pub store_stopped : {R : Type 0} (s : Seat R) (r : R) → s.member ≡ None → s.records ≡ Some r → store_in s ≡ Some r
-store_stopped s r none left = rw none left
+pub store_stopped : {R A : Type 0} (s : Seat R A) (p : Setup × R) → s.node ≡ None → s.left ≡ Some p → store_in s ≡ Some p.1
+store_stopped s p none left = rw none (rw left refl)
 
 module _ {R : Type 0} (failed : R → ℕ) (fates : R → ℕ → Fate) where
   -- what one store did, seats have done that hold it
@@ -513,3 +482,19 @@ grew {R} failed {old} {new} runs cause = ⊎_elim
     (λ (p : (old.is_stopped ≡ true) × (new ≡ old)). absurd (false≢true (sym runs ∙ p.0)))
     (λ (p : (old.is_stopped ≡ false) × Grew (failed old.records) (failed new.records)). p.1)
     cause
+
+-- a node that runs on sits there still
+pub runs_still : {R A : Type 0} (t : Setup) (old new : Seat R A) (y : Node R A) → new.node ≡ Some y → new.left ≡ old.left → y.setup ≡ t → y.member.acceptor.is_stopped ≡ false → IsSeat t old → IsSeat t new
+runs_still t old new y there left setup runs seat = record {
+  running = λ z q. let e = same_Some y z (sym there ∙ q) in (subst (λ v. v.setup ≡ t) e setup, subst (λ v. v.member.acceptor.is_stopped ≡ false) e runs);
+  stopped = λ p q. seat.stopped p (sym left ∙ q);
+}
+
+module _ {R A : Type 0} (has_applied : List (List ℕ) → List Value → A → Type 0) (meaning : List (List ℕ) → Application) (t : Setup) (i : Input) (x : Node R A) (d : Draft) (setup : x.setup ≡ t) (drafted : IsDrafted has_applied (meaning t.names) i x d) where
+  -- what a draft writes is what the step does
+  pub planned_write : (u : Running) → RunsAs has_applied u x → write_in d.member.change ≡ (effect_of (meaning t.names) x.setup.members x.setup.member x.member.acceptor.kept u i).write
+  planned_write u r = sym (drafted.plans u r).write
+
+  -- what is made of a draft is the step of its input
+  pub steps_of : (y : Node R A) (o : Outbox) → ((j : Input) → IsDrafted has_applied (meaning x.setup.names) j x d → StepsOf has_applied (meaning x.setup.names) j x y o) → StepsOf has_applied (meaning t.names) i x y o
+  steps_of y o took = subst (λ v. StepsOf has_applied (meaning v.names) i x y o) setup (took i (subst (λ v. IsDrafted has_applied (meaning v.names) i x d) (sym setup) drafted))

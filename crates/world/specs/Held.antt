@@ -10,17 +10,17 @@ use Rattle.world.specs.Shown.{World, AreSeats}
 use Rattle.world.specs.declared.state.State.{State}
 
 -- the world that is held
-abbrev pub shown : {R : Type 0} → State R → World R
-shown x = record { members = x.members; seats = x.seats.items; sent = sent_in x.mail; told = told_in x.told.items }
+abbrev pub shown : {R A : Type 0} → State R A → World R A
+shown x = record { members = x.members; group = x.group; names = x.names; seats = x.seats.items; sent = sent_in x.group x.mail; told = told_in x.told.items }
 
 -- There are 1 to 63 members, each at its place, and each message is there.
-pub record IsHeld {R : Type 0} (x : State R) : Type 0 where
+pub record IsHeld {R A : Type 0} (x : State R A) : Type 0 where
   pub least : 1 ≤ x.members
   pub most : x.members ≤ most_members
   pub size : length x.seats.items ≡ x.members
-  pub seats : AreSeats x.members x.seats.items
+  pub seats : AreSeats (shown x)
   pub whole : IsWhole x.mail
 
 -- the delivery of a number goes to a member that there is, and its message is there
-abbrev pub IsDeliveryOf : {R : Type 0} → World R → (number : ℕ) → Mail → Delivery → Type 0
-IsDeliveryOf w k mail d = (1 ≤ d.target) × (d.target ≤ w.members) × (d.message < length mail.messages.items) × (at (sent_in mail) k ≡ Some (packet_of mail.messages.items d))
+abbrev pub IsDeliveryOf : {R A : Type 0} → World R A → (number : ℕ) → Mail → Delivery → Type 0
+IsDeliveryOf w k mail d = (1 ≤ d.target) × (d.target ≤ w.members) × (d.message < length mail.messages.items) × (at (sent_in w.group mail) k ≡ Some (packet_of w.group mail.messages.items d))

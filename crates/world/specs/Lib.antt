@@ -6,3 +6,4 @@ pub mod Reached
 pub mod Runs
 pub mod Placed
 pub mod Held
+pub mod Alike

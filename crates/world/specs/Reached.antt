@@ -4,8 +4,7 @@ use Rattle.std.specs.Option.{option_and_then}
 use Rattle.records.specs.Law.{Fate}
 use Rattle.ballots.specs.Messages.{Packet}
 use Rattle.ballots.specs.declared.value.Value.{Value}
-use Rattle.member.specs.Steps.{Input, Hears}
-use Rattle.paxos.specs.Lists.{at, Has}
+use Rattle.paxos.specs.Lists.{at}
 use Rattle.paxos.specs.Step.{Running, Effect, on_begin, on_message}
 use Rattle.paxos.specs.Application.{Application}
 use Rattle.paxos.specs.Records.{Record, Write, Nothing}
@@ -13,51 +12,36 @@ use Rattle.paxos.specs.Sound.{Sound}
 use Rattle.paxos.specs.World as protocol
 use Rattle.paxos.specs.World.{World as Whole, Member as Part, Event as Happens, Run, after, start}
 use Rattle.paxos.specs.Smooth.{SmoothRun}
-use Rattle.world.specs.declared.event.Event.{Event}
-use Rattle.world.specs.declared.event.Event.TheVariants as event
-use Rattle.world.specs.declared.event.Step.TheVariants as step
-use Rattle.member.specs.declared.input.Tick.TheVariants as tick
 use Rattle.world.specs.Seats.{Did, IsPart, fates_of, store_in}
 use Rattle.world.specs.declared.seat.Seat.{Seat}
 use Rattle.world.specs.Shown.{World, AllStand, AreKept, Picks, Shows}
 
--- the event of the protocol's world
-abbrev pub event_of : Event → Happens
-event_of (event.Deliver k) = protocol.Deliver k
-event_of (event.Tick m tick.Begin) = protocol.Begin m
-event_of (event.Tick m tick.Resend) = protocol.Resend m
-event_of (event.Tick m tick.CatchUp) = protocol.CatchUp m
-event_of (event.Submit m q) = protocol.Submits m q
-event_of (event.StopIn (step.Deliver k) kept) = protocol.StopInDeliver k kept
-event_of (event.StopIn (step.Begin m) kept) = protocol.StopInBegin m kept
-event_of (event.Stop m) = protocol.Stop m
-event_of (event.Start m) = protocol.Start m
-
 -- Runs of the protocol that are led by events have come to what code holds: for each choice of the records that stopped members may
 -- find, to a world of the protocol that it shows.
-pub record ReachedBy {R : Type 0} (stands : R → Record → Record → Type 0) (w : World R) (Leads : Whole → Type 0) : Type 0 where
+pub record ReachedBy {R A : Type 0} (stands : R → Record → Record → Type 0) (has_applied : List (List ℕ) → List Value → A → Type 0) (w : World R A) (Leads : Whole → Type 0) : Type 0 where
   pub first : ℕ → Record
   pub second : ℕ → Record
   pub stand : AllStand stands w first second
-  pub runs : (kept : ℕ → Record) → Picks kept first second → (v : Whole) × Leads v × Shows w kept v
+  pub runs : (kept : ℕ → Record) → Picks kept first second → (v : Whole) × Leads v × Shows has_applied w kept v
 
 -- The events have led to what code holds, whatever they left open.
-abbrev pub Reached : {R : Type 0} → (stands : R → Record → Record → Type 0) → Application → World R → List Happens → Type 0
-Reached stands app w events = ReachedBy stands w (Run app (start w.members) events)
+abbrev pub Reached : {R A : Type 0} → (stands : R → Record → Record → Type 0) → (has_applied : List (List ℕ) → List Value → A → Type 0) → Application → World R A → List Happens → Type 0
+Reached stands has_applied app w events = ReachedBy stands has_applied w (Run app (start w.members) events)
 
 -- They have led to it, and no store has stopped a member, and each time all was applied.
-abbrev pub ReachedSmoothly : {R : Type 0} → (stands : R → Record → Record → Type 0) → Application → World R → List Happens → Type 0
-ReachedSmoothly stands app w events = ReachedBy stands w (SmoothRun app w.members events)
+abbrev pub ReachedSmoothly : {R A : Type 0} → (stands : R → Record → Record → Type 0) → (has_applied : List (List ℕ) → List Value → A → Type 0) → Application → World R A → List Happens → Type 0
+ReachedSmoothly stands has_applied app w events = ReachedBy stands has_applied w (SmoothRun app w.members events)
 
 -- A change of what code holds follows a change of the protocol's world: where the world may be that it showed, it is changed into one that
 -- is shown then.
-pub record Follows {R : Type 0} (stands : R → Record → Record → Type 0) (is_kept : R → Type 0) (MayBe : Whole → Type 0) (Next : Whole → Whole → Type 0) (old new : World R) : Type 0 where
+pub record Follows {R A : Type 0} (stands : R → Record → Record → Type 0) (is_kept : R → Type 0) (has_applied : List (List ℕ) → List Value → A → Type 0) (MayBe : Whole → Type 0) (Next : Whole → Whole → Type 0) (old new : World R A) : Type 0 where
   pub members : new.members ≡ old.members
+  pub names : new.names ≡ old.names
   pub kept : AreKept is_kept new → AreKept is_kept old
   pub changes : AreKept is_kept new → (a b : ℕ → Record) → AllStand stands old a b
       → (c : ℕ → Record) × (d : ℕ → Record) × AllStand stands new c d
       × ((now : ℕ → Record) → Picks now c d → (before : ℕ → Record) × Picks before a b
-      × ((v : Whole) → MayBe v → Shows old before v → (z : Whole) × Next v z × Shows new now z))
+      × ((v : Whole) → MayBe v → Shows has_applied old before v → (z : Whole) × Next v z × Shows has_applied new now z))
 
 -- nothing happens
 abbrev pub Stays : Whole → Whole → Type 0
@@ -66,10 +50,6 @@ Stays v z = z ≡ v
 -- the event happens, whatever it leaves open
 abbrev pub Happened : Application → Happens → Whole → Whole → Type 0
 Happened app e v z = (c : protocol.Choice) × (z ≡ protocol.happens app v c e)
-
--- no store fails, ever
-abbrev pub NeverFails : {R : Type 0} → (failed : R → ℕ) → Type 0
-NeverFails {R} failed = (r : R) → failed r ≡ 0
 
 -- what a step writes, of a member that is there and runs
 abbrev pub write_if : (Record → Running → Effect) → Record → Option Running → Write
@@ -121,43 +101,35 @@ abbrev pub HappenedIf : (Does : (member : ℕ) → Write → Option Bool → Typ
 HappenedIf Does app e v z = (c : protocol.Choice) × Does (actor v e) (write_in app v e) c.fails × (z ≡ protocol.happens app v c e)
 
 -- the store of a member
-abbrev pub store_at : {R : Type 0} → List (Seat R) → (member : ℕ) → Option R
-store_at {R} seats m = option_and_then (λ (s : Seat R). store_in s) (at seats m)
+abbrev pub store_at : {R A : Type 0} → List (Seat R A) → (member : ℕ) → Option R
+store_at {R} {A} seats m = option_and_then (λ (s : Seat R A). store_in s) (at seats m)
 
 -- What the stores have done in an event that comes to this member: its own did so, and of the others the same is known.
-pub record HaveDone {R : Type 0} (failed : R → ℕ) (fates : R → ℕ → Fate) (cut : Bool) (old new : List (Seat R)) (m : ℕ) (w : Write) (fails : Option Bool) : Type 0 where
+pub record HaveDone {R A : Type 0} (failed : R → ℕ) (fates : R → ℕ → Fate) (cut : Bool) (old new : List (Seat R A)) (m : ℕ) (w : Write) (fails : Option Bool) : Type 0 where
   pub own : Did failed fates cut (store_at old m) (store_at new m) w fails
   pub others : (j : ℕ) → (j ≡ m → ⊥) → (k : ℕ) → fates_of fates (store_at new j) k ≡ fates_of fates (store_at old j) k
 
 -- the event happens, and each store has done in it what was known of it before
-abbrev pub HappenedOver : {R : Type 0} → (failed : R → ℕ) → (fates : R → ℕ → Fate) → (old new : List (Seat R)) → Application → Happens → Whole → Whole → Type 0
+abbrev pub HappenedOver : {R A : Type 0} → (failed : R → ℕ) → (fates : R → ℕ → Fate) → (old new : List (Seat R A)) → Application → Happens → Whole → Whole → Type 0
 HappenedOver failed fates old new app e v z = HappenedIf (HaveDone failed fates (is_cut e) old new) app e v z
 
 -- nothing that shows has changed
-abbrev pub IsUnmoved : {R : Type 0} → (stands : R → Record → Record → Type 0) → (is_kept : R → Type 0) → (old new : World R) → Type 0
-IsUnmoved stands is_kept old new = Follows stands is_kept (Sound old.members) Stays old new
+abbrev pub IsUnmoved : {R A : Type 0} → (stands : R → Record → Record → Type 0) → (is_kept : R → Type 0) → (has_applied : List (List ℕ) → List Value → A → Type 0) → (old new : World R A) → Type 0
+IsUnmoved stands is_kept has_applied old new = Follows stands is_kept has_applied (Sound old.members) Stays old new
 
--- no reply is kept for any client and number
-abbrev pub KnowsNothing : Application → Type 0
-KnowsNothing app = (values : List Value) (client number : ℕ) → app.reply values client number ≡ None
+-- The event has happened, where the application means this; each store has done in it what was known of it.
+abbrev pub HasHappened : {R A : Type 0} → (stands : R → Record → Record → Type 0) → (is_kept : R → Type 0) → (failed : R → ℕ) → (fates : R → ℕ → Fate) → (has_applied : List (List ℕ) → List Value → A → Type 0) → Application → Happens
+    → (old new : World R A) → Type 0
+HasHappened stands is_kept failed fates has_applied app e old new = Follows stands is_kept has_applied (Sound old.members) (HappenedOver failed fates old.seats new.seats app e) old new
 
--- The event has happened, whatever the application answers, as long as it keeps no replies; each store has done in it what was known of it.
-abbrev pub HasHappened : {R : Type 0} → (stands : R → Record → Record → Type 0) → (is_kept : R → Type 0) → (failed : R → ℕ) → (fates : R → ℕ → Fate) → Happens → (old new : World R) → Type 0
-HasHappened stands is_kept failed fates e old new = (app : Application) → KnowsNothing app → Follows stands is_kept (Sound old.members) (HappenedOver failed fates old.seats new.seats app e) old new
-
--- The member that sits there takes a step with an effect that may be, in a world that is shown.
-pub record Steps {R : Type 0} (old : World R) (s : Seat R) (m : ℕ) (May : Part → Effect → Type 0) (v z : Whole) : Type 0 where
+-- The node that sits there takes a step with an effect that may be, in a world that is shown.
+pub record Steps {R A : Type 0} (has_applied : List (List ℕ) → List Value → A → Type 0) (old : World R A) (s : Seat R A) (m : ℕ) (May : Part → Effect → Type 0) (v z : Whole) : Type 0 where
   pub size : length v.members ≡ length old.seats
   pub sent : v.sent ≡ old.sent
   pub part : Part
   pub there : at v.members m ≡ Some part
   pub kept : Record
-  pub is_part : IsPart s kept part
+  pub is_part : IsPart has_applied s kept part
   pub effect : Effect
   pub may : May part effect
   pub is : z ≡ after v m part.kept effect
-
--- What comes to a member is due: a message that was sent to it, or a tick.
-abbrev pub IsDue : {R : Type 0} → World R → (m : ℕ) → Input → Type 0
-IsDue w m (Hears p) = Has w.sent p × (p.target ≡ m)
-IsDue w m i = Unit {0}

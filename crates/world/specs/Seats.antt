@@ -1,52 +1,60 @@
 -- What sits at a member's place, and how it moves.
-use Rattle.std.specs.Prelude.{◌≡◌, ◌⊎◌, ℕ, suc, Bool, false, if◌then◌else◌, List, [], Option, Some, None, IsSome}
-use Rattle.std.specs.Option.{option_and_then, option_map_or}
+use Rattle.std.specs.Prelude.{◌≡◌, ◌⊎◌, ℕ, suc, Bool, false, if◌then◌else◌, List, [], map, Option, Some, None, IsSome}
+use Rattle.std.specs.Option.{option_and_then, option_map, option_map_or}
 use Rattle.ballots.specs.Messages.{Packet}
 use Rattle.ballots.specs.declared.value.Pair.{Pair}
 use Rattle.records.specs.Law.{Fate, Grew, passing}
-use Rattle.member.specs.Drafts.{IsDrafted, IsReady, IsSpent}
-use Rattle.member.specs.Steps.{Input, Member, IsHeard, IsThis, all_packets, effect_of}
-use Rattle.member.specs.declared.draft.Draft.{Draft}
-use Rattle.member.specs.declared.outcome.Outcome.{Outcome}
+use Rattle.ballots.specs.Terms.{Setup}
+use Rattle.ballots.specs.declared.value.Value.{Value}
+use Rattle.member.specs.Drafts.{IsReady}
+use Rattle.member.specs.Steps.{Input, Hears, effect_of}
+use Rattle.node.specs.Nodes.{IsDrafted, IsForClients, Node, RunsAs, posted, IsSpent}
+use Rattle.node.specs.declared.draft.Draft.{Draft}
+use Rattle.node.specs.declared.outbox.Outbox.{Outbox}
 use Rattle.paxos.specs.Lists.{at}
 use Rattle.paxos.specs.Application.{Application}
 use Rattle.paxos.specs.Knowledge.{news, prefix}
 use Rattle.paxos.specs.Records.{Record, Write, Nothing, writes, written}
 use Rattle.paxos.specs.Step.{Running, Effect, quiet}
-use Rattle.paxos.specs.WellFormed.{IsRecord}
+use Rattle.paxos.specs.WellFormed.{IsMessage, IsRecord}
 use Rattle.paxos.specs.World.{Member as Part, Choice, keeps_in, settles, started, stops_in}
+use Rattle.world.specs.Posts.{packet_in}
 use Rattle.world.specs.declared.seat.Seat.{Seat}
 
--- the member that sits there, if one does, is the one of that number, and its acceptor runs
-abbrev pub IsSeat : {R : Type 0} → (members number : ℕ) → Seat R → Type 0
-IsSeat {R} n m s = (x : Member R) → s.member ≡ Some x → (x.members ≡ n) × (x.number ≡ m) × (x.acceptor.is_stopped ≡ false)
+-- The node that sits there, if one does, was set up so, and has not stopped by itself; and what it left was.
+pub record IsSeat {R A : Type 0} (t : Setup) (s : Seat R A) : Type 0 where
+  pub running : (x : Node R A) → s.node ≡ Some x → (x.setup ≡ t) × (x.member.acceptor.is_stopped ≡ false)
+  pub stopped : (p : Setup × R) → s.left ≡ Some p → p.0 ≡ t
 
 -- The records of a running member, or of a stopped one, are kept.
-pub record IsKeptAt {R : Type 0} (is_kept : R → Type 0) (s : Seat R) : Type 0 where
-  pub running : (x : Member R) → s.member ≡ Some x → is_kept x.acceptor.records
-  pub stopped : (r : R) → s.member ≡ None → s.records ≡ Some r → is_kept r
+pub record IsKeptAt {R A : Type 0} (is_kept : R → Type 0) (s : Seat R A) : Type 0 where
+  pub running : (x : Node R A) → s.node ≡ Some x → is_kept x.member.acceptor.records
+  pub stopped : (p : Setup × R) → s.node ≡ None → s.left ≡ Some p → is_kept p.1
 
 -- What a member has kept is this record; where it is stopped, and its store failed before, this record or that one.
-pub record Stands {R : Type 0} (stands : R → Record → Record → Type 0) (s : Seat R) (a b : Record) : Type 0 where
-  pub running : (x : Member R) → s.member ≡ Some x → (a ≡ x.acceptor.kept) × (b ≡ x.acceptor.kept)
-  pub stopped : s.member ≡ None → (r : R) × (s.records ≡ Some r) × stands r a b
+pub record Stands {R A : Type 0} (stands : R → Record → Record → Type 0) (s : Seat R A) (a b : Record) : Type 0 where
+  pub running : (x : Node R A) → s.node ≡ Some x → (a ≡ x.member.acceptor.kept) × (b ≡ x.member.acceptor.kept)
+  pub stopped : s.node ≡ None → (p : Setup × R) × (s.left ≡ Some p) × stands p.1 a b
 
--- A member runs as one of the protocol's world, and has applied all that it has learnt without a gap.
-pub record RunsAs {R : Type 0} (u : Running) (x : Member R) : Type 0 where
-  pub this : IsThis u x
-  pub applied : u.applied ≡ prefix x.members (news u.heard)
-
--- A member of the protocol's world is the one that sits there.
-pub record IsPart {R : Type 0} (s : Seat R) (kept : Record) (y : Part) : Type 0 where
+-- A member of the protocol's world is the node that sits there.
+pub record IsPart {R A : Type 0} (has_applied : List (List ℕ) → List Value → A → Type 0) (s : Seat R A) (kept : Record) (y : Part) : Type 0 where
   pub kept_is : y.kept ≡ kept
-  pub running : (x : Member R) → s.member ≡ Some x → (u : Running) × (y.running ≡ Some u) × RunsAs u x × (kept ≡ x.acceptor.kept)
-  pub stopped : s.member ≡ None → y.running ≡ None
+  pub running : (x : Node R A) → s.node ≡ Some x → (u : Running) × (y.running ≡ Some u) × RunsAs has_applied u x × (kept ≡ x.member.acceptor.kept)
+  pub stopped : s.node ≡ None → y.running ≡ None
 
--- the store at a seat: that of the member that runs there, or the one that was left
-abbrev pub store_in : {R : Type 0} → Seat R → Option R
-store_in {R} s = elim s.member as (λ o. Option R) [
-  | Some x ↦ Some x.acceptor.records
-  | None ↦ s.records
+-- the node that sits there, if one does, has applied all that it has learnt without a gap, whichever running member of a world it is
+abbrev pub IsUpToDate : {R A : Type 0} → (has_applied : List (List ℕ) → List Value → A → Type 0) → Seat R A → Type 0
+IsUpToDate {R} {A} has_applied s = (x : Node R A) (u : Running) → s.node ≡ Some x → RunsAs has_applied u x → u.applied ≡ prefix x.setup.members (news u.heard)
+
+-- one sits there that has not
+abbrev pub IsBehind : {R A : Type 0} → (has_applied : List (List ℕ) → List Value → A → Type 0) → Seat R A → Type 0
+IsBehind {R} {A} has_applied s = (x : Node R A) × (s.node ≡ Some x) × ((u : Running) → RunsAs has_applied u x → u.applied ≡ prefix x.setup.members (news u.heard) → ⊥)
+
+-- the store at a seat: that of the node that runs there, or the one that was left
+abbrev pub store_in : {R A : Type 0} → Seat R A → Option R
+store_in {R} s = elim s.node as (λ o. Option R) [
+  | Some x ↦ Some x.member.acceptor.records
+  | None ↦ option_map (λ (p : Setup × R). p.1) s.left
 ]
 
 -- how often a store has failed, and what is known of its writes to come
@@ -78,37 +86,41 @@ part_after y e = record { kept = written e.write y.kept; running = e.running }
 
 -- A seat moves with an effect that may be: whichever member of the protocol's world sat there before, with a record that it may have
 -- kept, takes a step with such an effect and sits there then, and just this is sent and told.
-pub record Moves {R : Type 0} (stands : R → Record → Record → Type 0) (is_kept : R → Type 0) (Given : Part → Type 0) (May : Part → Effect → Type 0)
-    (old new : Seat R) (sends : List Packet) (tells : List Pair) : Type 0 where
+pub record Moves {R A : Type 0} (stands : R → Record → Record → Type 0) (is_kept : R → Type 0) (has_applied : List (List ℕ) → List Value → A → Type 0) (Given : Part → Type 0) (May : Part → Effect → Type 0)
+    (old new : Seat R A) (sends : List Packet) (tells : List Pair) : Type 0 where
   pub kept : IsKeptAt is_kept new → IsKeptAt is_kept old
   pub changes : IsKeptAt is_kept new → (a b : Record) → Stands stands old a b
       → (c : Record) × (d : Record) × Stands stands new c d
       × ((k : Record) → (k ≡ c) ⊎ (k ≡ d) → (j : Record) × ((j ≡ a) ⊎ (j ≡ b))
-      × ((y : Part) → Given y → IsPart old j y → (e : Effect) × May y e × (e.sends ≡ sends) × (e.tells ≡ tells) × IsPart new k (part_after y e)))
+      × ((y : Part) → Given y → IsPart has_applied old j y → (e : Effect) × May y e × (e.sends ≡ sends) × (e.tells ≡ tells) × IsPart has_applied new k (part_after y e)))
 
--- The seat's member has this draft, which is of the input and may be made; it is no ballot that cannot begin.
-pub record IsPlanned {R : Type 0} (s : Seat R) (i : Input) (d : Draft) : Type 0 where
-  pub member : Member R
-  pub there : s.member ≡ Some member
-  pub drafted : IsDrafted i member d
-  pub ready : IsReady member d
-  pub due : (u : Running) → IsThis u member → IsSpent member u i → ⊥
+-- The seat's node has this draft, which is of the input and may be made; it is no ballot that cannot begin.
+pub record IsPlanned {R A : Type 0} (has_applied : List (List ℕ) → List Value → A → Type 0) (app : Application) (s : Seat R A) (i : Input) (d : Draft) : Type 0 where
+  pub node : Node R A
+  pub there : s.node ≡ Some node
+  pub drafted : IsDrafted has_applied app i node d
+  pub due : (u : Running) → RunsAs has_applied u node → IsSpent node u i → ⊥
 
--- Nothing comes of the input: the seat is empty, or its member may not hear it, or cannot begin a ballot.
-abbrev pub Skips : {R : Type 0} → Seat R → Input → Type 0
-Skips {R} s i = (x : Member R) → s.member ≡ Some x → (IsHeard x.members i → ⊥) ⊎ ((u : Running) → IsThis u x → IsSpent x u i)
+-- It may come to the node: a message that may be sent to it, and is for members; or a tick.
+abbrev pub MayBeHeard : {R A : Type 0} → Node R A → Input → Type 0
+MayBeHeard x (Hears k) = IsMessage x.setup.members k × (IsForClients k.body → ⊥)
+MayBeHeard x i = Unit {0}
 
--- A member runs at the seat, and it may make the draft.
-pub record MayMake {R : Type 0} (s : Seat R) (d : Draft) : Type 0 where
-  pub there : IsSome s.member
-  pub ready : (x : Member R) → s.member ≡ Some x → IsReady x d
+-- Nothing comes of the input: the seat is empty, or it may not come to the node, or its node cannot begin a ballot.
+abbrev pub Skips : {R A : Type 0} → (has_applied : List (List ℕ) → List Value → A → Type 0) → Seat R A → Input → Type 0
+Skips {R} {A} has_applied s i = (x : Node R A) → s.node ≡ Some x → (MayBeHeard x i → ⊥) ⊎ ((u : Running) → RunsAs has_applied u x → IsSpent x u i)
+
+-- A node runs at the seat, and it may make the draft.
+pub record MayMake {R A : Type 0} (s : Seat R A) (d : Draft) : Type 0 where
+  pub there : IsSome s.node
+  pub ready : (x : Node R A) → s.node ≡ Some x → IsReady x.member d.member
 
 -- so at the place of a number
-abbrev pub IsPlannedAt : {R : Type 0} → List (Seat R) → (number : ℕ) → Input → Draft → Type 0
-IsPlannedAt {R} seats m i d = (s : Seat R) × (at seats m ≡ Some s) × IsPlanned s i d
+abbrev pub IsPlannedAt : {R A : Type 0} → (has_applied : List (List ℕ) → List Value → A → Type 0) → Application → List (Seat R A) → (number : ℕ) → Input → Draft → Type 0
+IsPlannedAt {R} {A} has_applied app seats m i d = (s : Seat R A) × (at seats m ≡ Some s) × IsPlanned has_applied app s i d
 
-abbrev pub SkipsAt : {R : Type 0} → List (Seat R) → (number : ℕ) → Input → Type 0
-SkipsAt {R} seats m i = (s : Seat R) × (at seats m ≡ Some s) × Skips s i
+abbrev pub SkipsAt : {R A : Type 0} → (has_applied : List (List ℕ) → List Value → A → Type 0) → List (Seat R A) → (number : ℕ) → Input → Type 0
+SkipsAt {R} {A} has_applied seats m i = (s : Seat R A) × (at seats m ≡ Some s) × Skips has_applied s i
 
 -- any member of the protocol's world
 abbrev pub IsAny : Part → Type 0
@@ -139,12 +151,12 @@ MayStop y e = (u : Running) × (y.running ≡ Some u) × (e ≡ stops_in false (
 abbrev pub MayStart : (Does : Write → Option Bool → Type 0) → Part → Effect → Type 0
 MayStart Does y e = (y.running ≡ None) × (Does Nothing None × (e ≡ quiet started) ⊎ Does Nothing (Some false) × MayStay y e)
 
--- what is sent where a step was made
-abbrev pub sent_by : (members self : ℕ) → Option Outcome → List Packet
-sent_by n m None = []
-sent_by n m (Some o) = all_packets n m o.sends.items
+-- what is sent where a step was made: what the bytes say to their targets
+abbrev pub sent_by : (group members self : ℕ) → Option Outbox → List Packet
+sent_by g n m None = []
+sent_by g n m (Some o) = map (packet_in g) (posted n m o.sent.items)
 
 -- what is told then
-abbrev pub told_by : Option Outcome → List Pair
+abbrev pub told_by : Option Outbox → List Pair
 told_by None = []
 told_by (Some o) = o.tells.items

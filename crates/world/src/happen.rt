@@ -6,31 +6,34 @@ ghost use Rattle.paxos.specs.World.{Deliver, Start, Stop, StopInBegin, StopInDel
 ghost use Rattle.paxos.specs.Lists.{at};
 ghost use Rattle.world.specs.Posts.{sent_in};
 ghost use Rattle.world.specs.Held.{IsDeliveryOf, IsHeld, shown};
-ghost use Rattle.world.specs.Reached.{HasHappened, IsUnmoved, event_of};
-ghost use Rattle.world.specs.Runs.{is_for};
-ghost use Rattle.world.specs.declared.event.Event.TheVariants as event;
+ghost use Rattle.events.specs.Events.{event_of, is_for};
+ghost use Rattle.world.specs.Reached.{HasHappened, IsUnmoved};
+ghost use Rattle.events.specs.declared.event.Event.TheVariants as event;
 
-use crate::event::{Event, Step};
 use crate::mail::Delivery;
 use crate::state::State;
-use ballots::{Message, Request};
+use applications::Application;
+use ballots::Request;
+use events::{Event, Step};
 use member::Tick;
 use records::Records;
 use std::alloc::{AllocError, Global};
 
-impl<R: Records + Drop> State<R> {
+impl<R: Records + Drop, A: Application + Drop> State<R, A> {
     /// The delivery of a number, if it was sent to a member.
     fn to_member(&self, number: u64) -> Option<Delivery>
         requires held { IsHeld self.now }
         ensures there { IfSome result (λ d. IsDeliveryOf (shown self.now) number self.now.mail d) }
-        ensures none { result ≡ None → (p : Packet) → at (sent_in self.now.mail) number ≡ Some p → at self.now.seats.items p.target ≡ None }
+        ensures none { result ≡ None → (p : Packet) → at (sent_in self.now.group self.now.mail) number ≡ Some p → at self.now.seats.items p.target ≡ None }
     {
         let delivery = self.mail.delivery(number)?;
-        if delivery.target == 0 || delivery.target > self.members.count() {
-            None
-        } else {
-            Some(delivery)
+        if delivery.target == 0 {
+            return None;
         }
+        if delivery.target > self.members.count() {
+            return None;
+        }
+        Some(delivery)
     }
 
     /// The message of a number is delivered.
@@ -39,8 +42,8 @@ impl<R: Records + Drop> State<R> {
     pub(super) fn deliver(&mut self, alloc: Global, number: u64) -> Result<(), AllocError>
         requires held { IsHeld self.old }
         ensures held { IsHeld self.new }
-        ensures happened { OnOk result (HasHappened R.stands R.is_kept R.failed R.fates (Deliver number) (shown self.old) (shown self.new)) }
-        ensures refused { OnErr result (IsUnmoved R.stands R.is_kept (shown self.old) (shown self.new)) }
+        ensures happened { OnOk result (HasHappened R.stands R.is_kept R.failed R.fates A.has_applied (A.meaning self.old.names) (Deliver number) (shown self.old) (shown self.new)) }
+        ensures refused { OnErr result (IsUnmoved R.stands R.is_kept A.has_applied (shown self.old) (shown self.new)) }
     {
         let Some(delivery) = self.to_member(number) else {
             return Ok(());
@@ -64,8 +67,8 @@ impl<R: Records + Drop> State<R> {
         requires least { 1 ≤ number }
         requires most { number ≤ self.old.members }
         ensures held { IsHeld self.new }
-        ensures happened { OnOk result (HasHappened R.stands R.is_kept R.failed R.fates (event_of (event.Tick number tick)) (shown self.old) (shown self.new)) }
-        ensures refused { OnErr result (IsUnmoved R.stands R.is_kept (shown self.old) (shown self.new)) }
+        ensures happened { OnOk result (HasHappened R.stands R.is_kept R.failed R.fates A.has_applied (A.meaning self.old.names) (event_of (event.Tick number tick)) (shown self.old) (shown self.new)) }
+        ensures refused { OnErr result (IsUnmoved R.stands R.is_kept A.has_applied (shown self.old) (shown self.new)) }
     {
         let Some(draft) = self.tick(alloc, number, tick)? else {
             return Ok(());
@@ -79,7 +82,7 @@ impl<R: Records + Drop> State<R> {
         requires least { 1 ≤ number }
         requires most { number ≤ self.old.members }
         ensures held { IsHeld self.new }
-        ensures happened { HasHappened R.stands R.is_kept R.failed R.fates (Stop number) (shown self.old) (shown self.new) }
+        ensures happened { HasHappened R.stands R.is_kept R.failed R.fates A.has_applied (A.meaning self.old.names) (Stop number) (shown self.old) (shown self.new) }
     {
         self.stop(number);
     }
@@ -92,8 +95,8 @@ impl<R: Records + Drop> State<R> {
         requires least { 1 ≤ number }
         requires most { number ≤ self.old.members }
         ensures held { IsHeld self.new }
-        ensures happened { OnOk result (HasHappened R.stands R.is_kept R.failed R.fates (StopInBegin number true) (shown self.old) (shown self.new)) }
-        ensures refused { OnErr result (IsUnmoved R.stands R.is_kept (shown self.old) (shown self.new)) }
+        ensures happened { OnOk result (HasHappened R.stands R.is_kept R.failed R.fates A.has_applied (A.meaning self.old.names) (StopInBegin number true) (shown self.old) (shown self.new)) }
+        ensures refused { OnErr result (IsUnmoved R.stands R.is_kept A.has_applied (shown self.old) (shown self.new)) }
     {
         let Some(draft) = self.tick(alloc, number, Tick::Begin)? else {
             self.stop(number);
@@ -115,8 +118,8 @@ impl<R: Records + Drop> State<R> {
         requires least { 1 ≤ number }
         requires most { number ≤ self.old.members }
         ensures held { IsHeld self.new }
-        ensures happened { OnOk result (HasHappened R.stands R.is_kept R.failed R.fates (StopInBegin number kept) (shown self.old) (shown self.new)) }
-        ensures refused { OnErr result (IsUnmoved R.stands R.is_kept (shown self.old) (shown self.new)) }
+        ensures happened { OnOk result (HasHappened R.stands R.is_kept R.failed R.fates A.has_applied (A.meaning self.old.names) (StopInBegin number kept) (shown self.old) (shown self.new)) }
+        ensures refused { OnErr result (IsUnmoved R.stands R.is_kept A.has_applied (shown self.old) (shown self.new)) }
     {
         if kept {
             return self.stop_beginning(alloc, number);
@@ -137,8 +140,8 @@ impl<R: Records + Drop> State<R> {
         requires held { IsHeld self.old }
         requires there { IsDeliveryOf (shown self.old) number self.old.mail delivery }
         ensures held { IsHeld self.new }
-        ensures happened { OnOk result (HasHappened R.stands R.is_kept R.failed R.fates (StopInDeliver number true) (shown self.old) (shown self.new)) }
-        ensures refused { OnErr result (IsUnmoved R.stands R.is_kept (shown self.old) (shown self.new)) }
+        ensures happened { OnOk result (HasHappened R.stands R.is_kept R.failed R.fates A.has_applied (A.meaning self.old.names) (StopInDeliver number true) (shown self.old) (shown self.new)) }
+        ensures refused { OnErr result (IsUnmoved R.stands R.is_kept A.has_applied (shown self.old) (shown self.new)) }
     {
         let Some(draft) = self.hear(alloc, delivery)? else {
             self.stop(delivery.target);
@@ -158,8 +161,8 @@ impl<R: Records + Drop> State<R> {
     ) -> Result<(), AllocError>
         requires held { IsHeld self.old }
         ensures held { IsHeld self.new }
-        ensures happened { OnOk result (HasHappened R.stands R.is_kept R.failed R.fates (StopInDeliver number kept) (shown self.old) (shown self.new)) }
-        ensures refused { OnErr result (IsUnmoved R.stands R.is_kept (shown self.old) (shown self.new)) }
+        ensures happened { OnOk result (HasHappened R.stands R.is_kept R.failed R.fates A.has_applied (A.meaning self.old.names) (StopInDeliver number kept) (shown self.old) (shown self.new)) }
+        ensures refused { OnErr result (IsUnmoved R.stands R.is_kept A.has_applied (shown self.old) (shown self.new)) }
     {
         let Some(delivery) = self.to_member(number) else {
             return Ok(());
@@ -179,8 +182,8 @@ impl<R: Records + Drop> State<R> {
         requires least { 1 ≤ number }
         requires most { number ≤ self.old.members }
         ensures held { IsHeld self.new }
-        ensures happened { OnOk result (HasHappened R.stands R.is_kept R.failed R.fates (Start number) (shown self.old) (shown self.new)) }
-        ensures refused { OnErr result (IsUnmoved R.stands R.is_kept (shown self.old) (shown self.new)) }
+        ensures happened { OnOk result (HasHappened R.stands R.is_kept R.failed R.fates A.has_applied (A.meaning self.old.names) (Start number) (shown self.old) (shown self.new)) }
+        ensures refused { OnErr result (IsUnmoved R.stands R.is_kept A.has_applied (shown self.old) (shown self.new)) }
     {
         self.start(alloc, number)
     }
@@ -188,16 +191,20 @@ impl<R: Records + Drop> State<R> {
     /// A client sends a request to a member.
     ///
     /// It fails where memory is refused, and then nothing that shows has changed.
-    pub(super) fn submit(&mut self, number: u8, request: &Request) -> Result<(), AllocError>
+    pub(super) fn submit(
+        &mut self,
+        alloc: Global,
+        number: u8,
+        request: &Request,
+    ) -> Result<(), AllocError>
         requires held { IsHeld self.old }
         requires least { 1 ≤ number }
         requires most { number ≤ self.old.members }
         ensures held { IsHeld self.new }
-        ensures happened { OnOk result (HasHappened R.stands R.is_kept R.failed R.fates (Submits number request.now) (shown self.old) (shown self.new)) }
-        ensures refused { OnErr result (IsUnmoved R.stands R.is_kept (shown self.old) (shown self.new)) }
+        ensures happened { OnOk result (HasHappened R.stands R.is_kept R.failed R.fates A.has_applied (A.meaning self.old.names) (Submits number request.now) (shown self.old) (shown self.new)) }
+        ensures refused { OnErr result (IsUnmoved R.stands R.is_kept A.has_applied (shown self.old) (shown self.new)) }
     {
-        let request = request.clone()?;
-        self.mail.ask(number, Message::Submit(request))
+        self.mail.submit(alloc, self.group, number, request)
     }
 
     /// What an event does. The member that it names, if it names one, is one of the world's.
@@ -207,13 +214,13 @@ impl<R: Records + Drop> State<R> {
         requires held { IsHeld self.old }
         requires named { is_for self.old.members event.now ≡ true }
         ensures held { IsHeld self.new }
-        ensures happened { OnOk result (HasHappened R.stands R.is_kept R.failed R.fates (event_of event.now) (shown self.old) (shown self.new)) }
-        ensures refused { OnErr result (IsUnmoved R.stands R.is_kept (shown self.old) (shown self.new)) }
+        ensures happened { OnOk result (HasHappened R.stands R.is_kept R.failed R.fates A.has_applied (A.meaning self.old.names) (event_of event.now) (shown self.old) (shown self.new)) }
+        ensures refused { OnErr result (IsUnmoved R.stands R.is_kept A.has_applied (shown self.old) (shown self.new)) }
     {
         match event {
             Event::Deliver(number) => self.deliver(alloc, *number),
             Event::Tick(member, tick) => self.tick_to(alloc, *member, *tick),
-            Event::Submit(member, request) => self.submit(*member, request),
+            Event::Submit(member, request) => self.submit(alloc, *member, request),
             Event::StopIn(Step::Deliver(number), kept) => {
                 self.stop_in_delivery(alloc, *number, *kept)
             }

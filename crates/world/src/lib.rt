@@ -13,8 +13,7 @@ mod straight;
 mod told;
 mod world;
 
-pub use event::{Event, Step};
+pub use events::{Event, Step, Tick};
 pub use fault::WorldFault;
-pub use member::Tick;
 pub use told::Told;
 pub use world::World;

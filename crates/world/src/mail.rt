@@ -1,31 +1,31 @@
 //! All messages that were ever sent, by number.
 
-ghost use Rattle.std.specs.Prelude.{◌≡◌, ◌<◌, ◌+◌, ◌≤◌, ◌++◌, ◌∷◌, [], IfOk, IfSome, OnErr, OnOk, map, length, vec_len, vec_capacity, slice_get};
+ghost use Rattle.std.specs.Prelude.{◌≡◌, ◌<◌, ℕ, ◌+◌, ◌≤◌, ◌++◌, ◌∷◌, [], IfOk, IfSome, OnErr, OnOk, map, length, vec_len, vec_capacity, slice_get};
 ghost use Rattle.std.specs.Option.{option_copied, option_map};
-ghost use Rattle.ballots.specs.Messages.{body_of, packet, up_to};
-ghost use Rattle.member.specs.Steps.{all_packets};
+ghost use Rattle.ballots.specs.Messages.{Submit, packet};
+ghost use Rattle.messages.specs.Reading.{Gives, datagram_read};
 ghost use Rattle.paxos.specs.Lists.{at};
 ghost use Rattle.world.specs.Posts.{packet_of, sent_in, IsWhole, delivery, deliveries, all_deliveries};
 
-use ballots::{Members, Message};
-use member::{Send, Target};
+use ballots::{Members, Message, Request};
+use member::Target;
+use messages::encode;
+use node::Sent;
 use std::alloc::{AllocError, Global};
 
 /// A message to one target.
 #[derive(Clone, Copy, PartialEq, Eq, Debug)]
 pub(super) struct Delivery {
-    /// The member that sent it, or 0 for a client.
-    pub(super) sender: u8,
     /// The index of what was sent.
     pub(super) message: usize,
     /// The member to which it goes, or 0 for a client.
     pub(super) target: u8,
 }
 
-/// All messages that were ever sent. Each is there once for all its targets, and each of these has a number, from 1.
+/// The bytes of all messages that were ever sent. Each is there once for all its targets, and each of these has a number, from 1.
 #[derive(Drop)]
 pub(super) struct Mail {
-    pub(super) messages: Vec<Send>,
+    pub(super) messages: Vec<Sent>,
     pub(super) deliveries: Vec<Delivery>,
 }
 
@@ -35,14 +35,12 @@ pub(super) struct Mail {
 fn deliver_to_all(
     plan: &mut Vec<Delivery>,
     members: Members,
-    sender: u8,
     message: usize,
 ) -> Result<(), AllocError>
-    ensures { OnOk result (plan.new.items ≡ plan.old.items ++ deliveries members sender message Target.All) }
+    ensures { OnOk result (plan.new.items ≡ plan.old.items ++ deliveries members 0 message Target.All) }
 {
     for before in 0..members.count() {
         plan.push(Delivery {
-            sender,
             message,
             target: before + 1,
         })?;
@@ -64,11 +62,7 @@ fn deliver_to_others(
     for before in 0..members.count() {
         let target = before + 1;
         if target != sender {
-            plan.push(Delivery {
-                sender,
-                message,
-                target,
-            })?;
+            plan.push(Delivery { message, target })?;
         }
     }
     Ok(())
@@ -87,26 +81,30 @@ fn deliver_to(
     ensures { OnOk result (plan.new.items ≡ plan.old.items ++ deliveries members sender message to) }
 {
     match to {
-        Target::One(target) => plan.push(Delivery {
-            sender,
-            message,
-            target,
-        })?,
-        Target::All => deliver_to_all(plan, members, sender, message)?,
+        Target::One(target) => plan.push(Delivery { message, target })?,
+        Target::All => deliver_to_all(plan, members, message)?,
         Target::Others => deliver_to_others(plan, members, sender, message)?,
-        Target::Client => plan.push(Delivery {
-            sender,
-            message,
-            target: 0,
-        })?,
+        Target::Client => plan.push(Delivery { message, target: 0 })?,
     }
     Ok(())
+}
+
+/// A request as a client of the group spells it.
+///
+/// It fails where memory is refused.
+fn spelt(alloc: Global, group: u32, request: &Request) -> Result<Vec<u8>, AllocError>
+    ensures reads { IfOk result (λ bytes. datagram_read bytes.items ≡ Gives (record { group = group; sender = 0; body = Submit request.now }) []) }
+{
+    let message = Message::Submit(request.clone()?);
+    let mut bytes = Vec::new(alloc);
+    encode(&message, group, 0, &mut bytes)?;
+    Ok(bytes)
 }
 
 impl Mail {
     /// No messages.
     pub(super) fn new(alloc: Global) -> Mail
-        ensures { (sent_in result ≡ []) × IsWhole result }
+        ensures { ((group : ℕ) → sent_in group result ≡ []) × IsWhole result }
     {
         Mail {
             messages: Vec::new(alloc),
@@ -116,14 +114,14 @@ impl Mail {
 
     /// How many messages were sent.
     pub(super) fn count(&self) -> usize
-        ensures { result ≡ length (sent_in self.now) }
+        ensures { (group : ℕ) → result ≡ length (sent_in group self.now) }
     {
         self.deliveries.len()
     }
 
     /// The message of a number to its target, if it was sent.
     pub(super) fn delivery(&self, number: u64) -> Option<Delivery>
-        ensures sent { option_map (packet_of self.now.messages.items) result ≡ at (sent_in self.now) number }
+        ensures sent { (group : ℕ) → option_map (packet_of group self.now.messages.items) result ≡ at (sent_in group self.now) number }
         ensures there { IsWhole self.now → IfSome result (λ d. d.message < length self.now.messages.items) }
     {
         if number == 0 || number > self.deliveries.len() as u64 {
@@ -140,54 +138,60 @@ impl Mail {
         alloc: Global,
         members: Members,
         sender: u8,
-        sends: &[Send],
+        sent: &[Sent],
     ) -> Result<Vec<Delivery>, AllocError>
-        ensures planned { IfOk result (λ plan. plan.items ≡ all_deliveries members sender (length self.old.messages.items) sends.now) }
-        ensures messages { IfOk result (λ plan. vec_len self.new.messages + length sends.now ≤ vec_capacity self.new.messages) }
+        ensures planned { IfOk result (λ plan. plan.items ≡ all_deliveries members sender (length self.old.messages.items) sent.now) }
+        ensures messages { IfOk result (λ plan. vec_len self.new.messages + length sent.now ≤ vec_capacity self.new.messages) }
         ensures deliveries { IfOk result (λ plan. vec_len self.new.deliveries + vec_len plan ≤ vec_capacity self.new.deliveries) }
         ensures same { (self.new.messages.items ≡ self.old.messages.items) × (self.new.deliveries.items ≡ self.old.deliveries.items) }
     {
         let first = self.messages.len();
         let mut plan = Vec::new(alloc);
-        for index in 0..sends.len() {
-            deliver_to(&mut plan, members, sender, first + index, sends[index].to)?;
+        for index in 0..sent.len() {
+            deliver_to(&mut plan, members, sender, first + index, sent[index].to)?;
         }
-        self.messages.reserve(sends.len())?;
+        self.messages.reserve(sent.len())?;
         self.deliveries.reserve(plan.len())?;
         Ok(plan)
     }
 
     /// Adds messages and their deliveries, where there is room for them. It takes no memory.
-    pub(super) fn post(&mut self, sends: Vec<Send>, plan: Vec<Delivery>)
-        requires messages { vec_len self.old.messages + length sends.items ≤ vec_capacity self.old.messages }
+    pub(super) fn post(&mut self, sent: Vec<Sent>, plan: Vec<Delivery>)
+        requires messages { vec_len self.old.messages + length sent.items ≤ vec_capacity self.old.messages }
         requires deliveries { vec_len self.old.deliveries + length plan.items ≤ vec_capacity self.old.deliveries }
-        ensures messages { self.new.messages.items ≡ self.old.messages.items ++ sends.items }
+        ensures messages { self.new.messages.items ≡ self.old.messages.items ++ sent.items }
         ensures deliveries { self.new.deliveries.items ≡ self.old.deliveries.items ++ plan.items }
     {
-        let mut sends = sends;
+        let mut sent = sent;
         let mut plan = plan;
-        self.messages.append(&mut sends).unwrap();
+        self.messages.append(&mut sent).unwrap();
         self.deliveries.append(&mut plan).unwrap();
     }
 
-    /// Adds a message of a client to a member. It fails where memory is refused, and then nothing was sent.
-    pub(super) fn ask(&mut self, target: u8, message: Message) -> Result<(), AllocError>
+    /// Adds a request of a client to a member, as its group spells it. It fails where memory is refused, and then nothing was sent.
+    pub(super) fn submit(
+        &mut self,
+        alloc: Global,
+        group: u32,
+        target: u8,
+        request: &Request,
+    ) -> Result<(), AllocError>
         requires whole { IsWhole self.old }
         ensures whole { IsWhole self.new }
-        ensures asked { OnOk result (sent_in self.new ≡ sent_in self.old ++ packet 0 (body_of message) target ∷ []) }
-        ensures refused { OnErr result (sent_in self.new ≡ sent_in self.old) }
+        ensures asked { OnOk result (sent_in group self.new ≡ sent_in group self.old ++ packet 0 (Submit request.now) target ∷ []) }
+        ensures refused { OnErr result (sent_in group self.new ≡ sent_in group self.old) }
     {
+        let sent = Sent {
+            to: Target::One(target),
+            bytes: spelt(alloc, group, request)?,
+        };
         self.messages.reserve(1)?;
         self.deliveries.reserve(1)?;
         self.deliveries.push_reserved(Delivery {
-            sender: 0,
             message: self.messages.len(),
             target,
         });
-        self.messages.push_reserved(Send {
-            to: Target::One(target),
-            message,
-        });
+        self.messages.push_reserved(sent);
         Ok(())
     }
 }

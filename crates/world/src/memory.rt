@@ -1,14 +1,15 @@
 //! Worlds whose members keep their records in memory.
 
 ghost use Rattle.std.specs.Prelude.{◌≡◌, ◌⊎◌, [], IfErr, IfOk, length};
-ghost use Rattle.paxos.specs.Application.{Application};
 ghost use Rattle.paxos.specs.Lists.{Has};
 ghost use Rattle.paxos.specs.Records.{Record};
 ghost use Rattle.paxos.specs.World.{fresh};
 ghost use Rattle.world.specs.Reached.{Reached, ReachedSmoothly};
 
 use crate::world::World;
+use applications::Application;
 use ballots::Members;
+use document_names::Names;
 use records::{MemRecords, RecordsFault};
 use std::alloc::{AllocError, Global};
 
@@ -26,19 +27,24 @@ fn stores(alloc: Global, members: Members) -> Result<Vec<MemRecords>, AllocError
     Ok(stores)
 }
 
-impl World<MemRecords> {
-    /// Members that never did anything, with records in memory, which never fail.
+impl<A: Application + Drop> World<MemRecords, A> {
+    /// Nodes that never did anything, over documents of these names, with records in memory, which never fail.
     ///
     /// It fails where memory is refused.
-    pub fn in_memory(alloc: Global, members: Members) -> Result<World<MemRecords>, RecordsFault>
+    pub fn in_memory(
+        alloc: Global,
+        members: Members,
+        names: &Names,
+    ) -> Result<World<MemRecords, A>, RecordsFault>
         ensures members { IfOk result (λ w. w.members ≡ members) }
-        ensures reached { IfOk result (λ w. (app : Application) → Reached (λ s a b. (s ≡ a) ⊎ (s ≡ b)) app w []) }
-        ensures smoothly { IfOk result (λ w. (app : Application) → ReachedSmoothly (λ s a b. (s ≡ a) ⊎ (s ≡ b)) app w []) }
+        ensures names { IfOk result (λ w. w.names ≡ names.now) }
+        ensures reached { IfOk result (λ w. Reached (λ s a b. (s ≡ a) ⊎ (s ≡ b)) A.has_applied (A.meaning names.now) w []) }
+        ensures smoothly { IfOk result (λ w. ReachedSmoothly (λ s a b. (s ≡ a) ⊎ (s ≡ b)) A.has_applied (A.meaning names.now) w []) }
         ensures refused { IfErr result (λ fault. fault ≡ RecordsFault.Memory) }
     {
         let Ok(stores) = stores(alloc, members) else {
             return Err(RecordsFault::Memory);
         };
-        World::new(alloc, members, stores)
+        World::new(alloc, members, names, stores)
     }
 }

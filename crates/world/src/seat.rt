@@ -1,86 +1,75 @@
-//! One member of a world: it runs, or it has stopped and left its records.
+//! One member of a world: a node while it runs, or what it left when it stopped.
 
-ghost use Rattle.std.specs.Prelude.{◌≡◌, ◌⊎◌, ◌≤◌, ℕ, true, false, [], None, Some, IfOk, OnOk, OnErr, IfSome, IsSome};
-ghost use Rattle.member.specs.Drafts.{IsDrafted, IsReady, IsSpent};
-ghost use Rattle.member.specs.Steps.{Input as InputTerm, Member as MemberTerm, IsHeard, IsThis, input_of};
-ghost use Rattle.paxos.specs.Application.{Application};
-ghost use Rattle.paxos.specs.Step.{Running};
-ghost use Rattle.paxos.specs.WellFormed.{IsRecord};
-ghost use Rattle.paxos.specs.World.{Member as Part};
-ghost use Rattle.world.specs.Reached.{KnowsNothing};
-ghost use Rattle.world.specs.Seats.{Did, IsAny, IsFit, IsPlanned, IsSeat, MayStart, MayStay, MayStep, MayStop, MayStopIn, Moves, Skips, sent_by, store_in, told_by};
+ghost use Rattle.std.specs.Prelude.{◌≡◌, ℕ, false, [], true, None, Some, Err, Ok, IfOk, OnOk, OnErr, IfSome, IsSome};
+ghost use Rattle.ballots.specs.Terms.{Setup as SetupTerm};
+ghost use Rattle.member.specs.Drafts.{IsReady};
+ghost use Rattle.member.specs.Steps.{Input as InputTerm, Hears, ticked};
+ghost use Rattle.node.specs.Nodes.{IsDrafted, Node as NodeTerm};
+ghost use Rattle.node.specs.declared.fault.NodeFault.{NodeFault as NodeFaultTerm};
+ghost use Rattle.world.specs.Posts.{packet_in};
+ghost use Rattle.world.specs.Seats.{Did, IsAny, IsBehind, IsFit, IsPlanned, IsSeat, IsUpToDate, MayStart, MayStay, MayStep, MayStop, MayStopIn, Moves, Skips, sent_by, store_in, told_by};
 
-use ballots::Members;
-use member::{Draft, Input, Member, MemberFault, Outcome};
-use records::{Records, RecordsFault};
+use applications::Application;
+use ballots::Setup;
+use member::Tick;
+use node::{Draft, Node, NodeFault, OpenFault, Outbox};
+use records::Records;
 use std::alloc::{AllocError, Global};
 
-/// A member while it runs, or its records while it is stopped.
+/// A node while it runs, or its setup and its records while it is stopped.
 #[derive(Drop)]
-pub(super) struct Seat<R: Records + Drop> {
-    pub(super) member: Option<Member<R>>,
-    pub(super) records: Option<R>,
+pub(super) struct Seat<R: Records + Drop, A: Application + Drop> {
+    pub(super) node: Option<Node<R, A>>,
+    pub(super) left: Option<(Setup, R)>,
 }
 
-/// What comes of an input to a running member, if anything. Nothing that shows has changed.
+/// What was drafted, if anything.
 ///
-/// It fails where memory is refused. Nothing comes of a message that may not come, and of a ballot where positions or rounds are spent.
-fn draft_for<R: Records + Drop>(
-    member: &mut Member<R>,
-    alloc: Global,
-    input: &Input,
-) -> Result<Option<Draft>, AllocError>
-    requires runs { member.old.acceptor.is_stopped ≡ false }
-    ensures same { (u : Running) → IsThis u member.old → IsThis u member.new }
-    ensures acceptor { member.new.acceptor ≡ member.old.acceptor }
-    ensures place { (member.new.members ≡ member.old.members) × (member.new.number ≡ member.old.number) }
-    ensures drafted { IfOk result (λ o. IfSome o (λ d. IsDrafted (input_of member.new.number input.now) member.new d × IsReady member.new d
-        × ((u : Running) → IsThis u member.new → IsSpent member.new u (input_of member.new.number input.now) → ⊥))) }
-    ensures skipped { IfOk result (λ o. o ≡ None → (IsHeard member.new.members (input_of member.new.number input.now) → ⊥)
-        ⊎ ((u : Running) → IsThis u member.new → IsSpent member.new u (input_of member.new.number input.now))) }
+/// It fails where memory was refused. Nothing comes of what a node refuses otherwise.
+fn unless_refused(drafted: Result<Draft, NodeFault>) -> Result<Option<Draft>, AllocError>
+    ensures some { IfOk result (λ o. IfSome o (λ d. drafted ≡ Ok d)) }
+    ensures none { IfOk result (λ o. o ≡ None → (fault : NodeFaultTerm) × (drafted ≡ Err fault) × (fault ≡ NodeFault.Memory → ⊥)) }
 {
-    if !may_hear(member, input) {
-        return Ok(None);
-    }
-    match member.draft(alloc, input) {
+    match drafted {
         Ok(draft) => Ok(Some(draft)),
-        Err(MemberFault::Memory) => Err(AllocError),
-        Err(MemberFault::Spent) => Ok(None),
+        Err(NodeFault::Memory) => Err(AllocError),
+        Err(_) => Ok(None),
     }
 }
 
-/// Whether an input may come to a member.
-fn may_hear<R: Records + Drop>(member: &Member<R>, input: &Input) -> bool
-    ensures sound { result ≡ true → IsHeard member.now.members (input_of member.now.number input.now) }
-    ensures complete { IsHeard member.now.members (input_of member.now.number input.now) → result ≡ true }
-{
-    match input {
-        Input::Message(sender, message) => member.hears(*sender, *message),
-        Input::Tick(_) => true,
-    }
-}
-
-impl<R: Records + Drop> Seat<R> {
-    /// What comes of an input, if anything. Nothing that shows has changed.
+impl<R: Records + Drop, A: Application + Drop> Seat<R, A> {
+    /// What comes of received bytes, if anything. Nothing that shows has changed.
     ///
-    /// It fails where memory is refused. Nothing comes of an input to a stopped member, of a message that may not come, and of a
-    /// ballot where positions or rounds are spent.
-    pub(super) fn draft(
-        &mut self,
-        alloc: Global,
-        input: &Input,
-    ) -> Result<Option<Draft>, AllocError>
-        requires runs { (x : MemberTerm R) → self.old.member ≡ Some x → x.acceptor.is_stopped ≡ false }
-        ensures stays { Moves R.stands R.is_kept IsAny MayStay self.old self.new [] [] }
+    /// It fails where memory is refused. Nothing comes of bytes to a stopped member, and of those that are no message to it.
+    pub(super) fn hear(&mut self, alloc: Global, bytes: &[u8]) -> Result<Option<Draft>, AllocError>
+        requires runs { (x : NodeTerm R A) → self.old.node ≡ Some x → x.member.acceptor.is_stopped ≡ false }
+        ensures stays { Moves R.stands R.is_kept A.has_applied IsAny MayStay self.old self.new [] [] }
         ensures store { store_in self.new ≡ store_in self.old }
-        ensures seat { (n m : ℕ) → IsSeat n m self.old → IsSeat n m self.new }
-        ensures drafted { IfOk result (λ o. IfSome o (λ d. (n m : ℕ) → IsSeat n m self.old → IsPlanned self.new (input_of m input.now) d)) }
-        ensures skipped { IfOk result (λ o. o ≡ None → (n m : ℕ) → IsSeat n m self.old → Skips self.new (input_of m input.now)) }
+        ensures seat { (t : SetupTerm) → IsSeat t self.old → IsSeat t self.new }
+        ensures drafted { IfOk result (λ o. IfSome o (λ d. (t : SetupTerm) → IsSeat t self.old → IsPlanned A.has_applied (A.meaning t.names) self.new (Hears (packet_in t.group (bytes.now, t.member))) d)) }
+        ensures skipped { IfOk result (λ o. o ≡ None → (t : SetupTerm) → IsSeat t self.old → Skips A.has_applied self.new (Hears (packet_in t.group (bytes.now, t.member)))) }
     {
-        let Some(member) = self.member.as_mut() else {
+        let Some(node) = self.node.as_mut() else {
             return Ok(None);
         };
-        draft_for(member, alloc, input)
+        unless_refused(node.draft(alloc, bytes))
+    }
+
+    /// What comes of a tick, if anything. Nothing that shows has changed.
+    ///
+    /// It fails where memory is refused. Nothing comes of a tick to a stopped member, and of a ballot where positions or rounds are spent.
+    pub(super) fn tick(&mut self, alloc: Global, tick: Tick) -> Result<Option<Draft>, AllocError>
+        requires runs { (x : NodeTerm R A) → self.old.node ≡ Some x → x.member.acceptor.is_stopped ≡ false }
+        ensures stays { Moves R.stands R.is_kept A.has_applied IsAny MayStay self.old self.new [] [] }
+        ensures store { store_in self.new ≡ store_in self.old }
+        ensures seat { (t : SetupTerm) → IsSeat t self.old → IsSeat t self.new }
+        ensures drafted { IfOk result (λ o. IfSome o (λ d. (t : SetupTerm) → IsSeat t self.old → IsPlanned A.has_applied (A.meaning t.names) self.new (ticked tick) d)) }
+        ensures skipped { IfOk result (λ o. o ≡ None → (t : SetupTerm) → IsSeat t self.old → Skips A.has_applied self.new (ticked tick)) }
+    {
+        let Some(node) = self.node.as_mut() else {
+            return Ok(None);
+        };
+        unless_refused(node.draft_tick(alloc, tick))
     }
 
     /// Makes what was drafted. Where the store fails the member stops, and nothing is sent or told.
@@ -90,35 +79,40 @@ impl<R: Records + Drop> Seat<R> {
         &mut self,
         alloc: Global,
         draft: Draft,
-    ) -> Result<Option<Outcome>, AllocError>
-        requires there { IsSome self.old.member }
-        requires ready { (x : MemberTerm R) → self.old.member ≡ Some x → IsReady x draft × (x.acceptor.is_stopped ≡ false) }
-        ensures moved { IfOk result (λ o. (app : Application) (n m : ℕ) (i : InputTerm) → KnowsNothing app → IsSeat n m self.old
-            → ((x : MemberTerm R) → self.old.member ≡ Some x → IsDrafted i x draft) → Moves R.stands R.is_kept IsAny (MayStep (Did R.failed R.fates false (store_in self.old) (store_in self.new)) app n m i) self.old self.new (sent_by n m o) (told_by o)) }
-        ensures says { IfOk result (λ o. IfSome o (λ outcome. (outcome.sends.items ≡ draft.sends.items) × (outcome.tells.items ≡ draft.tells.items))) }
-        ensures refused { OnErr result (Moves R.stands R.is_kept IsAny MayStay self.old self.new [] []) }
-        ensures seat { (n m : ℕ) → IsSeat n m self.old → IsSeat n m self.new }
+    ) -> Result<Option<Outbox>, AllocError>
+        requires there { IsSome self.old.node }
+        requires ready { (x : NodeTerm R A) → self.old.node ≡ Some x → IsReady x.member draft.member × (x.member.acceptor.is_stopped ≡ false) }
+        ensures moved { IfOk result (λ o. (t : SetupTerm) (i : InputTerm) → IsSeat t self.old
+            → ((x : NodeTerm R A) → self.old.node ≡ Some x → IsDrafted A.has_applied (A.meaning t.names) i x draft)
+            → Moves R.stands R.is_kept A.has_applied IsAny (MayStep (Did R.failed R.fates false (store_in self.old) (store_in self.new)) (A.meaning t.names) t.members t.member i) self.old self.new (sent_by t.group t.members t.member o) (told_by o)) }
+        ensures says { IfOk result (λ o. IfSome o (λ outbox. (outbox.sent.items ≡ draft.sent.items) × (outbox.tells.items ≡ draft.member.tells.items))) }
+        ensures refused { OnErr result (Moves R.stands R.is_kept A.has_applied IsAny MayStay self.old self.new [] []) }
+        ensures seat { (t : SetupTerm) → IsSeat t self.old → IsSeat t self.new }
     {
-        let Some(member) = self.member.as_mut() else {
+        let Some(node) = self.node.as_mut() else {
             return Ok(None);
         };
-        match member.commit(alloc, draft) {
-            Ok(outcome) => Ok(Some(outcome)),
-            Err(RecordsFault::Memory) => Err(AllocError),
-            Err(RecordsFault::Store) => {
+        match node.commit(alloc, draft) {
+            Ok(outbox) => Ok(Some(outbox)),
+            Err(NodeFault::Store) => {
                 self.empty();
                 Ok(None)
             }
+            Err(NodeFault::Memory) => Err(AllocError),
+            // Nothing else comes of what was drafted.
+            Err(NodeFault::Wire(_) | NodeFault::Stranger | NodeFault::Stopped | NodeFault::Spent) =>
+                Err(AllocError),
         }
     }
 
     /// Stops a member, where one runs.
     pub(super) fn stop(&mut self)
-        requires runs { (x : MemberTerm R) → self.old.member ≡ Some x → x.acceptor.is_stopped ≡ false }
-        ensures stopped { IsSome self.old.member → Moves R.stands R.is_kept IsAny MayStop self.old self.new [] [] }
-        ensures none { self.old.member ≡ None → self.new ≡ self.old }
-        ensures empty { self.new.member ≡ None }
+        requires runs { (x : NodeTerm R A) → self.old.node ≡ Some x → x.member.acceptor.is_stopped ≡ false }
+        ensures stopped { IsSome self.old.node → Moves R.stands R.is_kept A.has_applied IsAny MayStop self.old self.new [] [] }
+        ensures none { self.old.node ≡ None → self.new ≡ self.old }
+        ensures empty { self.new.node ≡ None }
         ensures store { store_in self.new ≡ store_in self.old }
+        ensures seat { (t : SetupTerm) → IsSeat t self.old → IsSeat t self.new }
     {
         self.empty();
     }
@@ -127,74 +121,87 @@ impl<R: Records + Drop> Seat<R> {
     ///
     /// It fails where memory is refused, and then nothing that shows has changed.
     pub(super) fn stop_in(&mut self, alloc: Global, draft: Draft) -> Result<(), AllocError>
-        requires there { IsSome self.old.member }
-        requires ready { (x : MemberTerm R) → self.old.member ≡ Some x → IsReady x draft × (x.acceptor.is_stopped ≡ false) }
-        ensures moved { OnOk result ((app : Application) (n m : ℕ) (i : InputTerm) → KnowsNothing app → IsSeat n m self.old
-            → ((x : MemberTerm R) → self.old.member ≡ Some x → IsDrafted i x draft) → Moves R.stands R.is_kept IsAny (MayStopIn (Did R.failed R.fates true (store_in self.old) (store_in self.new)) app n m i true) self.old self.new [] []) }
-        ensures refused { OnErr result (Moves R.stands R.is_kept IsAny MayStay self.old self.new [] []) }
-        ensures seat { (n m : ℕ) → IsSeat n m self.old → IsSeat n m self.new }
+        requires there { IsSome self.old.node }
+        requires ready { (x : NodeTerm R A) → self.old.node ≡ Some x → IsReady x.member draft.member × (x.member.acceptor.is_stopped ≡ false) }
+        ensures moved { OnOk result ((t : SetupTerm) (i : InputTerm) → IsSeat t self.old
+            → ((x : NodeTerm R A) → self.old.node ≡ Some x → IsDrafted A.has_applied (A.meaning t.names) i x draft)
+            → Moves R.stands R.is_kept A.has_applied IsAny (MayStopIn (Did R.failed R.fates true (store_in self.old) (store_in self.new)) (A.meaning t.names) t.members t.member i true) self.old self.new [] []) }
+        ensures refused { OnErr result (Moves R.stands R.is_kept A.has_applied IsAny MayStay self.old self.new [] []) }
+        ensures seat { (t : SetupTerm) → IsSeat t self.old → IsSeat t self.new }
     {
-        let Some(member) = self.member.as_mut() else {
+        let Some(node) = self.node.as_mut() else {
             return Ok(());
         };
-        match member.cut(alloc, draft) {
+        match node.cut(alloc, draft) {
             Ok(()) => {
                 self.empty();
                 Ok(())
             }
-            Err(RecordsFault::Memory) => Err(AllocError),
-            Err(RecordsFault::Store) => {
+            Err(NodeFault::Store) => {
                 self.empty();
                 Ok(())
             }
+            Err(NodeFault::Memory) => Err(AllocError),
+            // Nothing else comes of what was drafted.
+            Err(NodeFault::Wire(_) | NodeFault::Stranger | NodeFault::Stopped | NodeFault::Spent) =>
+                Err(AllocError),
         }
     }
 
     /// Starts a member from its records, where it is stopped and its store does not fail.
     ///
     /// It fails where memory is refused, and then the member is stopped as before.
-    pub(super) fn start(
-        &mut self,
-        alloc: Global,
-        members: Members,
-        number: u8,
-    ) -> Result<(), AllocError>
-        requires least { 1 ≤ number }
-        requires most { number ≤ members }
-        ensures moved { OnOk result (self.old.member ≡ None → Moves R.stands R.is_kept (IsFit members) (MayStart (Did R.failed R.fates false (store_in self.old) (store_in self.new))) self.old self.new [] []) }
-        ensures refused { OnErr result (Moves R.stands R.is_kept IsAny MayStay self.old self.new [] []) }
-        ensures runs { IsSome self.old.member → self.new ≡ self.old }
-        ensures seat { IsSeat members number self.old → IsSeat members number self.new }
+    pub(super) fn start(&mut self, alloc: Global) -> Result<(), AllocError>
+        ensures moved { OnOk result ((t : SetupTerm) → IsSeat t self.old → self.old.node ≡ None
+            → Moves R.stands R.is_kept A.has_applied (IsFit t.members) (MayStart (Did R.failed R.fates false (store_in self.old) (store_in self.new))) self.old self.new [] []) }
+        ensures refused { OnErr result (Moves R.stands R.is_kept A.has_applied IsAny MayStay self.old self.new [] []) }
+        ensures runs { IsSome self.old.node → self.new ≡ self.old }
+        ensures seat { (t : SetupTerm) → IsSeat t self.old → IsSeat t self.new }
     {
-        if self.member.is_some() {
+        if self.node.is_some() {
             return Ok(());
         }
-        let Some(records) = self.records.take() else {
+        let Some((setup, records)) = self.left.take() else {
             return Ok(());
         };
-        match Member::open(alloc, members, number, records) {
-            Ok(member) => {
-                self.member = Some(member);
+        match Node::open(alloc, setup, records) {
+            Ok(node) => {
+                self.node = Some(node);
                 Ok(())
             }
-            Err((fault, records)) => {
-                self.records = Some(records);
+            Err((fault, setup, records)) => {
+                self.left = Some((setup, records));
                 match fault {
-                    RecordsFault::Memory => Err(AllocError),
-                    RecordsFault::Store => Ok(()),
+                    OpenFault::Memory => Err(AllocError),
+                    OpenFault::Store => Ok(()),
                 }
             }
         }
     }
 
-    /// Takes a member from its seat, and leaves its records there.
-    fn empty(&mut self)
-        ensures left { (x : MemberTerm R) → self.old.member ≡ Some x → (self.new.member ≡ None) × (self.new.records ≡ Some x.acceptor.records) }
-        ensures none { self.old.member ≡ None → self.new ≡ self.old }
-        ensures stands { (x : MemberTerm R) → self.old.member ≡ Some x → x.acceptor.is_stopped ≡ false → R.is_kept x.acceptor.records → R.stands x.acceptor.records x.acceptor.kept x.acceptor.kept }
+    /// Whether the node that runs here, if one does, has applied all that it has learnt without a gap.
+    pub(super) fn is_up_to_date(&self) -> bool
+        ensures all { result ≡ true → IsUpToDate A.has_applied self.now }
+        ensures one { result ≡ false → IsBehind A.has_applied self.now }
     {
-        if let Some(member) = self.member.take() {
-            self.records = Some(member.into_records());
+        match &self.node {
+            Some(node) => node.applied() == node.prefix(),
+            None => true,
+        }
+    }
+
+    /// Takes a node from its seat, and leaves what opens it again there.
+    fn empty(&mut self)
+        ensures left { (x : NodeTerm R A) → self.old.node ≡ Some x → (self.new.node ≡ None) × (self.new.left ≡ Some (x.setup, x.member.acceptor.records)) }
+        ensures stands { (x : NodeTerm R A) → self.old.node ≡ Some x → x.member.acceptor.is_stopped ≡ false → R.is_kept x.member.acceptor.records
+            → R.stands x.member.acceptor.records x.member.acceptor.kept x.member.acceptor.kept }
+        ensures none { self.old.node ≡ None → self.new ≡ self.old }
+        ensures empty { self.new.node ≡ None }
+        ensures store { store_in self.new ≡ store_in self.old }
+        ensures seat { (t : SetupTerm) → IsSeat t self.old → IsSeat t self.new }
+    {
+        if let Some(node) = self.node.take() {
+            self.left = Some(node.into_parts());
         }
     }
 }

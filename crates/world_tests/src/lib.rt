@@ -1,4 +1,4 @@
-//! Tests of worlds, over what they make public.
+//! Tests of worlds over nodes, over what they make public.
 #![tactic(auto)]
 
 #[cfg(test)]

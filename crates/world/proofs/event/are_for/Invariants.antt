@@ -1,6 +1,6 @@
 use Rattle.std.proofs.Common.{◌≡◌, drop}
 use Rattle.std.specs.List.{list_all}
-use Rattle.world.specs.Runs.{is_for}
+use Rattle.events.specs.Events.{is_for}
 use Rattle.world.proofs.event.are_for.Given as goal
 
 -- the events that were looked at name members that there are

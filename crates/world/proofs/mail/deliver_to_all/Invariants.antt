@@ -5,4 +5,4 @@ use Rattle.world.proofs.mail.deliver_to_all.Given as goal
 
 -- all targets before have their deliveries
 abbrev pub invariant-loop-before : goal.invariant-loop-before
-invariant-loop-before l = l.plan.items ≡ l.fn.plan.items ++ deliveries l.before l.fn.sender l.fn.message All
+invariant-loop-before l = l.plan.items ≡ l.fn.plan.items ++ deliveries l.before 0 l.fn.message All

@@ -9,7 +9,7 @@ use Rattle.world.proofs.running.place_all.Given as goal
 abbrev pub invariant-loop-records : goal.invariant-loop-records
 invariant-loop-records g l = (goal.iterator-loop-records g).can_next l.records-iterator
     × (goal.iterator-loop-records g).is_finite l.records-iterator
-    × ArePlaced {R = g.row.R.Denot} g.R.Records.is_kept l.fn.members l.seats.items
+    × ArePlaced {R = g.row.R.Denot} {A = g.row.A.Denot} g.R.Records.is_kept g.A.Application.has_applied l.fn.group l.fn.members l.fn.names l.seats.items
     × (l.number ≡ length l.seats.items)
     × (length l.seats.items + length (into_iter_items l.records-iterator) ≡ length l.fn.stores.items)
     × (vec_len l.seats + length (into_iter_items l.records-iterator) ≤ vec_capacity l.seats)

@@ -3,52 +3,66 @@ use Rattle.std.specs.Option.{option_copied_mut}
 use Rattle.acceptor.specs.Steps.{Acceptor}
 use Rattle.member.specs.Drafts.{write_in}
 use Rattle.world.specs.Seats.{Did, IsAny, store_in}
-use Rattle.world.proofs.Answered.{heard_comes, unanswered}
-use Rattle.world.proofs.Settling.{did_fail, did_in, did_write, failure_in, fails_in_step, grew, stays, runs_on, steps, store_running, store_stopped}
+use Rattle.world.proofs.Settling.{did_fail, did_in, did_write, failure_in, fails_in_step, grew, planned_write, runs_still, stays, steps, steps_of, store_running, store_stopped}
 use Rattle.world.proofs.seat.Seat.commit.Goals as goal
 
--- src/seat.rt:87:5
 pub returns-in-Ok-clause-moved : goal.returns-in-Ok-clause-moved
-returns-in-Ok-clause-moved g c = λ app n m i nothing seat drafted.
-    let x = c.in-Some.member.now in
+returns-in-Ok-clause-moved g c = λ t i seat drafted.
+    let x = c.in-Some.node.now in
     let y = c.commit.new.self in
     let there = sym c.as_mut.ensures.value ∙ ap option_copied_mut c.in-Some.is in
-    let place = seat x there in
-    let write = write_in c.args.draft.change in
-    steps {R = g.row.R.Denot} g.R.Records.stands g.R.Records.is_kept IsAny c.args.self.now (record { member = Some y; records = c.args.self.now.records }) x y
-    there refl c.commit.ensures.kept (Did g.R.Records.failed g.R.Records.fates false (store_in c.args.self.now) (store_in (record { member = Some y; records = c.args.self.now.records }))) app n m i c.in-Ok.outcome write (place.0, place.1)
-    (λ u this. c.in-Ok.ensures.took app i u (heard_comes x.members i (drafted x there).heard) this ((drafted x there).plans app u (unanswered app nothing x.members u i) this))
-    (λ u this. sym ((drafted x there).plans app u (unanswered app nothing x.members u i) this).write)
-    (λ kept. did_in {R = g.row.R.Denot} g.R.Records.failed g.R.Records.fates false _ _ x.acceptor.records y.acceptor.records write _ (store_running c.args.self.now x there) refl
-    (did_write {R = g.row.R.Denot} g.R.Records.failed g.R.Records.fates false x.acceptor.records y.acceptor.records (g.R.Records.stands y.acceptor.records) x.acceptor.kept c.in-Ok.outcome write (c.in-Ok.ensures.went place.2 kept)))
+    let place = seat.running x there in
+    let write = write_in c.args.draft.member.change in
+    let drafted_here = drafted x there in
+    steps {R = g.row.R.Denot} {A = g.row.A.Denot} g.R.Records.stands g.R.Records.is_kept g.A.Application.has_applied IsAny c.args.self.now (record { node = Some y; left = c.args.self.now.left }) x y
+    there refl c.commit.ensures.kept (Did g.R.Records.failed g.R.Records.fates false (store_in c.args.self.now) (store_in (record { node = Some y; left = c.args.self.now.left }))) (g.A.Application.meaning t.names) t i c.in-Ok.outbox write place.0
+    (steps_of {R = g.row.R.Denot} {A = g.row.A.Denot} g.A.Application.has_applied g.A.Application.meaning t i x c.args.draft place.0 drafted_here y c.in-Ok.outbox c.in-Ok.ensures.took)
+    (planned_write {R = g.row.R.Denot} {A = g.row.A.Denot} g.A.Application.has_applied g.A.Application.meaning t i x c.args.draft place.0 drafted_here)
+    (λ kept. did_in {R = g.row.R.Denot} g.R.Records.failed g.R.Records.fates false _ _ x.member.acceptor.records y.member.acceptor.records write _ (store_running c.args.self.now x there) refl
+    (did_write {R = g.row.R.Denot} g.R.Records.failed g.R.Records.fates false x.member.acceptor.records y.member.acceptor.records (g.R.Records.stands y.member.acceptor.records) x.member.acceptor.kept c.in-Ok.outbox write (c.in-Ok.ensures.went place.1 kept)))
 
--- src/seat.rt:87:5
+pub returns-in-Ok-clause-seat : goal.returns-in-Ok-clause-seat
+returns-in-Ok-clause-seat g c = λ t seat.
+    let x = c.in-Some.node.now in
+    let y = c.commit.new.self in
+    let there = sym c.as_mut.ensures.value ∙ ap option_copied_mut c.in-Some.is in
+    let was = seat.running x there in
+    runs_still {R = g.row.R.Denot} {A = g.row.A.Denot} t c.args.self.now (record { node = Some y; left = c.args.self.now.left }) y refl refl (c.commit.ensures.setup ∙ was.0) (c.in-Ok.ensures.runs was.1) seat
+
+pub returns-in-Err-Store-clause-moved : goal.returns-in-Err-Store-clause-moved
+returns-in-Err-Store-clause-moved g c = λ t i seat drafted.
+    let x = c.in-Some.node.now in
+    let y = c.commit.new.self in
+    let there = sym c.as_mut.ensures.value ∙ ap option_copied_mut c.in-Some.is in
+    let place = seat.running x there in
+    let left = c.empty.ensures.left y refl in
+    let stopped = c.in-Err-Store.ensures.store (ap Err c.in-Err-Store.field-0-is) in
+    let write = write_in c.args.draft.member.change in
+    let does = c.in-Err-Store.ensures.writes (ap Err c.in-Err-Store.field-0-is) place.1 in
+    fails_in_step {R = g.row.R.Denot} {A = g.row.A.Denot} g.R.Records.stands g.R.Records.is_kept g.A.Application.has_applied IsAny c.args.self.now c.empty.new.self x (y.setup, y.member.acceptor.records)
+    there left.0 left.1 c.commit.ensures.kept (Did g.R.Records.failed g.R.Records.fates false (store_in c.args.self.now) (store_in c.empty.new.self))
+    (g.A.Application.meaning t.names) t i write place.0
+    (planned_write {R = g.row.R.Denot} {A = g.row.A.Denot} g.A.Application.has_applied g.A.Application.meaning t i x c.args.draft place.0 (drafted x there))
+    (λ kept. failure_in {R = g.row.R.Denot} g.R.Records.failed g.R.Records.fates (g.R.Records.stands y.member.acceptor.records) false _ _ x.member.acceptor.records y.member.acceptor.records x.member.acceptor.kept write
+    (store_running c.args.self.now x there) (store_stopped c.empty.new.self (y.setup, y.member.acceptor.records) left.0 left.1)
+    (did_fail {R = g.row.R.Denot} g.R.Records.failed g.R.Records.fates false x.member.acceptor.records y.member.acceptor.records (g.R.Records.stands y.member.acceptor.records) x.member.acceptor.kept _ write does
+    (grew g.R.Records.failed place.1 stopped.cause) (stopped.crash place.1 kept) (rw c.in-Err-Store.field-0-is at c.in-Err-Store.ensures.went place.1 kept)))
+    does
+
 pub returns-in-Err-Memory-clause-refused : goal.returns-in-Err-Memory-clause-refused
 returns-in-Err-Memory-clause-refused g c =
-    let x = c.in-Some.member.now in
+    let x = c.in-Some.node.now in
     let y = c.commit.new.self in
     let there = sym c.as_mut.ensures.value ∙ ap option_copied_mut c.in-Some.is in
     let memory = c.in-Err-Memory.ensures.memory (ap Err c.in-Err-Memory.field-0-is) in
-    stays {R = g.row.R.Denot} g.R.Records.stands g.R.Records.is_kept IsAny c.args.self.now (record { member = Some y; records = c.args.self.now.records }) x y
-    there refl c.commit.ensures.kept (ap (λ (a : Acceptor g.row.R.Denot). a.kept) memory.0.kept) (runs_on {R = g.row.R.Denot} x y c.commit.ensures.place.0 memory.1)
+    stays {R = g.row.R.Denot} {A = g.row.A.Denot} g.R.Records.stands g.R.Records.is_kept g.A.Application.has_applied IsAny c.args.self.now (record { node = Some y; left = c.args.self.now.left }) x y
+    there refl c.commit.ensures.kept (ap (λ (a : Acceptor g.row.R.Denot). a.kept) memory.0.kept) memory.1
 
--- src/seat.rt:87:5
-pub returns-in-Err-Store-clause-moved : goal.returns-in-Err-Store-clause-moved
-returns-in-Err-Store-clause-moved g c = λ app n m i nothing seat drafted.
-    let x = c.in-Some.member.now in
+pub returns-in-Err-Memory-clause-seat : goal.returns-in-Err-Memory-clause-seat
+returns-in-Err-Memory-clause-seat g c = λ t seat.
+    let x = c.in-Some.node.now in
     let y = c.commit.new.self in
     let there = sym c.as_mut.ensures.value ∙ ap option_copied_mut c.in-Some.is in
-    let place = seat x there in
-    let left = c.empty.ensures.left y refl in
-    let stopped = c.in-Err-Store.ensures.stops (ap Err c.in-Err-Store.field-0-is) in
-    let write = write_in c.args.draft.change in
-    let does = c.in-Err-Store.ensures.writes (ap Err c.in-Err-Store.field-0-is) place.2 in
-    fails_in_step {R = g.row.R.Denot} g.R.Records.stands g.R.Records.is_kept IsAny c.args.self.now c.empty.new.self x y.acceptor.records
-    there left.0 left.1 c.commit.ensures.kept (Did g.R.Records.failed g.R.Records.fates false (store_in c.args.self.now) (store_in c.empty.new.self))
-    app n m i write (place.0, place.1)
-    (λ u this. sym ((drafted x there).plans app u (unanswered app nothing x.members u i) this).write)
-    (λ kept. failure_in {R = g.row.R.Denot} g.R.Records.failed g.R.Records.fates (g.R.Records.stands y.acceptor.records) false _ _ x.acceptor.records y.acceptor.records x.acceptor.kept write
-    (store_running c.args.self.now x there) (store_stopped c.empty.new.self y.acceptor.records left.0 left.1)
-    (did_fail {R = g.row.R.Denot} g.R.Records.failed g.R.Records.fates false x.acceptor.records y.acceptor.records (g.R.Records.stands y.acceptor.records) x.acceptor.kept _ write does
-    (grew g.R.Records.failed place.2 stopped.cause) (stopped.crash place.2 kept) (rw c.in-Err-Store.field-0-is at c.in-Err-Store.ensures.went place.2 kept)))
-    does
+    let was = seat.running x there in
+    let memory = c.in-Err-Memory.ensures.memory (ap Err c.in-Err-Memory.field-0-is) in
+    runs_still {R = g.row.R.Denot} {A = g.row.A.Denot} t c.args.self.now (record { node = Some y; left = c.args.self.now.left }) y refl refl (c.commit.ensures.setup ∙ was.0) (ap (λ (a : Acceptor g.row.R.Denot). a.is_stopped) memory.0.kept ∙ was.1) seat

@@ -1,11 +1,12 @@
 use Rattle.std.proofs.Common.{◌≤◌, ◌-◌, IsSome, refl, sym, subst, ap, ◌∙◌}
 use Rattle.std.specs.Vec.{with_item}
-use Rattle.std.proofs.lemmas.Option.{none-some, same_Some}
+use Rattle.std.proofs.lemmas.Option.{same_Some}
 use Rattle.paxos.specs.Sound.{Sound}
 use Rattle.world.specs.Held.{shown}
 use Rattle.world.specs.Reached.{Follows, Steps}
 use Rattle.world.specs.Seats.{IsAny, MayStop}
 use Rattle.world.specs.declared.seat.Seat.{Seat}
+use Rattle.world.specs.Shown.{setup_of}
 use Rattle.world.proofs.Placing.{read_there, held_after, same_seats, silent_after, stores_after}
 use Rattle.world.proofs.state.State.stop.Goals as goal
 
@@ -16,7 +17,7 @@ stop-requires g c =
     let held = c.requires.held in
     let seat = c.index_mut.result.now in
     let there = read_there self.seats.items number seat c.requires.least (subst (λ n. number ≤ n) (sym held.size) c.requires.most) c.index_mut.ensures.value in
-    record { runs = λ x q. (held.seats number seat there x q).2 }
+    record { runs = λ x q. ((held.seats number seat there).running x q).1 }
 
 pub returns-clause-held : goal.returns-clause-held
 returns-clause-held g c =
@@ -25,8 +26,8 @@ returns-clause-held g c =
     let held = c.requires.held in
     let seat = c.index_mut.result.now in
     let there = read_there self.seats.items number seat c.requires.least (subst (λ n. number ≤ n) (sym held.size) c.requires.most) c.index_mut.ensures.value in
-    held_after {R = g.row.R.Denot} g.R.Records.stands g.R.Records.is_kept self (record { members = self.members; seats = with_item self.seats (number - 1) c.stop.new.self; mail = self.mail; told = self.told }) number seat c.stop.new.self
-    held c.requires.least there refl refl (λ old x q. absurd (none-some x (sym c.stop.ensures.empty ∙ q))) held.whole
+    held_after {R = g.row.R.Denot} {A = g.row.A.Denot} g.R.Records.stands g.R.Records.is_kept g.A.Application.has_applied self (record { members = self.members; group = self.group; names = self.names; seats = with_item self.seats (number - 1) c.stop.new.self; mail = self.mail; told = self.told }) number seat c.stop.new.self
+    held c.requires.least there refl refl refl refl (c.stop.ensures.seat (setup_of (shown self) number)) held.whole
 
 pub returns-clause-stopped : goal.returns-clause-stopped
 returns-clause-stopped g c = λ s at_s some.
@@ -36,10 +37,10 @@ returns-clause-stopped g c = λ s at_s some.
     let seat = c.index_mut.result.now in
     let there = read_there self.seats.items number seat c.requires.least (subst (λ n. number ≤ n) (sym held.size) c.requires.most) c.index_mut.ensures.value in
     let same = same_Some seat s (sym there ∙ at_s) in
-    subst (λ (x : Seat g.row.R.Denot). Follows {R = g.row.R.Denot} g.R.Records.stands g.R.Records.is_kept (Sound self.members) (Steps (shown self) x number MayStop) (shown self) (shown (record { members = self.members; seats = with_item self.seats (number - 1) c.stop.new.self; mail = self.mail; told = self.told }))) same
-    (silent_after {R = g.row.R.Denot} g.R.Records.stands g.R.Records.is_kept self (record { members = self.members; seats = with_item self.seats (number - 1) c.stop.new.self; mail = self.mail; told = self.told }) number seat c.stop.new.self
-    held c.requires.least there refl refl IsAny MayStop (λ before v y sound shows h. tt) refl refl
-    (c.stop.ensures.stopped (subst (λ (x : Seat g.row.R.Denot). IsSome x.member) (sym same) some)))
+    subst (λ (x : Seat g.row.R.Denot g.row.A.Denot). Follows {R = g.row.R.Denot} {A = g.row.A.Denot} g.R.Records.stands g.R.Records.is_kept g.A.Application.has_applied (Sound self.members) (Steps g.A.Application.has_applied (shown self) x number MayStop) (shown self) (shown (record { members = self.members; group = self.group; names = self.names; seats = with_item self.seats (number - 1) c.stop.new.self; mail = self.mail; told = self.told }))) same
+    (silent_after {R = g.row.R.Denot} {A = g.row.A.Denot} g.R.Records.stands g.R.Records.is_kept g.A.Application.has_applied self (record { members = self.members; group = self.group; names = self.names; seats = with_item self.seats (number - 1) c.stop.new.self; mail = self.mail; told = self.told }) number seat c.stop.new.self
+    held c.requires.least there refl refl refl refl IsAny MayStop (λ before v y sound shows h. tt) refl refl
+    (c.stop.ensures.stopped (subst (λ (x : Seat g.row.R.Denot g.row.A.Denot). IsSome x.node) (sym same) some)))
 
 pub returns-clause-none : goal.returns-clause-none
 returns-clause-none g c = λ s at_s none.
@@ -49,8 +50,8 @@ returns-clause-none g c = λ s at_s none.
     let seat = c.index_mut.result.now in
     let there = read_there self.seats.items number seat c.requires.least (subst (λ n. number ≤ n) (sym held.size) c.requires.most) c.index_mut.ensures.value in
     let same = same_Some seat s (sym there ∙ at_s) in
-    same_seats {R = g.row.R.Denot} self (record { members = self.members; seats = with_item self.seats (number - 1) c.stop.new.self; mail = self.mail; told = self.told }) number seat c.stop.new.self c.requires.least there refl refl refl refl
-    (c.stop.ensures.none (ap (λ (x : Seat g.row.R.Denot). x.member) same ∙ none))
+    same_seats {R = g.row.R.Denot} {A = g.row.A.Denot} self (record { members = self.members; group = self.group; names = self.names; seats = with_item self.seats (number - 1) c.stop.new.self; mail = self.mail; told = self.told }) number seat c.stop.new.self c.requires.least there refl refl refl refl refl refl
+    (c.stop.ensures.none (ap (λ (x : Seat g.row.R.Denot g.row.A.Denot). x.node) same ∙ none))
 
 pub returns-clause-stores : goal.returns-clause-stores
 returns-clause-stores g c =
@@ -59,5 +60,5 @@ returns-clause-stores g c =
     let held = c.requires.held in
     let seat = c.index_mut.result.now in
     let there = read_there self.seats.items number seat c.requires.least (subst (λ n. number ≤ n) (sym held.size) c.requires.most) c.index_mut.ensures.value in
-    stores_after {R = g.row.R.Denot} g.R.Records.stands g.R.Records.is_kept self (record { members = self.members; seats = with_item self.seats (number - 1) c.stop.new.self; mail = self.mail; told = self.told }) number seat c.stop.new.self
-    held c.requires.least there refl refl c.stop.ensures.store
+    stores_after {R = g.row.R.Denot} {A = g.row.A.Denot} g.R.Records.stands g.R.Records.is_kept g.A.Application.has_applied self (record { members = self.members; group = self.group; names = self.names; seats = with_item self.seats (number - 1) c.stop.new.self; mail = self.mail; told = self.told }) number seat c.stop.new.self
+    held c.requires.least there refl refl refl refl c.stop.ensures.store

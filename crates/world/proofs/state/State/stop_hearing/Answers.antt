@@ -1,14 +1,13 @@
-use Rattle.std.proofs.Common.{true, IfSome, Option, subst, ap, ◌∙◌}
+use Rattle.std.proofs.Common.{true, arith, IfSome, Option, sym, subst, ap₂, ◌∙◌}
 use Rattle.member.specs.Steps.{Hears}
-use Rattle.member.specs.declared.draft.Draft.{Draft}
+use Rattle.node.specs.declared.draft.Draft.{Draft}
 use Rattle.paxos.specs.Lists.{at}
 use Rattle.paxos.specs.World.{StopInDeliver}
-use Rattle.paxos.proofs.Lists.{at_has}
 use Rattle.paxos.specs.Sound.{Sound}
 use Rattle.world.specs.Held.{shown}
 use Rattle.world.specs.Posts.{packet_of, sent_in}
 use Rattle.world.specs.Reached.{Follows, HappenedOver, HaveDone, Stays, Steps, store_at}
-use Rattle.world.specs.Seats.{Did, IsPlannedAt, MayStopIn}
+use Rattle.world.specs.Seats.{Did, IsPlanned, IsPlannedAt, MayStopIn}
 use Rattle.world.specs.declared.mail.Mail.{Mail}
 use Rattle.world.proofs.Given.{err_so, ok_so}
 use Rattle.world.proofs.Happening.{steps_so, stop_so, stops_in_delivery}
@@ -19,19 +18,20 @@ use Rattle.world.proofs.Stopping.{unheard_stop_happens}
 use Rattle.world.proofs.state.State.stop_hearing.Goals as goal
 
 pub returns-in_default-clause-happened : goal.returns-in_default-clause-happened
-returns-in_default-clause-happened g c = λ app nothing.
+returns-in_default-clause-happened g c =
     let self = c.args.self.now in
+    let app = g.A.Application.meaning self.names in
     let mid = c.hear.new.self in
     let end = c.stop.new.self in
     let number = c.args.delivery.target in
     let d = c.args.delivery in
-    let p = packet_of self.mail.messages.items d in
-    let here = ap (λ (x : Mail). at (sent_in x) c.args.number) c.hear.ensures.same.1 ∙ c.requires.there.3 in
-    let target = target_of self.mail.messages.items d in
+    let p = packet_of self.group self.mail.messages.items d in
+    let here = ap₂ (λ n (x : Mail). at (sent_in n x) c.args.number) c.hear.ensures.same.1 c.hear.ensures.same.3 ∙ c.requires.there.3 in
+    let target = target_of self.group self.mail.messages.items d in
     let s = c.in_ok-draft.ensures.skipped c.in_default.is in
-    joined {R = g.row.R.Denot} {stands = g.R.Records.stands} {is_kept = g.R.Records.is_kept} {MayBe = Sound self.members} _ (shown self) (shown mid) (shown end) c.hear.ensures.stays
-    (subst (λ n. Follows {R = g.row.R.Denot} g.R.Records.stands g.R.Records.is_kept (Sound n) (HappenedOver g.R.Records.failed g.R.Records.fates self.seats.items end.seats.items app (StopInDeliver c.args.number true)) (shown mid) (shown end)) c.hear.ensures.same.0
-    (unheard_stop_happens {R = g.row.R.Denot} g.R.Records.stands g.R.Records.is_kept (HaveDone g.R.Records.failed g.R.Records.fates true self.seats.items end.seats.items) (nothing_done {R = g.row.R.Denot} g.R.Records.failed g.R.Records.fates true self.seats.items end.seats.items (λ j. c.stop.ensures.stores j ∙ c.hear.ensures.stores j)) app mid end number s.0 s.1 c.hear.ensures.held (c.stop.ensures.stopped s.0 s.1) (c.stop.ensures.none s.0 s.1) c.args.number p here target s.2))
+    joined {R = g.row.R.Denot} {A = g.row.A.Denot} {stands = g.R.Records.stands} {is_kept = g.R.Records.is_kept} {has_applied = g.A.Application.has_applied} {MayBe = Sound self.members} _ (shown self) (shown mid) (shown end) c.hear.ensures.stays
+    (subst (λ n. Follows {R = g.row.R.Denot} {A = g.row.A.Denot} g.R.Records.stands g.R.Records.is_kept g.A.Application.has_applied (Sound n) (HappenedOver g.R.Records.failed g.R.Records.fates self.seats.items end.seats.items app (StopInDeliver c.args.number true)) (shown mid) (shown end)) c.hear.ensures.same.0
+    (unheard_stop_happens {R = g.row.R.Denot} {A = g.row.A.Denot} g.R.Records.stands g.R.Records.is_kept g.A.Application.has_applied (HaveDone g.R.Records.failed g.R.Records.fates true self.seats.items end.seats.items) (nothing_done {R = g.row.R.Denot} {A = g.row.A.Denot} g.R.Records.failed g.R.Records.fates true self.seats.items end.seats.items (λ j. c.stop.ensures.stores j ∙ c.hear.ensures.stores j)) app mid end number s.0 s.1 c.hear.ensures.held (c.stop.ensures.stopped s.0 s.1) (c.stop.ensures.none s.0 s.1) c.args.number p here target (λ e. omega (arith, e, c.requires.there.0)) s.2))
 
 pub returns-clause-happened : goal.returns-clause-happened
 returns-clause-happened g c =
@@ -40,20 +40,22 @@ returns-clause-happened g c =
     let end = c.stop_in.new.self in
     let number = c.args.delivery.target in
     let d = c.args.delivery in
-    let p = packet_of self.mail.messages.items d in
-    let here = ap (λ (x : Mail). at (sent_in x) c.args.number) c.hear.ensures.same.1 ∙ c.requires.there.3 in
-    let target = target_of self.mail.messages.items d in
-    let planned = subst (λ (o : Option Draft). IfSome o (λ x. IsPlannedAt {R = g.row.R.Denot} mid.seats.items number (Hears p) x)) c.in-Some.is c.in_ok-draft.ensures.planned in
-    ok_so c.stop_in.result _ _ (λ stopped app nothing.
-    joined {R = g.row.R.Denot} {stands = g.R.Records.stands} {is_kept = g.R.Records.is_kept} {MayBe = Sound self.members} (HappenedOver g.R.Records.failed g.R.Records.fates self.seats.items end.seats.items app (StopInDeliver c.args.number true)) (shown self) (shown mid) (shown end) c.hear.ensures.stays
-    (so (Steps (shown mid) planned.0 number (MayStopIn (Did g.R.Records.failed g.R.Records.fates true (store_at mid.seats.items number) (store_at end.seats.items number)) app self.members number (Hears p) true)) (HappenedOver g.R.Records.failed g.R.Records.fates self.seats.items end.seats.items app (StopInDeliver c.args.number true)) (shown mid) (shown end)
-    (λ v z sound step. stops_in_delivery (HaveDone g.R.Records.failed g.R.Records.fates true self.seats.items end.seats.items) app self.members (shown mid) planned.0 number (c.hear.ensures.held.size ∙ c.hear.ensures.same.0) c.args.number p here target v z
-    (steps_so {R = g.row.R.Denot} _ _ (stop_so _ _ (have_done {R = g.row.R.Denot} g.R.Records.failed g.R.Records.fates true self.seats.items mid.seats.items end.seats.items number c.hear.ensures.stores c.stop_in.ensures.others) app self.members number (Hears p) true) (shown mid) planned.0 number v z step))
-    (subst (λ n. Follows {R = g.row.R.Denot} g.R.Records.stands g.R.Records.is_kept (Sound n) (Steps (shown mid) planned.0 number (MayStopIn (Did g.R.Records.failed g.R.Records.fates true (store_at mid.seats.items number) (store_at end.seats.items number)) app n number (Hears p) true)) (shown mid) (shown end)) c.hear.ensures.same.0
-    (stopped app (Hears p) planned.0 nothing planned.1 planned.2 (at_has (sent_in mid.mail) c.args.number p here, target))))) c.stop_in.ensures.stopped
+    let p = packet_of self.group self.mail.messages.items d in
+    let here = ap₂ (λ n (x : Mail). at (sent_in n x) c.args.number) c.hear.ensures.same.1 c.hear.ensures.same.3 ∙ c.requires.there.3 in
+    let target = target_of self.group self.mail.messages.items d in
+    let planned = subst (λ (o : Option Draft). IfSome o (λ x. IsPlannedAt {R = g.row.R.Denot} {A = g.row.A.Denot} g.A.Application.has_applied (g.A.Application.meaning self.names) mid.seats.items number (Hears p) x)) c.in-Some.is c.in_ok-draft.ensures.planned in
+    ok_so c.stop_in.result _ _ (λ stopped.
+    let app = g.A.Application.meaning self.names in
+    joined {R = g.row.R.Denot} {A = g.row.A.Denot} {stands = g.R.Records.stands} {is_kept = g.R.Records.is_kept} {has_applied = g.A.Application.has_applied} {MayBe = Sound self.members} (HappenedOver g.R.Records.failed g.R.Records.fates self.seats.items end.seats.items app (StopInDeliver c.args.number true)) (shown self) (shown mid) (shown end) c.hear.ensures.stays
+    (so (Steps g.A.Application.has_applied (shown mid) planned.0 number (MayStopIn (Did g.R.Records.failed g.R.Records.fates true (store_at mid.seats.items number) (store_at end.seats.items number)) app self.members number (Hears p) true)) (HappenedOver g.R.Records.failed g.R.Records.fates self.seats.items end.seats.items app (StopInDeliver c.args.number true)) (shown mid) (shown end)
+    (λ v z sound step. stops_in_delivery {R = g.row.R.Denot} {A = g.row.A.Denot} g.A.Application.has_applied (HaveDone g.R.Records.failed g.R.Records.fates true self.seats.items end.seats.items) app self.members (shown mid) planned.0 number (c.hear.ensures.held.size ∙ c.hear.ensures.same.0) c.args.number p here target v z
+    (steps_so {R = g.row.R.Denot} {A = g.row.A.Denot} g.A.Application.has_applied _ _ (stop_so _ _ (have_done {R = g.row.R.Denot} {A = g.row.A.Denot} g.R.Records.failed g.R.Records.fates true self.seats.items mid.seats.items end.seats.items number c.hear.ensures.stores c.stop_in.ensures.others) app self.members number (Hears p) true) (shown mid) planned.0 number v z step))
+    (subst (λ n. Follows {R = g.row.R.Denot} {A = g.row.A.Denot} g.R.Records.stands g.R.Records.is_kept g.A.Application.has_applied (Sound n) (Steps g.A.Application.has_applied (shown mid) planned.0 number (MayStopIn (Did g.R.Records.failed g.R.Records.fates true (store_at mid.seats.items number) (store_at end.seats.items number)) app n number (Hears p) true)) (shown mid) (shown end)) c.hear.ensures.same.0
+    (subst (λ ns. Follows {R = g.row.R.Denot} {A = g.row.A.Denot} g.R.Records.stands g.R.Records.is_kept g.A.Application.has_applied (Sound mid.members) (Steps g.A.Application.has_applied (shown mid) planned.0 number (MayStopIn (Did g.R.Records.failed g.R.Records.fates true (store_at mid.seats.items number) (store_at end.seats.items number)) (g.A.Application.meaning ns) mid.members number (Hears p) true)) (shown mid) (shown end)) c.hear.ensures.same.2
+    (stopped (Hears p) planned.0 planned.1 (subst (λ ns. IsPlanned {R = g.row.R.Denot} {A = g.row.A.Denot} g.A.Application.has_applied (g.A.Application.meaning ns) planned.0 (Hears p) c.in-Some.draft) (sym c.hear.ensures.same.2) planned.2)))))) c.stop_in.ensures.stopped
 
 pub returns-clause-refused : goal.returns-clause-refused
 returns-clause-refused g c =
     let self = c.args.self.now in
-    err_so c.stop_in.result _ _ (λ stays. joined {R = g.row.R.Denot} {stands = g.R.Records.stands} {is_kept = g.R.Records.is_kept} {MayBe = Sound self.members} Stays (shown self) (shown c.hear.new.self) (shown c.stop_in.new.self) c.hear.ensures.stays
-    (subst (λ n. Follows {R = g.row.R.Denot} g.R.Records.stands g.R.Records.is_kept (Sound n) Stays (shown c.hear.new.self) (shown c.stop_in.new.self)) c.hear.ensures.same.0 stays)) c.stop_in.ensures.refused
+    err_so c.stop_in.result _ _ (λ stays. joined {R = g.row.R.Denot} {A = g.row.A.Denot} {stands = g.R.Records.stands} {is_kept = g.R.Records.is_kept} {has_applied = g.A.Application.has_applied} {MayBe = Sound self.members} Stays (shown self) (shown c.hear.new.self) (shown c.stop_in.new.self) c.hear.ensures.stays
+    (subst (λ n. Follows {R = g.row.R.Denot} {A = g.row.A.Denot} g.R.Records.stands g.R.Records.is_kept g.A.Application.has_applied (Sound n) Stays (shown c.hear.new.self) (shown c.stop_in.new.self)) c.hear.ensures.same.0 stays)) c.stop_in.ensures.refused

@@ -1,8 +1,0 @@
-use Rattle.std.proofs.Common.{◌≡◌, drop}
-use Rattle.std.specs.List.{list_all}
-use Rattle.node_world.specs.Runs.{is_for}
-use Rattle.node_world.proofs.event.are_for.Given as goal
-
--- the events that were looked at name members that there are
-abbrev pub invariant-loop-event : goal.invariant-loop-event
-invariant-loop-event l = list_all (is_for l.members) (drop l.event-index l.events) ≡ list_all (is_for l.members) l.events

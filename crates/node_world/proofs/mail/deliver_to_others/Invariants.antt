@@ -1,8 +1,0 @@
-use Rattle.std.proofs.Common.{◌≡◌, ◌++◌}
-use Rattle.member.specs.declared.outcome.Target.TheVariants.{Others}
-use Rattle.node_world.specs.Posts.{deliveries}
-use Rattle.node_world.proofs.mail.deliver_to_others.Given as goal
-
--- all targets before have their deliveries
-abbrev pub invariant-loop-before : goal.invariant-loop-before
-invariant-loop-before l = l.plan.items ≡ l.fn.plan.items ++ deliveries l.before l.fn.sender l.fn.message Others

@@ -1,9 +1,0 @@
-use Rattle.std.proofs.Common.{take}
-use Rattle.node_world.specs.Held.{IsHeld, shown}
-use Rattle.node_world.specs.Runs.{LeadsSmoothly, straight_run}
-use Rattle.node_world.proofs.state.State.straight.Given as goal
-
--- the events before have happened
-abbrev pub invariant-loop-before : goal.invariant-loop-before
-invariant-loop-before g l = IsHeld {R = g.row.R.Denot} {A = g.row.A.Denot} l.self
-    × LeadsSmoothly {R = g.row.R.Denot} {A = g.row.A.Denot} g.R.Records.stands g.R.Records.is_kept g.A.Application.has_applied (g.A.Application.meaning l.fn.self.names) (shown l.fn.self) (shown l.self) (take l.before (straight_run l.fn.self.members l.member l.request))
