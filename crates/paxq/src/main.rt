@@ -10,6 +10,7 @@ ghost use Rattle.std.specs.declared.io.ErrorKind.TheVariants.{OutOfMemory};
 use paxq_run::run_script;
 use paxq_sim::run_events;
 use program_reports::cannot_read;
+use sessions::State;
 use std::io::{BufWriter, Write};
 use std::process::ExitCode;
 use std::{fs, io};
@@ -61,7 +62,13 @@ fn sim_file(rt: &HostRuntime, events: &str) -> io::Result<u8> {
     let mut output = BufWriter::new(rt.alloc(), io::writer(rt))?;
     let mut errors = rt.stderr();
     let status = match fs::open(rt, events) {
-        Ok(mut file) => run_events(rt.alloc(), events, &mut file, &mut output, &mut errors)?,
+        Ok(mut file) => run_events::<State, _, _, _>(
+            rt.alloc(),
+            events,
+            &mut file,
+            &mut output,
+            &mut errors,
+        )?,
         Err(error) if error.kind() == io::ErrorKind::OutOfMemory => return Err(error),
         Err(_) => cannot_read(rt.alloc(), events, &mut errors)?,
     };

@@ -9,12 +9,10 @@ use Rattle.event_files.specs.declared.command.Command.{Command}
 use Rattle.event_files.specs.declared.command.Command.TheVariants.{Happens, DeliverAll}
 use Rattle.event_files.specs.declared.first.Failure.{Failure}
 use Rattle.paxos.specs.Application.{Application}
-use Rattle.paxos.specs.Examples.{silent}
 use Rattle.paxos.specs.Lists.{at}
 use Rattle.paxos.specs.World.{Deliver, delivers, settles}
 use Rattle.paxos.proofs.WellFormed.{at_number}
 use Rattle.paxq_sim.specs.Play.{IsSimulated, Plays, Progress, State, Takes, after_all, choice_in, is_undelivered, next, opening, report, undelivered, with_deliveries, with_event}
-use Rattle.paxq_sim.proofs.Leading.{silent_knows}
 use Rattle.paxq_sim.proofs.Steps.{after_more}
 
 -- no number above those that were sent names a message
@@ -90,8 +88,6 @@ module _ (app : Application) (failures : List Failure) where
   plays_once p q r (c ∷ cs) h k = plays_once h.0 q r cs h.2 (subst (λ x. Plays app failures x cs r) (takes_once p k.0 h.0 c k.1 h.1) k.2)
 
 -- What a simulation of an event file prints is one text.
-pub simulated_once : (f : EventFileTerm) (one other : List ℕ) → IsSimulated f one → IsSimulated f other → one ≡ other
-simulated_once f one other h k =
-    let a = h silent silent_knows in
-    let b = k silent silent_knows in
-    a.2 ∙ ap (λ (p : Progress). report p.state.world) (plays_once silent f.failures (opening f.group.members) a.0 b.0 f.commands a.1 b.1) ∙ sym b.2
+pub simulated_once : (meaning : List (List ℕ) → Application) (f : EventFileTerm) (one other : List ℕ) → IsSimulated meaning f one → IsSimulated meaning f other → one ≡ other
+simulated_once meaning f one other h k =
+    h.2 ∙ ap (λ (p : Progress). report p.state.world) (plays_once (meaning f.group.names) f.failures (opening f.group.members) h.0 k.0 f.commands h.1 k.1) ∙ sym k.2

@@ -12,14 +12,12 @@ use Rattle.ballots.specs.Terms.{Request}
 use Rattle.ballots.specs.declared.request.RequestId.{RequestId}
 use Rattle.ballots.specs.declared.value.Value.{Value}
 use Rattle.ballots.specs.declared.value.Value.TheVariants as value
-use Rattle.member.specs.Steps.{IsThis, Member}
-use Rattle.paxos.specs.Knowledge.{news, prefix}
-use Rattle.world.specs.Seats.{RunsAs}
+use Rattle.node.specs.Nodes.{Node, RunsAs}
 use Rattle.paxos.specs.Lists.{at}
 use Rattle.paxos.specs.Records.{Record}
 use Rattle.paxos.specs.Step.{Running}
 use Rattle.paxos.specs.World.{Told, World as Whole, Member as Part}
-use Rattle.world.specs.Runs.{member_at}
+use Rattle.world.specs.Runs.{node_at}
 use Rattle.world.specs.Shown.{World, Shows}
 use Rattle.world.specs.declared.seat.Seat.{Seat}
 use Rattle.world.proofs.Lifting.{some_at}
@@ -95,38 +93,38 @@ module _ (start : List ℕ) (all : List Told) where
   pub tells_all : (out : List ℕ) (places : List (ℕ × ℕ)) (left : List Told) → left ≡ [] → TellsOn start all out places left → out ≡ start ++ flat_map told_line (first_told [] all)
   tells_all out places left none was = sym (append-nil out) ∙ ap (λ ts. out ++ flat_map told_line (first_told was.earlier ts)) (sym none) ∙ was.text
 
-module _ (w : World Script) (kept : ℕ → Record) (v : Whole) (shows : Shows w kept v) (m : ℕ) where
+module _ {A : Type 0} (has_applied : List (List ℕ) → List Value → A → Type 0) (w : World Script A) (kept : ℕ → Record) (v : Whole) (shows : Shows has_applied w kept v) (m : ℕ) where
   abbrev pub running : Option Part → Option Running
   running o = option_and_then (λ (y : Part). y.running) o
 
-  -- a member that runs at its seat, runs
-  pub runs_there : (x : Member Script) → member_at w.seats m ≡ Some x → (u : Running) × (running (at v.members m) ≡ Some u) × RunsAs u x
+  -- the member of a node that runs at its seat, runs
+  pub runs_there : (x : Node Script A) → node_at w.seats m ≡ Some x → (u : Running) × (running (at v.members m) ≡ Some u) × RunsAs has_applied u x
   runs_there x h = by (at w.seats m) refl
     where
-      by : (o : Option (Seat Script)) → at w.seats m ≡ o → (u : Running) × (running (at v.members m) ≡ Some u) × RunsAs u x
-      by None e = absurd (none-some x (sym (ap (option_and_then (λ (s : Seat Script). s.member)) e) ∙ h))
+      by : (o : Option (Seat Script A)) → at w.seats m ≡ o → (u : Running) × (running (at v.members m) ≡ Some u) × RunsAs has_applied u x
+      by None e = absurd (none-some x (sym (ap (option_and_then (λ (s : Seat Script A). s.node)) e) ∙ h))
       by (Some s) e =
           let part = some_at w.seats v.members m s shows.size e in
-          let run = (shows.parts m s part.0 e part.1).running x (sym (ap (option_and_then (λ (s : Seat Script). s.member)) e) ∙ h) in
+          let run = (shows.parts m s part.0 e part.1).running x (sym (ap (option_and_then (λ (s : Seat Script A). s.node)) e) ∙ h) in
           (run.0, ap running part.1 ∙ run.1, run.2)
 
   -- where none runs at the seat, none does
-  pub stopped_there : member_at w.seats m ≡ None → running (at v.members m) ≡ None
+  pub stopped_there : node_at w.seats m ≡ None → running (at v.members m) ≡ None
   stopped_there h = by (at v.members m) refl
     where
       by : (o : Option Part) → at v.members m ≡ o → running o ≡ None
       by None e = refl
       by (Some y) e =
           let seat = some_at v.members w.seats m y (sym shows.size) e in
-          (shows.parts m seat.0 y seat.1 e).stopped (sym (ap (option_and_then (λ (s : Seat Script). s.member)) seat.1) ∙ h)
+          (shows.parts m seat.0 y seat.1 e).stopped (sym (ap (option_and_then (λ (s : Seat Script A). s.node)) seat.1) ∙ h)
 
   -- so the lines of both
-  pub applied_there : (bs : List ℕ) (p : ℕ) (x : Member Script) → bs ≡ applied_line m p → member_at w.seats m ≡ Some x → ((u : Running) → IsThis u x → p ≡ prefix x.members (news u.heard)) → bs ≡ member_line v m
+  pub applied_there : (bs : List ℕ) (p : ℕ) (x : Node Script A) → bs ≡ applied_line m p → node_at w.seats m ≡ Some x → ((u : Running) → RunsAs has_applied u x → p ≡ u.applied) → bs ≡ member_line v m
   applied_there bs p x h there applied =
       let run = runs_there x there in
-      h ∙ ap (applied_line m) (applied run.0 run.2.this ∙ sym run.2.applied) ∙ ap (running_line m) (sym run.1)
+      h ∙ ap (applied_line m) (applied run.0 run.2) ∙ ap (running_line m) (sym run.1)
 
-  pub stopped_line_there : (bs : List ℕ) → bs ≡ stopped_line m → member_at w.seats m ≡ None → bs ≡ member_line v m
+  pub stopped_line_there : (bs : List ℕ) → bs ≡ stopped_line m → node_at w.seats m ≡ None → bs ≡ member_line v m
   stopped_line_there bs h there = h ∙ ap (running_line m) (sym (stopped_there there))
 
 -- all the lines

@@ -22,7 +22,7 @@ use Rattle.paxq_sim.specs.Play.{State, all_applied, choice_in, fate, next}
 use Rattle.paxq_sim.proofs.Settling.{same_event, settled}
 
 -- The event leads from a world with its stores to the next, and what code holds has those stores.
-pub record Leads (app : Application) (failures : List Failure) (n : ℕ) (s : State) (e : Event) (w : World Script) (z : Whole) : Type 0 where
+pub record Leads {A : Type 0} (app : Application) (failures : List Failure) (n : ℕ) (s : State) (e : Event) (w : World Script A) (z : Whole) : Type 0 where
   pub world_is : (next app failures s e).world ≡ z
   pub known : IsKnown failures w (next app failures s e).written
   pub sound : Sound n z
@@ -35,7 +35,7 @@ one_later w j k = by (writes w)
     by true = omega arith
     by false = refl
 
-module _ (app : Application) (failures : List Failure) (n : ℕ) (s : State) (e : Event) (old new : World Script) (sound : Sound n s.world) (known : IsKnown failures old s.written) (z : Whole)
+module _ {A : Type 0} (app : Application) (failures : List Failure) (n : ℕ) (s : State) (e : Event) (old new : World Script A) (sound : Sound n s.world) (known : IsKnown failures old s.written) (z : Whole)
     (h : HappenedOver (λ (r : Script). r.failures) fates_of old.seats new.seats app e s.world z) where
   abbrev m : ℕ
   m = actor s.world e

@@ -13,9 +13,9 @@ use Rattle.event_files.specs.declared.first.Failure.{Failure}
 use Rattle.paxos.specs.Application.{Application}
 use Rattle.paxos.specs.World.{World as Whole, Event, Deliver, start}
 use Rattle.paxos.proofs.WellFormed.{start_sound}
-use Rattle.world.specs.Reached.{event_of}
+use Rattle.events.specs.Events.{event_of}
 use Rattle.world.specs.Shown.{World}
-use Rattle.world.specs.declared.event.Event.{Event as EventOfFile}
+use Rattle.events.specs.declared.event.Event.{Event as EventOfFile}
 use Rattle.paxq_sim.specs.Going.{Comes, Delivers, IsKnown}
 use Rattle.paxq_sim.specs.Play.{Progress, Plays, State, Takes, after_all, choice_in, is_among, is_undelivered, named_by, named_in, next, opening, undelivered, with_deliveries, with_event}
 use Rattle.paxq_sim.proofs.Growing.{happens_grows}
@@ -54,9 +54,9 @@ next_left p d least h =
     let high : nat_lt p.delivered (suc d) ≡ true = lt-ltb p.delivered (suc d) (omega (arith, least)) in
     filter-append (is_undelivered p) (up_to d) (suc d ∷ []) ∙ (λ i. undelivered p d ++ cond (high i && not (h i)) (suc d ∷ []) [])
 
-module _ (app : Application) (failures : List Failure) (n : ℕ) where
+module _ {A : Type 0} (app : Application) (failures : List Failure) (n : ℕ) where
   -- nothing has happened
-  pub opening_comes : (w : World Script) → n ≤ most_members → IsKnown failures w (λ m. 0) → Comes app failures n [] w 0 [] (start n)
+  pub opening_comes : (w : World Script A) → n ≤ most_members → IsKnown failures w (λ m. 0) → Comes app failures n [] w 0 [] (start n)
   opening_comes w few known = record {
     progress = opening n;
     plays = refl;
@@ -70,7 +70,7 @@ module _ (app : Application) (failures : List Failure) (n : ℕ) where
 
   module _ (done : List Command) where
     -- an event more
-    pub event_comes : (e : EventOfFile) (old new : World Script) (d : ℕ) (named more : List ℕ) (v z : Whole) → ((k : ℕ) → is_among more k ≡ (is_among named k || is_among (named_in d (length v.sent) e) k))
+    pub event_comes : (e : EventOfFile) (old new : World Script A) (d : ℕ) (named more : List ℕ) (v z : Whole) → ((k : ℕ) → is_among more k ≡ (is_among named k || is_among (named_in d (length v.sent) e) k))
         → (was : Comes app failures n done old d named v) → Leads app failures n was.progress.state (event_of e) new z → Comes app failures n (done ++ Happens e ∷ []) new d more z
     event_comes e old new d named more v z adds was h = record {
       progress = with_event app failures was.progress e;
@@ -86,7 +86,7 @@ module _ (app : Application) (failures : List Failure) (n : ℕ) where
     }
 
     -- all messages are about to be delivered
-    pub begins_delivering : (w : World Script) (d : ℕ) (named : List ℕ) (v : Whole) → Comes app failures n done w d named v → Delivers app failures n done w d named v
+    pub begins_delivering : (w : World Script A) (d : ℕ) (named : List ℕ) (v : Whole) → Comes app failures n done w d named v → Delivers app failures n done w d named v
     begins_delivering w d named v was = record {
       progress = was.progress;
       plays = was.plays;
@@ -101,7 +101,7 @@ module _ (app : Application) (failures : List Failure) (n : ℕ) where
     }
 
     -- the next one was named
-    pub passes_named : (w : World Script) (d : ℕ) (named : List ℕ) (v : Whole) → is_among named (d + 1) ≡ true → d < length v.sent → Delivers app failures n done w d named v → Delivers app failures n done w (d + 1) named v
+    pub passes_named : (w : World Script A) (d : ℕ) (named : List ℕ) (v : Whole) → is_among named (d + 1) ≡ true → d < length v.sent → Delivers app failures n done w d named v → Delivers app failures n done w (d + 1) named v
     passes_named w d named v is left was =
         let next : suc d ≡ d + 1 = omega arith in
         record {
@@ -119,7 +119,7 @@ module _ (app : Application) (failures : List Failure) (n : ℕ) where
         }
 
     -- the next one is delivered
-    pub delivers_next : (old new : World Script) (d : ℕ) (named : List ℕ) (v z : Whole) → is_among named (d + 1) ≡ false → d < length v.sent → (was : Delivers app failures n done old d named v)
+    pub delivers_next : (old new : World Script A) (d : ℕ) (named : List ℕ) (v z : Whole) → is_among named (d + 1) ≡ false → d < length v.sent → (was : Delivers app failures n done old d named v)
         → Leads app failures n was.state (Deliver (d + 1)) new z → Delivers app failures n done new (d + 1) named z
     delivers_next old new d named v z is left was h =
         let succ : suc d ≡ d + 1 = omega arith in
@@ -143,7 +143,7 @@ module _ (app : Application) (failures : List Failure) (n : ℕ) where
         }
 
     -- all were delivered
-    pub ends_delivering : (w : World Script) (d : ℕ) (named none : List ℕ) (v : Whole) → none ≡ [] → length v.sent ≤ d → Delivers app failures n done w d named v → Comes app failures n (done ++ DeliverAll ∷ []) w d none v
+    pub ends_delivering : (w : World Script A) (d : ℕ) (named none : List ℕ) (v : Whole) → none ≡ [] → length v.sent ≤ d → Delivers app failures n done w d named v → Comes app failures n (done ++ DeliverAll ∷ []) w d none v
     ends_delivering w d named none v empty all was =
         let last : d ≡ length v.sent = omega (arith, all, was.within) in
         record {

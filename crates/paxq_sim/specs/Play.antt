@@ -21,11 +21,12 @@ use Rattle.paxos.specs.Step.{Running}
 use Rattle.paxos.specs.World.{World as Whole, Member, Told, Choice, Event as Happening, Deliver, happens, start}
 use Rattle.program_reports.specs.Reports.{line_feed}
 use Rattle.paxq_sim.specs.Stores.{plan_of}
-use Rattle.world.specs.Reached.{KnowsNothing, actor, event_of, is_cut, write_in}
+use Rattle.events.specs.Events.{event_of}
+use Rattle.world.specs.Reached.{actor, is_cut, write_in}
 use Rattle.world.specs.Seats.{later}
-use Rattle.world.specs.declared.event.Event.{Event}
-use Rattle.world.specs.declared.event.Event.TheVariants as event
-use Rattle.world.specs.declared.event.Step.TheVariants as step
+use Rattle.events.specs.declared.event.Event.{Event}
+use Rattle.events.specs.declared.event.Event.TheVariants as event
+use Rattle.events.specs.declared.event.Step.TheVariants as step
 
 -- ---- what happens
 -- A world, and how many writes the store of each member has made, those that failed too.
@@ -170,5 +171,6 @@ abbrev pub report : Whole → List ℕ
 report w = flat_map told_line (first_told [] w.told) ++ message_line (length w.sent) ++ flat_map (member_line w) (up_to (length w.members))
 
 -- ---- what a simulation of an event file prints
-abbrev pub IsSimulated : EventFileTerm → List ℕ → Type 0
-IsSimulated f text = (app : Application) → KnowsNothing app → (end : Progress) × Plays app f.failures (opening f.group.members) f.commands end × (text ≡ report end.state.world)
+-- where an application over documents of these names means that
+abbrev pub IsSimulated : (meaning : List (List ℕ) → Application) → EventFileTerm → List ℕ → Type 0
+IsSimulated meaning f text = (end : Progress) × Plays (meaning f.group.names) f.failures (opening f.group.members) f.commands end × (text ≡ report end.state.world)

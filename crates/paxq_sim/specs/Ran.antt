@@ -4,6 +4,7 @@ use Rattle.std.specs.Str.{IsUtf8}
 use Rattle.std.specs.Fmt.{decimal}
 use Rattle.event_files.specs.EventFiles.{EventFileRead, EventFileTerm, event_file, wrong, file_of}
 use Rattle.program_reports.specs.Reports.{Ran, Run, Wrote, line_feed, unreadable_run}
+use Rattle.paxos.specs.Application.{Application}
 use Rattle.paxq_sim.specs.Play.{IsSimulated}
 
 -- a text is written, and nothing is reported
@@ -22,19 +23,19 @@ memory_run = record { status = 4; output = []; errors = codes "paxq: no memory" 
 abbrev pub WroteMemory : (output errors : Option (List ℕ) × Option (List ℕ)) (status : ℕ) → Type 0
 WroteMemory output errors status = Wrote output errors status memory_run
 
--- what a simulation prints was written, or memory was refused
-abbrev pub FileRan : EventFileTerm → (output errors : Option (List ℕ) × Option (List ℕ)) (status : ℕ) → Type 0
-FileRan f output errors status = ((text : List ℕ) × IsSimulated f text × Wrote output errors status (text_run text)) ⊎ WroteMemory output errors status
+-- what a simulation prints was written, where an application means that; or memory was refused
+abbrev pub FileRan : (meaning : List (List ℕ) → Application) → EventFileTerm → (output errors : Option (List ℕ) × Option (List ℕ)) (status : ℕ) → Type 0
+FileRan meaning f output errors status = ((text : List ℕ) × IsSimulated meaning f text × Wrote output errors status (text_run text)) ⊎ WroteMemory output errors status
 
 -- so for an event file, and for the first wrong line
-abbrev pub ReadRan : EventFileRead → (output errors : Option (List ℕ) × Option (List ℕ)) (status : ℕ) → Type 0
-ReadRan (event_file f) output errors status = FileRan f output errors status
-ReadRan (wrong k) output errors status = Wrote output errors status (wrong_run k) ⊎ WroteMemory output errors status
+abbrev pub ReadRan : (meaning : List (List ℕ) → Application) → EventFileRead → (output errors : Option (List ℕ) × Option (List ℕ)) (status : ℕ) → Type 0
+ReadRan meaning (event_file f) output errors status = FileRan meaning f output errors status
+ReadRan meaning (wrong k) output errors status = Wrote output errors status (wrong_run k) ⊎ WroteMemory output errors status
 
 -- so for bytes, or for a file that is no text in UTF-8
-abbrev pub BytesRan : (file bytes : List ℕ) (output errors : Option (List ℕ) × Option (List ℕ)) (status : ℕ) → Type 0
-BytesRan file bytes output errors status = (IsUtf8 bytes × ReadRan (file_of bytes) output errors status) ⊎ ((¬ (IsUtf8 bytes)) × Ran output errors (unreadable_run file) status)
+abbrev pub BytesRan : (meaning : List (List ℕ) → Application) → (file bytes : List ℕ) (output errors : Option (List ℕ) × Option (List ℕ)) (status : ℕ) → Type 0
+BytesRan meaning file bytes output errors status = (IsUtf8 bytes × ReadRan meaning (file_of bytes) output errors status) ⊎ ((¬ (IsUtf8 bytes)) × Ran output errors (unreadable_run file) status)
 
 -- so for a file whose reader gives some bytes, where they are known; or the reader failed
-abbrev pub EventsRan : (file : List ℕ) (known : Option (List ℕ)) (output errors : Option (List ℕ) × Option (List ℕ)) (status : ℕ) → Type 0
-EventsRan file known output errors status = ((bytes : List ℕ) × IfSome known (λ given. bytes ≡ given) × BytesRan file bytes output errors status) ⊎ Ran output errors (unreadable_run file) status
+abbrev pub EventsRan : (meaning : List (List ℕ) → Application) → (file : List ℕ) (known : Option (List ℕ)) (output errors : Option (List ℕ) × Option (List ℕ)) (status : ℕ) → Type 0
+EventsRan meaning file known output errors status = ((bytes : List ℕ) × IfSome known (λ given. bytes ≡ given) × BytesRan meaning file bytes output errors status) ⊎ Ran output errors (unreadable_run file) status

@@ -11,4 +11,4 @@ mod run;
 mod simulation;
 mod stores;
 
-pub use run::{run_events, simulate};
+pub use run::{play, run_events, simulate};

@@ -3,10 +3,10 @@
 ghost use Rattle.std.specs.Prelude.{◌≡◌, ◌∷◌, ◌||◌, ℕ, [], OnOk};
 ghost use Rattle.paxq_sim.specs.Play.{if_waiting, is_among, named_in};
 
+use events::{Event, Step};
 use indexmap::IndexSet;
 use std::alloc::{AllocError, Global};
 use std::marker::Model;
-use world::{Event, Step};
 
 /// Numbers, each once. Contracts see them as a list.
 #[derive(Drop)]

@@ -10,6 +10,7 @@ ghost use Rattle.world.specs.Shown.{Shows};
 ghost use Rattle.world.specs.Tellings.{told_in};
 
 use super::places::Places;
+use applications::Application;
 use ballots::{RequestId, Value};
 use records::ScriptRecords;
 use std::alloc::{AllocError, Global};
@@ -17,8 +18,11 @@ use world::{Told, World};
 
 /// What is printed of a world in the end: all that members were told, each thing once, how many messages were sent, and how far each
 /// member is. It fails where memory is refused.
-pub(crate) fn report(alloc: Global, world: &World<ScriptRecords>) -> Result<String, AllocError>
-    ensures { IfOk result (λ text. (kept : ℕ → Record) (v : Whole) → Shows world.now kept v → string_bytes text ≡ report v) }
+pub(crate) fn report<A: Application + Drop>(
+    alloc: Global,
+    world: &World<ScriptRecords, A>,
+) -> Result<String, AllocError>
+    ensures { IfOk result (λ text. (kept : ℕ → Record) (v : Whole) → Shows A.has_applied world.now kept v → string_bytes text ≡ report v) }
 {
     let mut out = String::new(alloc);
     push_told(alloc, &mut out, world.told())?;
@@ -85,12 +89,12 @@ fn request_words(alloc: Global, id: RequestId) -> Result<String, AllocError>
 }
 
 /// Appends how far each member is. It fails where memory is refused.
-fn push_members(
+fn push_members<A: Application + Drop>(
     alloc: Global,
     out: &mut String,
-    world: &World<ScriptRecords>,
+    world: &World<ScriptRecords, A>,
 ) -> Result<(), AllocError>
-    ensures { OnOk result ((kept : ℕ → Record) (v : Whole) → Shows world.now kept v → string_bytes out.new ≡ string_bytes out.old ++ flat_map (member_line v) (up_to (length v.members))) }
+    ensures { OnOk result ((kept : ℕ → Record) (v : Whole) → Shows A.has_applied world.now kept v → string_bytes out.new ≡ string_bytes out.old ++ flat_map (member_line v) (up_to (length v.members))) }
 {
     for before in 0..world.members().count() {
         out.push_str(member_text(alloc, world, before + 1)?.as_str())?;
@@ -99,15 +103,15 @@ fn push_members(
 }
 
 /// How far a member is. It fails where memory is refused.
-fn member_text(
+fn member_text<A: Application + Drop>(
     alloc: Global,
-    world: &World<ScriptRecords>,
+    world: &World<ScriptRecords, A>,
     number: u8,
 ) -> Result<String, AllocError>
-    ensures { IfOk result (λ text. (kept : ℕ → Record) (v : Whole) → Shows world.now kept v → string_bytes text ≡ member_line v number) }
+    ensures { IfOk result (λ text. (kept : ℕ → Record) (v : Whole) → Shows A.has_applied world.now kept v → string_bytes text ≡ member_line v number) }
 {
     match world.node(number) {
-        Some(member) => applied_line(alloc, number, member.prefix()),
+        Some(node) => applied_line(alloc, number, node.applied()),
         None => stopped_line(alloc, number),
     }
 }

@@ -10,4 +10,4 @@ use Rattle.paxq_sim.proofs.report.push_members.Given as goal
 
 -- the lines of the members before
 abbrev pub invariant-loop-before : goal.invariant-loop-before
-invariant-loop-before l = (kept : ℕ → Record) (v : Whole) → Shows {R = Script} l.world kept v → string_bytes l.out ≡ string_bytes l.initial.out ++ flat_map (member_line v) (up_to l.before)
+invariant-loop-before g l = (kept : ℕ → Record) (v : Whole) → Shows {R = Script} {A = g.row.A.Denot} g.A.Application.has_applied l.world kept v → string_bytes l.out ≡ string_bytes l.initial.out ++ flat_map (member_line v) (up_to l.before)

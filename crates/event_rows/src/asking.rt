@@ -1,0 +1,68 @@
+//! Questions to the members of a group, after what an event file says.
+
+use applications::Application;
+use ballots::Answer;
+use event_files::{EventFile, EventFileFault, read_event_file};
+use node::{Node, Reading};
+use paxq_sim::play;
+use records::Records;
+use rows::RowFault;
+use std::alloc::Global;
+
+/// `asks FLOOR TEXT BYTES`: for each member what it answers, with the position, after what an event file says; or that it is behind, or
+/// stopped.
+pub(super) fn asks<A: Application + Drop>(
+    alloc: Global,
+    floor: u32,
+    text: &str,
+    bytes: &[u8],
+) -> Result<String, RowFault> {
+    match read_event_file(alloc, bytes) {
+        Ok(file) => answers::<A>(alloc, floor, text, file),
+        Err(EventFileFault::Line(_)) => Err(RowFault::NotARow),
+        Err(EventFileFault::Memory) => Err(RowFault::Memory),
+    }
+}
+
+/// The answers of all members, a bar between two of them.
+fn answers<A: Application + Drop>(
+    alloc: Global,
+    floor: u32,
+    text: &str,
+    file: EventFile,
+) -> Result<String, RowFault> {
+    let world = play::<A>(alloc, file)?;
+    let mut out = String::new(alloc);
+    for before in 0..world.members().count() {
+        if before > 0 {
+            out.push_str(" | ")?;
+        }
+        match world.node(before + 1) {
+            Some(node) => out.push_str(&answer(alloc, floor, text, node)?)?,
+            None => out.push_str("stopped")?,
+        }
+    }
+    Ok(out)
+}
+
+/// What a node answers.
+pub(super) fn answer<R: Records + Drop, A: Application + Drop>(
+    alloc: Global,
+    floor: u32,
+    text: &str,
+    node: &Node<R, A>,
+) -> Result<String, RowFault> {
+    let Ok(reading) = node.answer(alloc, floor, 1, text) else {
+        return Err(RowFault::Memory);
+    };
+    Ok(match reading {
+        Reading::At(position, Answer::Text(text)) => {
+            let text = text.as_str();
+            format!(in alloc; "at {position} {text:?}")?
+        }
+        Reading::At(position, Answer::Fault(code)) => {
+            format!(in alloc; "at {position} fault {code}")?
+        }
+        Reading::Behind(position) => format!(in alloc; "behind {position}")?,
+    })
+}
