@@ -6,7 +6,7 @@
 //! sent, what was told, and of each node what it has learnt. In the end a resend comes to each member, and then it is compared too how far each
 //! node has applied, and what it answers to `doc("db")`: so what a node to which memory was refused has not applied is made up for.
 
-use super::asking::answer;
+use super::asking::{answered, shown};
 use applications::Application;
 use ballots::Value;
 use event_files::{Command, EventFile, EventFileFault, read_event_file};
@@ -20,9 +20,6 @@ use world::{Told, World, WorldFault};
 
 /// How often an event comes at most.
 const MOST_TRIES: u32 = 100;
-
-/// What is asked in the end.
-const QUESTION: &str = "doc(\"db\")";
 
 /// A group, one that goes the same way, and the number up to which each message was delivered.
 #[derive(Drop)]
@@ -228,34 +225,4 @@ fn have_come_alike<A: Application + Drop>(alloc: Global, pair: &Pair<A>) -> Resu
         }
     }
     Ok(true)
-}
-
-/// What a node answers, asked again where memory is refused.
-fn answered<A: Application + Drop>(
-    alloc: Global,
-    node: &Node<MemRecords, A>,
-) -> Result<String, RowFault> {
-    for _ in 0..MOST_TRIES {
-        if let Ok(text) = answer(alloc, node.prefix(), QUESTION, node) {
-            return Ok(text);
-        }
-    }
-    Err(RowFault::Memory)
-}
-
-/// How many messages were sent, and what each member answers.
-fn shown<A: Application + Drop>(
-    alloc: Global,
-    world: &World<MemRecords, A>,
-) -> Result<String, RowFault> {
-    let messages = world.messages();
-    let mut out = format!(in alloc; "{messages} messages")?;
-    for before in 0..world.members().count() {
-        out.push_str(" | ")?;
-        match world.node(before + 1) {
-            Some(node) => out.push_str(&answered(alloc, node)?)?,
-            None => out.push_str("stopped")?,
-        }
-    }
-    Ok(out)
 }

@@ -8,6 +8,13 @@ use paxq_sim::play;
 use records::Records;
 use rows::RowFault;
 use std::alloc::Global;
+use world::World;
+
+/// How often a question comes at most.
+const MOST_TRIES: u32 = 100;
+
+/// The question about all of a document.
+const QUESTION: &str = "doc(\"db\")";
 
 /// `asks FLOOR TEXT BYTES`: for each member what it answers, with the position, after what an event file says; or that it is behind, or
 /// stopped.
@@ -46,7 +53,7 @@ fn answers<A: Application + Drop>(
 }
 
 /// What a node answers.
-pub(super) fn answer<R: Records + Drop, A: Application + Drop>(
+fn answer<R: Records + Drop, A: Application + Drop>(
     alloc: Global,
     floor: u32,
     text: &str,
@@ -65,4 +72,35 @@ pub(super) fn answer<R: Records + Drop, A: Application + Drop>(
         }
         Reading::Behind(position) => format!(in alloc; "behind {position}")?,
     })
+}
+
+/// What a node answers to a question about all of its document, asked again where memory is refused.
+pub(super) fn answered<R: Records + Drop, A: Application + Drop>(
+    alloc: Global,
+    node: &Node<R, A>,
+) -> Result<String, RowFault> {
+    for _ in 0..MOST_TRIES {
+        if let Ok(text) = answer(alloc, node.prefix(), QUESTION, node) {
+            return Ok(text);
+        }
+    }
+    Err(RowFault::Memory)
+}
+
+/// How many messages were sent, how often something was told, and what each member answers to the question about its document.
+pub(super) fn shown<R: Records + Drop, A: Application + Drop>(
+    alloc: Global,
+    world: &World<R, A>,
+) -> Result<String, RowFault> {
+    let messages = world.messages();
+    let told = world.told().len();
+    let mut out = format!(in alloc; "{messages} messages, {told} told")?;
+    for before in 0..world.members().count() {
+        out.push_str(" | ")?;
+        match world.node(before + 1) {
+            Some(node) => out.push_str(&answered(alloc, node)?)?,
+            None => out.push_str("stopped")?,
+        }
+    }
+    Ok(out)
 }

@@ -5,6 +5,7 @@
 mod again;
 mod asking;
 mod events;
+mod running;
 mod simulating;
 
 use rows::{Answers, RowFault, Words, bytes_of, run_table};
@@ -43,6 +44,8 @@ fn result_of(alloc: Global, name: &str, words: &mut Words<'_>) -> Result<String,
         "sim" => simulating::sim::<State>(alloc, &bytes_of(alloc, words)?),
         "again" => again::again::<State>(alloc, &bytes_of(alloc, words)?),
         "asks" => asks(alloc, words),
+        "straight" => running::straight::<State>(alloc, words.number()?, words.number()?),
+        "runs" => runs(alloc, words),
         _ => Err(RowFault::NotARow),
     }
 }
@@ -55,4 +58,11 @@ fn asks(alloc: Global, words: &mut Words<'_>) -> Result<String, RowFault> {
     let text = words.text(alloc)?;
     let bytes = bytes_of(alloc, words)?;
     asking::asks::<State>(alloc, floor, &text, &bytes)
+}
+
+/// `MEMBERS BYTES`: what comes of all events of a file, in one list, to so many members.
+fn runs(alloc: Global, words: &mut Words<'_>) -> Result<String, RowFault> {
+    let members = words.number()?;
+    let bytes = bytes_of(alloc, words)?;
+    running::runs::<State>(alloc, members, &bytes)
 }

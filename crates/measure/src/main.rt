@@ -41,6 +41,7 @@ fn run(rt: &HostRuntime) -> io::Result<u8> {
         "requests3" => worlds::requested::<State>(rt.alloc(), 3, count),
         "requests9" => worlds::requested::<State>(rt.alloc(), 9, count),
         "requests63" => worlds::requested::<State>(rt.alloc(), 63, count),
+        "applied" => worlds::applied::<State>(rt.alloc(), count),
         "behind" => worlds::without_late::<State>(rt.alloc(), count),
         "caught-up" => worlds::caught_up::<State>(rt.alloc(), count),
         "decode" => datagrams::decoded(rt.alloc(), false, count),

@@ -2,7 +2,8 @@
 //! The functions are over any application, since one that holds a store is dear to prove.
 
 use applications::Application;
-use ballots::{Members, Request};
+use ballots::limits::POSITIONS;
+use ballots::{Members, Request, Value};
 use line_parts::read_names;
 use records::MemRecords;
 use std::alloc::Global;
@@ -125,4 +126,18 @@ pub fn caught_up<A: Application + Drop>(alloc: Global, count: u32) -> Option<u32
         group.deliver_all(alloc)?;
     }
     None
+}
+
+/// How many positions an application has applied after so many requests that it ran by itself.
+pub fn applied<A: Application + Drop>(alloc: Global, count: u32) -> Option<u32> {
+    let names = read_names(alloc, "db").ok()?;
+    let mut application = A::new(alloc, &names).ok()?;
+    for number in 1..=count {
+        if application.applied() >= POSITIONS {
+            return None;
+        }
+        let request = Request::new(alloc, CLIENT, u64::from(number), 1, "1").ok()?;
+        application.apply(alloc, &Value::Request(request)).ok()?;
+    }
+    Some(application.applied())
 }
