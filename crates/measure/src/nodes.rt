@@ -19,6 +19,17 @@ const TEXT: &str = "some text";
 /// How many nodes are put between siblings, one after the other.
 const PUTS: u32 = 100_000;
 
+/// How many pairs of nodes are compared.
+const PAIRS: u32 = 1_000_000;
+
+/// How many levels a deep tree has below its document.
+const LEVELS: u32 = 59;
+
+/// How often nodes are put in order, one in how many children.
+const TURNS: u32 = 10;
+
+const APART: usize = 5;
+
 /// A forest of one empty document.
 fn opening(alloc: Global) -> Option<Forest> {
     let mut names = Vec::new(alloc);
@@ -96,6 +107,83 @@ fn make(alloc: Global, forest: &mut Forest) -> Option<NodeId> {
     let name = String::from_str(alloc, "item").ok()?;
     let text = String::new(alloc);
     forest.make(alloc, Kind::Element, name, text).ok()
+}
+
+/// How many of so many siblings, one after the other and again from the first, come before the last one; or else only whether each stands there.
+pub fn siblings_compared(alloc: Global, siblings: u32, are_compared: bool) -> Option<u32> {
+    let mut forest = opening(alloc)?;
+    for _ in 0..siblings {
+        let document = forest.document("db")?;
+        put(alloc, &mut forest, document, usize::MAX, Kind::Element)?;
+    }
+    compare_children(&forest, forest.document("db")?, are_compared)
+}
+
+/// The same of so many siblings as far down as a tree may be.
+pub fn deep_compared(alloc: Global, siblings: u32, are_compared: bool) -> Option<u32> {
+    let mut forest = opening(alloc)?;
+    let mut parent = forest.document("db")?;
+    for _ in 1..LEVELS {
+        if !forest.has(parent) {
+            return None;
+        }
+        parent = put(alloc, &mut forest, parent, usize::MAX, Kind::Element)?;
+    }
+    for _ in 0..siblings {
+        if !forest.has(parent) {
+            return None;
+        }
+        put(alloc, &mut forest, parent, usize::MAX, Kind::Element)?;
+    }
+    compare_children(&forest, parent, are_compared)
+}
+
+/// How many children of a node come before its last one, one after the other and again from the first.
+fn compare_children(forest: &Forest, parent: NodeId, are_compared: bool) -> Option<u32> {
+    if !forest.has(parent) {
+        return None;
+    }
+    let children = forest.children(parent);
+    let last = *children.last()?;
+    if !forest.has(last) {
+        return None;
+    }
+    let mut earlier: u32 = 0;
+    for turn in 0..PAIRS {
+        let node = *children.get(turn as usize % children.len())?;
+        if forest.has(node) && (!are_compared || forest.before(node, last)) {
+            earlier = earlier.saturating_add(1);
+        }
+    }
+    Some(earlier)
+}
+
+/// How many nodes of a document were put in order some times, the last one first; or else only copied.
+pub fn ordered(alloc: Global, count: u32, are_ordered: bool) -> Option<u32> {
+    let forest = made(alloc, count)?;
+    let document = forest.document("db")?;
+    if !forest.has(document) {
+        return None;
+    }
+    let mut nodes = Vec::new(alloc);
+    for (index, node) in forest.children(document).iter().enumerate() {
+        if index % APART == 0 {
+            nodes.push(*node).ok()?;
+        }
+    }
+    nodes.reverse();
+    let mut total: u32 = 0;
+    for _ in 0..TURNS {
+        let mut copy = Vec::new(alloc);
+        copy.extend_from_slice(&nodes).ok()?;
+        let copy = if are_ordered {
+            forest.document_order(alloc, copy).ok()?
+        } else {
+            copy
+        };
+        total = total.saturating_add(u32::try_from(copy.len()).ok()?);
+    }
+    Some(total)
 }
 
 /// How many bytes the printed document has.
