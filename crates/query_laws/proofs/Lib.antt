@@ -5,3 +5,6 @@ pub mod Strings
 pub mod Written
 pub mod Spelling
 pub mod Names
+pub mod Keeps
+pub mod Forms
+pub mod Saying

@@ -1,6 +1,7 @@
--- What the names of a text are made of.
-use Rattle.std.proofs.Common.{◌≡◌, inl, inr, ℕ, Bool, true, false, ◌&&◌, ◌||◌, ◌==◌, nat_lt, cond, List, [], ◌∷◌, ◌++◌, length, codes, Option, Some, None, refl, ap, ap₂, ◌∙◌}
-use Rattle.std.proofs.lemmas.Bool.{and_parts}
+-- What the names and numbers of a text are.
+use Rattle.std.proofs.Common.{◌≡◌, ◌≤◌, inl, inr, ℕ, Bool, true, false, not, ◌&&◌, ◌||◌, ◌==◌, nat_lt, cond, List, [], ◌∷◌, ◌++◌, length, codes, Option, Some, None, refl, ap, ap₂, ◌∙◌, arith}
+use Rattle.std.proofs.lemmas.Bool.Decides.{nat_tests}
+use Rattle.std.proofs.lemmas.Bool.{and_parts, not-true}
 use Rattle.std.proofs.lemmas.List.Elements.{All-nil, All-cons, All-append}
 use Rattle.std.proofs.lemmas.List.Folds.{list_all-append}
 use Rattle.std.specs.List.{All, list_all}
@@ -10,11 +11,22 @@ use Rattle.fault_codes.specs.declared.code.Code.TheVariants.{XPST0003}
 use Rattle.query_tokens.specs.declared.kind.Kind.{Kind}
 use Rattle.query_tokens.specs.declared.kind.Kind.TheVariants as k
 use Rattle.query_tokens.specs.declared.token.Token.{Token}
-use Rattle.query_tokens.specs.Words.{kind_of, marks}
+use Rattle.query_tokens.specs.Words.{is_name_kind, kind_of, marks, pairs, singles}
 use Rattle.query_tokens.specs.Reading.{Gives, Fails, Reader, on_read, ◌>>=◌, ◌>>◌, pure, fails, first_of, skip, mark, such, rounds}
 use Rattle.query_tokens.specs.Lexing as lexing
 use Rattle.query_laws.specs.Written.{HasName}
 use Rattle.query_laws.proofs.Strings.{Makes, makes_pure, makes_fails, makes_bind, makes_after, makes_if, makes_repeat, makes_such, any, read_on, turns_make}
+use Rattle.query_laws.proofs.Written.{IsMark, mark_found}
+
+-- what a token says beside its kind: one of a name's kind says a name, and no number is above the greatest
+pub record Says (t : Token) : Type 0 where
+  pub has_name : HasName t
+  pub name : is_name_kind t.kind ≡ true → is_name t.text ≡ true
+  pub number : t.number ≤ lexing.max_integer
+
+-- a token that is no name says nothing, or a number
+of_no_name : (kind : Kind) (n : ℕ) → is_name_kind kind ≡ false → n ≤ lexing.max_integer → Says (record { kind = kind; text = []; number = n })
+of_no_name kind n h le = record { has_name = λ _. inl refl; name = λ e. absurd (let f : ⊥ = cc in f); number = le }
 
 -- such characters, the first of which a name may begin with
 abbrev begins_name : List ℕ → Bool
@@ -57,14 +69,14 @@ named (d ∷ ds) h e =
     let parts = and_parts (is_name_start d) (list_all is_name_character ds) h in
     rw (parts.0, parts.1, e) refl
 
-makes_name_of : (found : List ℕ) → begins_name found ≡ true → Makes HasName (lexing.name_of found)
+makes_name_of : (found : List ℕ) → begins_name found ≡ true → Makes Says (lexing.name_of found)
 makes_name_of found h = one (bytes_eq found (codes "xmlns")) refl
   where
-    one : (t : Bool) → bytes_eq found (codes "xmlns") ≡ t → Makes HasName (cond t (fails XPST0003) (pure (record { kind = kind_of found; text = found; number = 0 })))
-    one true e = makes_fails HasName XPST0003
-    one false e = makes_pure HasName _ (λ _. inr (named found h e))
+    one : (t : Bool) → bytes_eq found (codes "xmlns") ≡ t → Makes Says (cond t (fails XPST0003) (pure (record { kind = kind_of found; text = found; number = 0 })))
+    one true e = makes_fails Says XPST0003
+    one false e = makes_pure Says _ (record { has_name = λ _. inr (named found h e); name = λ _. named found h e; number = omega arith })
 
-name_made : (text : List ℕ) → lexing.goes_on is_name_start text ≡ true → (t : Token) (rest : List ℕ) → lexing.name text ≡ Gives t rest → HasName t
+name_made : (text : List ℕ) → lexing.goes_on is_name_start text ≡ true → (t : Token) (rest : List ℕ) → lexing.name text ≡ Gives t rest → Says t
 name_made [] s t rest e = absurd (let f : ⊥ = cc in f)
 name_made (c ∷ cs) s t rest e =
     let r = read_on (lexing.run_of is_name_character (c ∷ cs)) lexing.name_of t rest e in
@@ -72,19 +84,40 @@ name_made (c ∷ cs) s t rest e =
 
 -- Tokens.
 
-makes_number : Makes HasName lexing.number
-makes_number = makes_bind (any (lexing.run_of is_digit)) (λ digits h. makes_if (λ text. lexing.goes_on is_name_start text || nat_lt lexing.max_integer (lexing.decimal_of digits)) (makes_fails HasName XPST0003)
-    (makes_pure HasName _ (λ _. inl refl)))
+makes_number_of : (digits : List ℕ) → Makes Says (lexing.number_of digits)
+makes_number_of digits = record { made = λ text a rest e. one (lexing.goes_on is_name_start text) (nat_lt lexing.max_integer (lexing.decimal_of digits)) refl text a rest e }
+  where
+    token_of : Token
+    token_of = record { kind = k.Number; text = []; number = lexing.decimal_of digits }
 
-makes_string : (quote : ℕ) → Makes HasName (lexing.string quote)
-makes_string quote = makes_bind (any (skip 1 >> lexing.contents quote)) (λ content s. makes_after (mark (quote ∷ [])) (makes_pure HasName (record { kind = k.String; text = content; number = 0 }) (λ other. absurd (other refl))))
+    one : (word above : Bool) → nat_lt lexing.max_integer (lexing.decimal_of digits) ≡ above → (text : List ℕ) (a : Token) (rest : List ℕ)
+        → cond (word || above) (Fails XPST0003) (Gives token_of text) ≡ Gives a rest → Says a
+    one true above h text a rest e = absurd (let f : ⊥ = cc in f)
+    one false true h text a rest e = absurd (let f : ⊥ = cc in f)
+    one false false h text a rest e = (makes_pure Says token_of (of_no_name k.Number (lexing.decimal_of digits) refl (grind (arith, nat_tests)))).made text a rest e
 
-makes_marked : (o : Option (List ℕ × Kind)) → Makes HasName (lexing.marked o)
-makes_marked None = makes_fails HasName XPST0003
-makes_marked (Some m) = makes_after (skip (length m.0)) (makes_pure HasName (lexing.mark_token m.1) (λ _. inl refl))
+makes_number : Makes Says lexing.number
+makes_number = makes_bind (any (lexing.run_of is_digit)) (λ digits h. makes_number_of digits)
 
-makes_mark : Makes HasName (λ text. lexing.marked (first_of marks text) text)
-makes_mark = record { made = λ text a rest e. (makes_marked (first_of marks text)).made text a rest e }
+of_string : (content : List ℕ) → Says (record { kind = k.String; text = content; number = 0 })
+of_string content = record { has_name = λ other. absurd (other refl); name = λ e. absurd (let f : ⊥ = cc in f); number = omega arith }
+
+makes_string : (quote : ℕ) → Makes Says (lexing.string quote)
+makes_string quote = makes_bind (any (skip 1 >> lexing.contents quote)) (λ content s. makes_after (mark (quote ∷ [])) (makes_pure Says _ (of_string content)))
+
+abbrev no_name_kind : Kind → Bool
+no_name_kind kind = not (is_name_kind kind)
+
+makes_marked : (o : Option (List ℕ × Kind)) → IsMark no_name_kind o → Makes Says (lexing.marked o)
+makes_marked None h = makes_fails Says XPST0003
+makes_marked (Some m) h = makes_after (skip (length m.0)) (makes_pure Says (lexing.mark_token m.1) (of_no_name m.1 0 (not-true (is_name_kind m.1) h) (omega arith)))
+
+marks_found : (text : List ℕ) → IsMark no_name_kind (first_of marks text)
+unfolding marks pairs singles
+marks_found text = mark_found no_name_kind marks text refl
+
+makes_mark : Makes Says (λ text. lexing.marked (first_of marks text) text)
+makes_mark = record { made = λ text a rest e. (makes_marked (first_of marks text) (marks_found text)).made text a rest e }
 
 abbrev no_name : Reader Token
 no_name text =
@@ -93,26 +126,29 @@ no_name text =
     (cond (lexing.goes_on (λ c. c == 39) text) (lexing.string 39 text)
     (lexing.marked (first_of marks text) text)))
 
-makes_no_name : Makes HasName no_name
+makes_no_name : Makes Says no_name
 makes_no_name = makes_if (lexing.goes_on is_digit) makes_number (makes_if (lexing.goes_on (λ c. c == 34)) (makes_string 34) (makes_if (lexing.goes_on (λ c. c == 39)) (makes_string 39) makes_mark))
 
-token_made : (text : List ℕ) (t : Token) (rest : List ℕ) → lexing.token text ≡ Gives t rest → HasName t
+token_made : (text : List ℕ) (t : Token) (rest : List ℕ) → lexing.token text ≡ Gives t rest → Says t
 token_made text t rest e = one (lexing.goes_on is_name_start text) refl e
   where
-    one : (b : Bool) → lexing.goes_on is_name_start text ≡ b → cond b (lexing.name text) (no_name text) ≡ Gives t rest → HasName t
+    one : (b : Bool) → lexing.goes_on is_name_start text ≡ b → cond b (lexing.name text) (no_name text) ≡ Gives t rest → Says t
     one true s e = name_made text s t rest e
     one false s e = makes_no_name.made text t rest e
 
-makes_token : Makes HasName lexing.token
+makes_token : Makes Says lexing.token
 makes_token = record { made = token_made }
 
-makes_next : (found : List Token) → All HasName found → Makes (All HasName) (lexing.next_token found)
+makes_next : (found : List Token) → All Says found → Makes (All Says) (lexing.next_token found)
 makes_next found h = makes_bind makes_token (λ t g. makes_after lexing.separators
-    (makes_pure (All HasName) (found ++ t ∷ []) (All-append HasName found (t ∷ []) h (All-cons HasName t [] g (All-nil HasName)))))
+    (makes_pure (All Says) (found ++ t ∷ []) (All-append Says found (t ∷ []) h (All-cons Says t [] g (All-nil Says)))))
 
-makes_tokens : Makes (All HasName) lexing.tokens
+makes_tokens : Makes (All Says) lexing.tokens
 unfolding lexing.tokens
-makes_tokens = makes_after lexing.separators (makes_repeat (All HasName) (λ _ text. lexing.is_left text) lexing.next_token makes_next [] (All-nil HasName))
+makes_tokens = makes_after lexing.separators (makes_repeat (All Says) (λ _ text. lexing.is_left text) lexing.next_token makes_next [] (All-nil Says))
+
+pub said : (text : List ℕ) (ts : List Token) (rest : List ℕ) → lexing.tokens text ≡ Gives ts rest → All Says ts
+said text ts rest e = makes_tokens.made text ts rest e
 
 pub names : (text : List ℕ) (ts : List Token) (rest : List ℕ) → lexing.tokens text ≡ Gives ts rest → All HasName ts
-names text ts rest e = makes_tokens.made text ts rest e
+names text ts rest e = λ i d within. (said text ts rest e i d within).has_name

@@ -37,23 +37,24 @@ of_name : (name : List ℕ) → no_string (kind_of name) ≡ true
 unfolding kind_of no_string
 of_name name = kind_passes name words refl
 
-abbrev IsMark : Option (List ℕ × Kind) → Type 0
-IsMark None = Unit {0}
-IsMark (Some m) = no_string m.1 ≡ true
+-- a mark whose kind passes a test
+abbrev pub IsMark : (Kind → Bool) → Option (List ℕ × Kind) → Type 0
+IsMark p None = Unit {0}
+IsMark p (Some m) = p m.1 ≡ true
 
-mark_found : (ms : List (List ℕ × Kind)) (text : List ℕ) → list_all (λ m. no_string m.1) ms ≡ true → IsMark (first_of ms text)
-mark_found [] text h = tt
-mark_found (m ∷ ms) text h = one (begins m.0 text) (mark_found ms text (and_parts (no_string m.1) (list_all (λ m. no_string m.1) ms) h).1)
+pub mark_found : (p : Kind → Bool) (ms : List (List ℕ × Kind)) (text : List ℕ) → list_all (λ m. p m.1) ms ≡ true → IsMark p (first_of ms text)
+mark_found p [] text h = tt
+mark_found p (m ∷ ms) text h = one (begins m.0 text) (mark_found p ms text (and_parts (p m.1) (list_all (λ m. p m.1) ms) h).1)
   where
-    one : (t : Bool) → IsMark (first_of ms text) → IsMark (cond t (Some m) (first_of ms text))
-    one true e = (and_parts (no_string m.1) (list_all (λ m. no_string m.1) ms) h).0
+    one : (t : Bool) → IsMark p (first_of ms text) → IsMark p (cond t (Some m) (first_of ms text))
+    one true e = (and_parts (p m.1) (list_all (λ m. p m.1) ms) h).0
     one false e = e
 
-marks_found : (text : List ℕ) → IsMark (first_of marks text)
+marks_found : (text : List ℕ) → IsMark no_string (first_of marks text)
 unfolding marks pairs singles no_string
-marks_found text = mark_found marks text refl
+marks_found text = mark_found no_string marks text refl
 
-makes_marked : (o : Option (List ℕ × Kind)) → IsMark o → Makes HasXmlString (lexing.marked o)
+makes_marked : (o : Option (List ℕ × Kind)) → IsMark no_string o → Makes HasXmlString (lexing.marked o)
 makes_marked None h = makes_fails HasXmlString XPST0003
 makes_marked (Some m) h = makes_after (skip (length m.0)) (makes_pure HasXmlString (lexing.mark_token m.1) (not_such (lexing.mark_token m.1) h))
 

@@ -3,3 +3,4 @@ pub mod Examples
 pub mod Standing
 pub mod Written
 pub mod Spelling
+pub mod Saying

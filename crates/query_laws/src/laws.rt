@@ -7,7 +7,7 @@ ghost use Rattle.values.specs.declared.compare.Comparison.TheVariants as compari
 ghost use Rattle.values.specs.declared.operators.Operator.TheVariants as arithmetic;
 ghost use Rattle.query_grammar.specs.declared.ast.Binary.TheVariants as operator;
 ghost use Rattle.query_grammar.specs.declared.ast.Clause.TheVariants as clause;
-ghost use Rattle.query_grammar.specs.declared.ast.Expr.{Expr};
+ghost use Rattle.query_grammar.specs.declared.ast.Expr.{Expr, out-Expr};
 ghost use Rattle.query_grammar.specs.declared.ast.Expr.TheVariants as e;
 ghost use Rattle.query_grammar.specs.declared.ast.KindTest.TheVariants as kind;
 ghost use Rattle.query_grammar.specs.declared.ast.Name.TheVariants.{Written, Computed};
@@ -25,6 +25,7 @@ ghost use Rattle.query_laws.specs.Written.{HasName, HasXmlString};
 ghost use Rattle.query_laws.specs.Examples.{a, b, c, none, on, of_kind, then, between, takes};
 ghost use Rattle.query_laws.specs.Faults.{FirstFault, IsSpelt};
 ghost use Rattle.query_laws.specs.Spelling.{IsSpeltAs};
+ghost use Rattle.query_laws.specs.Saying.{SaysWell};
 ghost use Rattle.query_laws.specs.Standing.{StandsIn, IsPlaced};
 
 /// A text is refused with a code exactly where that is the code of the first pass in which a fault stands. The grammar's fault is that
@@ -52,6 +53,12 @@ pub fn strings_are_xml()
 /// Each token of a text that is no string says a name (an NCName of ASCII characters, other than `xmlns`), or nothing beside its kind and number.
 pub fn names_are_names()
     ensures { (text : List ℕ) (ts : List Token) (rest : List ℕ) → tokens text ≡ Gives ts rest → All HasName ts }
+{}
+
+/// In the expression of a text each name is a name (an NCName of ASCII characters, other than `xmlns`), each string is the UTF-8 of characters of XML 1.0, of
+/// at most 65,536 bytes, and each number is at most 2^63 - 1.
+pub fn words_are_said()
+    ensures { (level : ℕ) (text : List ℕ) (x inner : Expr) → IsExpression level text x → StandsIn inner x → SaysWell (out-Expr inner) }
 {}
 
 /// Tokens that are spelt in the standard's productions (XQuery 1.0, appendix A.2), one after the other, with whitespace and comments before, between
