@@ -4,7 +4,7 @@
 
 mod again;
 mod asking;
-mod events;
+mod reading;
 mod running;
 mod simulating;
 
@@ -40,7 +40,7 @@ impl Answers for EventRows {
 /// The result of an operation at the words after its name.
 fn result_of(alloc: Global, name: &str, words: &mut Words<'_>) -> Result<String, RowFault> {
     match name {
-        "events" => events::events(alloc, &bytes_of(alloc, words)?),
+        "events" => reading::events(alloc, &bytes_of(alloc, words)?),
         "sim" => simulating::sim::<State>(alloc, &bytes_of(alloc, words)?),
         "again" => again::again::<State>(alloc, &bytes_of(alloc, words)?),
         "asks" => asks(alloc, words),
