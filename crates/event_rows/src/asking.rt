@@ -1,5 +1,8 @@
 //! Questions to the members of a group, after what an event file says.
 
+ghost use Rattle.std.specs.Prelude.{All};
+ghost use Rattle.event_files.specs.Within.{IsCommandOf};
+
 use applications::Application;
 use ballots::Answer;
 use event_files::{EventFile, EventFileFault, read_event_file};
@@ -37,7 +40,9 @@ fn answers<A: Application + Drop>(
     floor: u32,
     text: &str,
     file: EventFile,
-) -> Result<String, RowFault> {
+) -> Result<String, RowFault>
+    requires { All (IsCommandOf file.group.members) file.commands.items }
+{
     let world = play::<A>(alloc, file)?;
     let mut out = String::new(alloc);
     for before in 0..world.members().count() {
