@@ -66,7 +66,7 @@ bench: paxq measure expressions updates record_file
 	bench/limits bin/paxq
 	bench/requests bin/paxq
 	bench/parts bin/measure
-	bench/nodes bin/measure
+	bench/nodes bin/paxq bin/measure
 	bench/expressions bin/query_rows
 	bench/steps bin/query_rows
 	bench/updates bin/update_rows

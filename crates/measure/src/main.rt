@@ -7,9 +7,7 @@ mod nodes;
 mod parsing;
 mod proposing;
 mod votes;
-mod worlds;
 
-use sessions::State;
 use std::io;
 use std::process::ExitCode;
 
@@ -35,15 +33,6 @@ fn run(rt: &HostRuntime) -> io::Result<u8> {
         "prepares" => votes::prepared(rt.alloc(), count),
         "learnt" => learning::learnt(rt.alloc(), count),
         "proposed" => proposing::proposed(rt.alloc(), count),
-        "deliver3" => worlds::delivered::<State>(rt.alloc(), 3, count),
-        "deliver9" => worlds::delivered::<State>(rt.alloc(), 9, count),
-        "deliver63" => worlds::delivered::<State>(rt.alloc(), 63, count),
-        "requests3" => worlds::requested::<State>(rt.alloc(), 3, count),
-        "requests9" => worlds::requested::<State>(rt.alloc(), 9, count),
-        "requests63" => worlds::requested::<State>(rt.alloc(), 63, count),
-        "applied" => worlds::applied::<State>(rt.alloc(), count),
-        "behind" => worlds::without_late::<State>(rt.alloc(), count),
-        "caught-up" => worlds::caught_up::<State>(rt.alloc(), count),
         "decode" => datagrams::decoded(rt.alloc(), false, count),
         "decode-long" => datagrams::decoded(rt.alloc(), true, count),
         "encode" => datagrams::encoded(rt.alloc(), false, count),
