@@ -68,7 +68,8 @@ fn run_file<A: Application + Drop>(
     let ran = world.run(alloc, &events);
     let shown = shown(alloc, &world)?;
     match ran {
-        Ok(()) => Ok(shown),
+        Ok(()) if world.all_applied() => Ok(shown),
+        Ok(()) => Err(RowFault::Memory),
         Err(fault) => fault_text(alloc, fault, &shown),
     }
 }
