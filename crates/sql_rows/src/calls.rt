@@ -7,7 +7,6 @@ ghost use Rattle.std.specs.Prelude.{◌≡◌, ◌≤◌, true};
 ghost use Rattle.ballots.specs.Ballot.{IsBallot};
 ghost use Rattle.ballots.specs.Values.{positions};
 
-use super::opening::{accepting, first_setup, in_memory, shown};
 use super::results::keeping;
 use acceptor::Acceptor;
 use ballots::limits::{LAST_ROUND, MOST_MEMBERS, POSITIONS};
@@ -55,31 +54,8 @@ fn vote(ballot: Ballot) -> Vote
     Vote { ballot, value }
 }
 
-/// The answers to the calls of a row, and what stands then.
-pub(super) fn plays(alloc: Global, mut words: Words) -> Result<String, RowFault> {
-    let text = words.text(alloc)?;
-    let setup = first_setup(alloc)?;
-    let mut answers = String::new(alloc);
-    let acceptor = accepting(alloc, in_memory(alloc)?, &setup)?;
-    let records = played(alloc, acceptor, &text, &mut answers)?;
-    let standing = shown(alloc, records.into_connection(), &setup)?;
-    answers.push_str(standing.as_str())?;
-    Ok(answers)
-}
-
-/// Makes the calls of a text, appends the answers, and gives the acceptor's records back. Faults: `NotARow`, and `Memory`.
-pub(super) fn played<R: Records + Drop>(
-    alloc: Global,
-    mut acceptor: Acceptor<R>,
-    calls: &str,
-    answers: &mut String,
-) -> Result<R, RowFault> {
-    let done = play_all(alloc, &mut acceptor, calls, answers);
-    keeping(done, acceptor.into_records())
-}
-
 /// Makes the calls of a text, one in each line, and appends the answers. Faults: `NotARow`, and `Memory`.
-fn play_all<R: Records + Drop>(
+pub(super) fn play_all<R: Records + Drop>(
     alloc: Global,
     acceptor: &mut Acceptor<R>,
     calls: &str,

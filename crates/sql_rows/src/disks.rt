@@ -1,25 +1,30 @@
 //! Databases on disks in memory: disks that fail from some call on, and files that are cut or changed.
 
-use super::calls::played;
-use super::opening::{first_setup, refused, shown};
-use super::results::{both, keeping, or_memory};
-use acceptor::Acceptor;
+use super::failing::FailingDisk;
+use super::memory::{Kind, in_empty};
+use super::opening::{first_setup, found};
+use super::results::{both, or_not_a_row};
+use super::using::use_where_connected;
 use ballots::Setup;
-use records::{Records, RecordsFault};
 use rows::{RowFault, Words};
-use sql_records::{OpenFault, SqlRecords};
 use sqlite::{Connection, FileStore, Files, Options};
-use sqlite_disk::{Crash, Disk, Fuse, Memory};
+use sqlite_disk::{Crash, Disk};
 use std::alloc::Global;
 
 /// A promise, and a vote by a ballot above it.
 const PROMISE_AND_VOTE: &str = "begin 1 3\naccept 5 3 2";
 
-/// A file in memory that fails from some call on, and its log.
-type Fused = Files<Fuse<Memory>>;
-
 /// The connection to files, or the files again where there is none.
 type Connected<D> = Result<Connection<FileStore<D>>, Files<D>>;
+
+/// What is done to a file.
+#[derive(Clone, Copy)]
+enum Damage {
+    /// It is cut after so many bytes.
+    Cut,
+    /// The byte at an offset is another one.
+    Changed,
+}
 
 /// The bytes of a log and of its database.
 #[derive(Drop)]
@@ -28,39 +33,51 @@ struct Written {
     database: Vec<u8>,
 }
 
-/// A disk with these bytes, which passes so many calls on and fails each one after.
-fn disk(alloc: Global, bytes: &[u8], calls: u64) -> Result<Fuse<Memory>, RowFault> {
-    let mut memory = Memory::new(alloc);
-    if memory.write_at(0, bytes).is_err() || memory.sync().is_err() {
-        return Err(RowFault::Memory);
+/// What a row of that kind says of databases in memory. Fault: `NotARow` where there is no such kind, among others.
+pub(super) fn in_memory<D: FailingDisk>(
+    alloc: Global,
+    kind: &str,
+    words: Words,
+) -> Result<String, RowFault> {
+    match kind {
+        "made" => on_new_disks::<D>(alloc, Kind::Made, words),
+        "kept" => on_new_disks::<D>(alloc, Kind::Kept, words),
+        "plays" => on_new_disks::<D>(alloc, Kind::Plays, words),
+        "fuse" => fuse::<D>(alloc, words),
+        "cut" => damaged::<D>(alloc, words, Damage::Cut),
+        "changed" => damaged::<D>(alloc, words, Damage::Changed),
+        _ => Err(RowFault::NotARow),
     }
-    Ok(Fuse::new(memory, calls))
 }
 
 /// Empty files, of which each passes so many calls on.
-fn empty_files(alloc: Global, log: u64, database: u64) -> Result<Fused, RowFault> {
+fn empty_files<D: FailingDisk>(
+    alloc: Global,
+    log: u64,
+    database: u64,
+) -> Result<Files<D>, RowFault> {
     let (log, db) = both(
-        disk(alloc, b"".as_slice(), log),
-        disk(alloc, b"".as_slice(), database),
+        D::failing_after(alloc, log, b"".as_slice()),
+        D::failing_after(alloc, database, b"".as_slice()),
     )?;
     Ok(Files { log, db })
 }
 
 /// Files with these bytes.
-fn files_with(alloc: Global, written: &Written) -> Result<Fused, RowFault> {
+fn files_with<D: FailingDisk>(alloc: Global, written: &Written) -> Result<Files<D>, RowFault> {
     let (log, db) = both(
-        disk(alloc, written.log.as_slice(), u64::MAX),
-        disk(alloc, written.database.as_slice(), u64::MAX),
+        D::failing_after(alloc, u64::MAX, written.log.as_slice()),
+        D::failing_after(alloc, u64::MAX, written.database.as_slice()),
     )?;
     Ok(Files { log, db })
 }
 
 /// The bytes of files.
-fn bytes_of(alloc: Global, files: &Fused) -> Result<Written, RowFault> {
+fn bytes_of<D: FailingDisk>(alloc: Global, files: &Files<D>) -> Result<Written, RowFault> {
     let mut log = Vec::new(alloc);
-    log.extend_from_slice(files.log.inner().bytes())?;
+    log.extend_from_slice(files.log.bytes())?;
     let mut database = Vec::new(alloc);
-    database.extend_from_slice(files.db.inner().bytes())?;
+    database.extend_from_slice(files.db.bytes())?;
     Ok(Written { log, database })
 }
 
@@ -84,7 +101,7 @@ fn read_calls(alloc: Global, words: &mut Words) -> Result<String, RowFault> {
 
 /// What becomes of new records whose log or database fails from a call on, and what is found after: where all that was written is still
 /// there, and where a crash takes what was not synced.
-pub(super) fn fuse(alloc: Global, mut words: Words) -> Result<String, RowFault> {
+fn fuse<D: FailingDisk>(alloc: Global, mut words: Words) -> Result<String, RowFault> {
     let (is_log, last) = read_file(&mut words)?;
     let calls = read_calls(alloc, &mut words)?;
     let (log, database) = if is_log {
@@ -94,7 +111,7 @@ pub(super) fn fuse(alloc: Global, mut words: Words) -> Result<String, RowFault> 
     };
     let setup = first_setup(alloc)?;
     let mut text = String::new(alloc);
-    let files = empty_files(alloc, log, database)?;
+    let files = empty_files::<D>(alloc, log, database)?;
     let files = used(alloc, files, &calls, &setup, &mut text)?;
     let after = found_after(alloc, files, &setup)?;
     text.push_str(after.as_str())?;
@@ -102,17 +119,21 @@ pub(super) fn fuse(alloc: Global, mut words: Words) -> Result<String, RowFault> 
 }
 
 /// What is found in files where all that was written is still there, and where a crash takes what was not synced.
-fn found_after(alloc: Global, files: Fused, setup: &Setup) -> Result<String, RowFault> {
+fn found_after<D: FailingDisk>(
+    alloc: Global,
+    files: Files<D>,
+    setup: &Setup,
+) -> Result<String, RowFault> {
     let written = bytes_of(alloc, &files);
-    let left = found(alloc, connected(alloc, crashed(files)), setup);
-    let mut text = found_with(alloc, &written?, setup)?;
+    let left = found_in(alloc, crashed(files), setup);
+    let mut text = found_with::<D>(alloc, &written?, setup)?;
     text.push_str("; ")?;
     text.push_str(left?.as_str())?;
     Ok(text)
 }
 
 /// The files after a crash, which takes what was not synced. They fail no more.
-fn crashed(mut files: Fused) -> Fused {
+fn crashed<D: Crash>(mut files: Files<D>) -> Files<D> {
     files.log.crash();
     files.db.crash();
     files
@@ -130,112 +151,87 @@ fn connected<D: Disk + Drop>(alloc: Global, files: Files<D>) -> Connected<D> {
 }
 
 /// What stands in files that are opened again, or that they are not opened.
-fn found<D: Disk + Drop>(
+fn found_in<D: Disk + Drop>(
     alloc: Global,
-    connected: Connected<D>,
+    files: Files<D>,
     setup: &Setup,
 ) -> Result<String, RowFault> {
-    match connected {
-        Ok(connection) => shown(alloc, connection, setup),
-        Err(_) => said(alloc, "no connection"),
-    }
-}
-
-/// What is found in files with these bytes.
-fn found_with(alloc: Global, written: &Written, setup: &Setup) -> Result<String, RowFault> {
-    let files = files_with(alloc, written)?;
     found(alloc, connected(alloc, files), setup)
 }
 
-/// A text.
-fn said(alloc: Global, text: &str) -> Result<String, RowFault> {
-    Ok(String::from_str(alloc, text)?)
+/// What is found in files with these bytes.
+fn found_with<D: FailingDisk>(
+    alloc: Global,
+    written: &Written,
+    setup: &Setup,
+) -> Result<String, RowFault> {
+    found_in(alloc, files_with::<D>(alloc, written)?, setup)
 }
 
-/// Appends a part of an answer.
-fn say(text: &mut String, part: &str) -> Result<(), RowFault> {
-    text.push_str(part)?;
-    text.push_str("; ")?;
-    Ok(())
+/// What becomes of an empty database.
+fn in_new_files<D: Disk + Drop>(
+    alloc: Global,
+    files: Files<D>,
+    kind: Kind,
+    words: Words,
+) -> Result<String, RowFault> {
+    in_empty(alloc, connected(alloc, files), kind, words)
 }
 
-/// Appends the number of a fault.
-fn say_refused(alloc: Global, text: &mut String, fault: OpenFault) -> Result<(), RowFault> {
-    let number = refused(alloc, fault)?;
-    say(text, number.as_str())
+/// What becomes of an empty database on disks that never fail.
+fn on_new_disks<D: FailingDisk>(
+    alloc: Global,
+    kind: Kind,
+    words: Words,
+) -> Result<String, RowFault> {
+    let files = empty_files::<D>(alloc, u64::MAX, u64::MAX)?;
+    in_new_files(alloc, files, kind, words)
 }
 
-/// Makes an acceptor's calls over files, as long as they don't fail, and gives them back with no more calls.
+/// The files of a database, which is closed where it was opened.
+fn files_of<D: Disk + Drop>(used: Result<Connected<D>, RowFault>) -> Result<Files<D>, RowFault> {
+    match used {
+        Ok(Ok(connection)) => Ok(connection.into_store().close()),
+        Ok(Err(files)) => Ok(files),
+        Err(fault) => Err(fault),
+    }
+}
+
+/// The files after an acceptor's calls, with no more calls under way. The answers are appended. Fault: `Memory`, and `NotARow`.
 fn used<D: Disk + Drop>(
     alloc: Global,
     files: Files<D>,
     calls: &str,
     setup: &Setup,
-    text: &mut String,
+    answers: &mut String,
 ) -> Result<Files<D>, RowFault> {
+    let connected = connected(alloc, files);
+    files_of(use_where_connected(alloc, connected, calls, setup, answers))
+}
+
+/// The files, when the log was copied into the database. Fault: `NotARow` where that fails.
+fn copied<D: Disk + Drop>(alloc: Global, files: Files<D>) -> Result<Files<D>, RowFault> {
     match connected(alloc, files) {
-        Ok(connection) => {
-            let opened = SqlRecords::open(alloc, connection, setup);
-            used_records(alloc, opened, calls, text)
-        }
-        Err(files) => keeping(say(text, "no connection"), files),
-    }
-}
-
-/// Makes an acceptor's calls over records, if they were opened, and gives their files back.
-fn used_records<D: Disk + Drop>(
-    alloc: Global,
-    opened: Result<SqlRecords<FileStore<D>>, (OpenFault, Connection<FileStore<D>>)>,
-    calls: &str,
-    text: &mut String,
-) -> Result<Files<D>, RowFault> {
-    match opened {
-        Ok(records) => {
-            let loaded = Acceptor::open(alloc, records);
-            let records = accepted(alloc, loaded, calls, text)?;
-            Ok(files_of(records.into_connection()))
-        }
-        Err((fault, connection)) => {
-            keeping(say_refused(alloc, text, fault), files_of(connection))
-        }
-    }
-}
-
-/// The files of a connection.
-fn files_of<D: Disk + Drop>(connection: Connection<FileStore<D>>) -> Files<D> {
-    connection.into_store().close()
-}
-
-/// Makes an acceptor's calls, if its records were loaded, and gives them back.
-fn accepted<R: Records + Drop>(
-    alloc: Global,
-    loaded: Result<Acceptor<R>, (RecordsFault, R)>,
-    calls: &str,
-    text: &mut String,
-) -> Result<R, RowFault> {
-    match loaded {
-        Ok(acceptor) => played(alloc, acceptor, calls, text),
-        Err((RecordsFault::Memory, _)) => Err(RowFault::Memory),
-        Err((RecordsFault::Store, records)) => keeping(say(text, "not loaded"), records),
+        Ok(connection) => or_not_a_row(connection.close_files()),
+        Err(_) => Err(RowFault::NotARow),
     }
 }
 
 /// The files after a promise and a vote.
-fn voted(alloc: Global) -> Result<Fused, RowFault> {
+fn voted<D: FailingDisk>(alloc: Global) -> Result<Files<D>, RowFault> {
     let setup = first_setup(alloc)?;
     let mut text = String::new(alloc);
-    let files = empty_files(alloc, u64::MAX, u64::MAX)?;
+    let files = empty_files::<D>(alloc, u64::MAX, u64::MAX)?;
     used(alloc, files, PROMISE_AND_VOTE, &setup, &mut text)
 }
 
 /// The bytes of the log and of the database after a promise and a vote; or of the database into which its log was copied, and no log.
-fn bytes_after(alloc: Global, has_log: bool) -> Result<Written, RowFault> {
-    let files = voted(alloc)?;
+fn bytes_after<D: FailingDisk>(alloc: Global, has_log: bool) -> Result<Written, RowFault> {
+    let files = voted::<D>(alloc)?;
     if has_log {
         return bytes_of(alloc, &files);
     }
-    let connection = or_memory(connected(alloc, files))?;
-    let files = or_memory(connection.close_files())?;
+    let files = copied(alloc, files)?;
     let mut written = bytes_of(alloc, &files)?;
     written.log.clear();
     Ok(written)
@@ -261,26 +257,26 @@ fn change_at(bytes: &mut Vec<u8>, at: u64) -> Result<(), RowFault> {
     Ok(())
 }
 
-/// What is found where a file is cut after so many bytes.
-pub(super) fn cut(alloc: Global, mut words: Words) -> Result<String, RowFault> {
-    let (is_log, length) = read_file(&mut words)?;
-    let mut written = bytes_after(alloc, is_log)?;
-    if is_log {
-        cut_to(&mut written.log, length)?;
-    } else {
-        cut_to(&mut written.database, length)?;
+/// Does the damage to a file. Fault: `NotARow` where it is too short.
+fn harm(bytes: &mut Vec<u8>, kind: Damage, at: u64) -> Result<(), RowFault> {
+    match kind {
+        Damage::Cut => cut_to(bytes, at),
+        Damage::Changed => change_at(bytes, at),
     }
-    found_with(alloc, &written, &first_setup(alloc)?)
 }
 
-/// What is found where a byte of a file is another one.
-pub(super) fn changed_byte(alloc: Global, mut words: Words) -> Result<String, RowFault> {
+/// What is found where a file is cut after so many bytes, or the byte at an offset is another one.
+fn damaged<D: FailingDisk>(
+    alloc: Global,
+    mut words: Words,
+    kind: Damage,
+) -> Result<String, RowFault> {
     let (is_log, at) = read_file(&mut words)?;
-    let mut written = bytes_after(alloc, is_log)?;
+    let mut written = bytes_after::<D>(alloc, is_log)?;
     if is_log {
-        change_at(&mut written.log, at)?;
+        harm(&mut written.log, kind, at)?;
     } else {
-        change_at(&mut written.database, at)?;
+        harm(&mut written.database, kind, at)?;
     }
-    found_with(alloc, &written, &first_setup(alloc)?)
+    found_with::<D>(alloc, &written, &first_setup(alloc)?)
 }

@@ -1,13 +1,24 @@
 //! Databases in real files, which are closed after each step, and opened again.
 
-use super::calls::played;
-use super::opening::{accepting, first_setup, read_setup, run, shown};
-use super::results::{keeping, or_not_a_row};
+use super::opening::{after_statements, first_setup, push_standing, read_setup};
+use super::results::or_not_a_row;
+use super::using::used;
 use ballots::Setup;
 use rows::{RowFault, Words};
-use sqlite::{Connection, Error, FileStore};
+use sqlite::{Alter, Connection, Error, FileStore};
 use sqlite_disk::Disk;
 use std::alloc::Global;
+
+/// What is done with a file between its opening and its closing.
+#[derive(Clone, Copy)]
+enum Step<'a> {
+    /// An acceptor's call.
+    Call(&'a str),
+    /// Statements are run.
+    Run(&'a str),
+    /// It is said what stands.
+    Show,
+}
 
 /// What becomes of a database in a file, which is made where there is none.
 pub(super) fn in_file(rt: &HostRuntime, mut words: Words) -> Result<String, RowFault> {
@@ -21,47 +32,75 @@ pub(super) fn in_file(rt: &HostRuntime, mut words: Words) -> Result<String, RowF
 
 /// The answers to the calls of a row, before each of which the file is opened and after each of which it is closed, and what stands then.
 fn plays_in(rt: &HostRuntime, name: &str, mut words: Words) -> Result<String, RowFault> {
-    let text = words.text(rt.alloc())?;
+    let calls = words.text(rt.alloc())?;
     let setup = first_setup(rt.alloc())?;
     let mut answers = String::new(rt.alloc());
-    for call in text.lines() {
-        let opened = Connection::open_with_sums(rt, name);
-        play_and_close(rt.alloc(), opened, &setup, call, &mut answers)?;
+    for call in calls.lines() {
+        take_step(rt, name, &setup, Step::Call(call), &mut answers)?;
     }
-    let connection = or_not_a_row(Connection::open_with_sums(rt, name))?;
-    let standing = shown(rt.alloc(), connection, &setup)?;
-    answers.push_str(standing.as_str())?;
+    take_step(rt, name, &setup, Step::Show, &mut answers)?;
     Ok(answers)
-}
-
-/// Makes one call over a file, closes it, and appends the answer. Faults: `NotARow`, and `Memory`.
-fn play_and_close<D: Disk + Drop>(
-    alloc: Global,
-    opened: Result<Connection<FileStore<D>>, Error>,
-    setup: &Setup,
-    call: &str,
-    answers: &mut String,
-) -> Result<(), RowFault> {
-    let acceptor = accepting(alloc, or_not_a_row(opened)?, setup)?;
-    let records = played(alloc, acceptor, call, answers)?;
-    or_not_a_row(records.into_connection().close())
 }
 
 /// What becomes of a file in which statements were run, when it is closed and opened again.
 fn run_in(rt: &HostRuntime, name: &str, mut words: Words) -> Result<String, RowFault> {
     let sql = words.text(rt.alloc())?;
     let setup = read_setup(rt.alloc(), &mut words)?;
-    run_and_close(Connection::open_with_sums(rt, name), &sql)?;
-    let connection = or_not_a_row(Connection::open_with_sums(rt, name))?;
-    shown(rt.alloc(), connection, &setup)
+    let mut text = String::new(rt.alloc());
+    take_step(rt, name, &setup, Step::Run(&sql), &mut text)?;
+    take_step(rt, name, &setup, Step::Show, &mut text)?;
+    Ok(text)
 }
 
-/// Runs statements over a file, and closes it. Fault: `NotARow` where one of these fails.
-fn run_and_close<D: Disk + Drop>(
-    opened: Result<Connection<FileStore<D>>, Error>,
-    sql: &str,
+/// Opens the file of that name, takes the step, and appends what it gives. Faults: `NotARow`, and `Memory`.
+fn take_step(
+    rt: &HostRuntime,
+    name: &str,
+    setup: &Setup,
+    step: Step,
+    text: &mut String,
 ) -> Result<(), RowFault> {
-    let mut connection = or_not_a_row(opened)?;
-    let done = run(&mut connection, sql);
-    or_not_a_row(keeping(done, connection)?.close())
+    let opened = Connection::open_with_sums(rt, name);
+    taken(rt.alloc(), opened, setup, step, text)
+}
+
+/// Takes a step over a file, and appends what it gives. Faults: `NotARow`, and `Memory`.
+fn taken<D: Disk + Drop>(
+    alloc: Global,
+    opened: Result<Connection<FileStore<D>>, Error>,
+    setup: &Setup,
+    step: Step,
+    text: &mut String,
+) -> Result<(), RowFault> {
+    closed(after_step(alloc, opened, setup, step, text))
+}
+
+/// The database after a step, if it is to be closed. What the step gives is appended. Faults: `NotARow`, and `Memory`.
+fn after_step<S: Alter + Drop, E: Drop>(
+    alloc: Global,
+    opened: Result<Connection<S>, E>,
+    setup: &Setup,
+    step: Step,
+    text: &mut String,
+) -> Result<Option<Connection<S>>, RowFault> {
+    let connection = or_not_a_row(opened)?;
+    match step {
+        Step::Call(call) => Ok(Some(used(alloc, connection, call, setup, text)?)),
+        Step::Run(sql) => Ok(Some(after_statements(connection, sql)?)),
+        Step::Show => {
+            push_standing(alloc, connection, setup, text)?;
+            Ok(None)
+        }
+    }
+}
+
+/// Closes a database, if there is one. Fault: `NotARow` where that fails.
+fn closed<D: Disk + Drop>(
+    used: Result<Option<Connection<FileStore<D>>>, RowFault>,
+) -> Result<(), RowFault> {
+    match used {
+        Ok(Some(connection)) => or_not_a_row(connection.close()),
+        Ok(None) => Ok(()),
+        Err(fault) => Err(fault),
+    }
 }

@@ -10,19 +10,23 @@
 //! found then, once with all that was written and once without what was not synced; further words are an acceptor's calls in the place of
 //! these two. `cut log BYTES` and `cut database BYTES`, `changed log AT` and `changed database AT`: what is found where a file is cut after
 //! so many bytes, or the byte at an offset is another one; the database then has its log copied into it, and no log.
+//!
+//! What is generic here is proved once, over any disk; the two kinds of disk, in memory and of the system, are named by one function each.
 #![tactic(auto)]
 
 mod calls;
 mod disks;
+mod failing;
 mod files;
+mod memory;
 mod opening;
 mod results;
+mod using;
 
-use calls::plays;
-use disks::{changed_byte, cut, fuse};
+use disks::in_memory;
 use files::in_file;
-use opening::{kept, made};
 use rows::{Answers, RowFault, Words, run_table};
+use sqlite_disk::{Fuse, Memory};
 use std::alloc::Global;
 use std::process::ExitCode;
 
@@ -44,14 +48,8 @@ impl Answers for DatabaseRows<'_> {
     fn answer(&mut self, alloc: Global, row: &str) -> Result<String, RowFault> {
         let mut words = Words::new(row);
         match words.plain()? {
-            "made" => made(alloc, words),
-            "kept" => kept(alloc, words),
-            "plays" => plays(alloc, words),
             "file" => in_file(self.rt, words),
-            "fuse" => fuse(alloc, words),
-            "cut" => cut(alloc, words),
-            "changed" => changed_byte(alloc, words),
-            _ => Err(RowFault::NotARow),
+            kind => in_memory::<Fuse<Memory>>(alloc, kind, words),
         }
     }
 }

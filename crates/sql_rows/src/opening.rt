@@ -1,25 +1,29 @@
 //! Databases that are opened.
 
-use super::calls::{played, push_votes};
-use super::results::{keeping, unless_failed, unless_refused};
-use acceptor::Acceptor;
+use super::calls::push_votes;
+use super::results::{keeping, or_not_a_row};
 use ballots::{Setup, SetupFault};
 use document_names::{Names, NamesFault};
 use records::{Record, Records, RecordsFault};
 use rows::{RowFault, Words};
 use sql_records::{OpenFault, SqlRecords};
-use sqlite::{Alter, Connection, MemStore};
+use sqlite::{Alter, Connection};
 use std::alloc::Global;
+
+/// The names of the one document `db`.
+fn one_name(alloc: Global) -> Result<Names, RowFault> {
+    let mut texts = Vec::new(alloc);
+    texts.push(String::from_str(alloc, "db")?)?;
+    match Names::new(alloc, texts.as_slice()) {
+        Ok(names) => Ok(names),
+        Err(NamesFault::Memory) => Err(RowFault::Memory),
+        Err(_) => Err(RowFault::NotARow),
+    }
+}
 
 /// The setup of a member whose one document is `db`.
 fn setup(alloc: Global, group: u32, member: u8, members: u8) -> Result<Setup, RowFault> {
-    let mut texts = Vec::new(alloc);
-    texts.push(String::from_str(alloc, "db")?)?;
-    let names = match Names::new(alloc, texts.as_slice()) {
-        Ok(names) => names,
-        Err(NamesFault::Memory) => return Err(RowFault::Memory),
-        Err(_) => return Err(RowFault::NotARow),
-    };
+    let names = one_name(alloc)?;
     match Setup::new(alloc, group, member, members, &names) {
         Ok(setup) => Ok(setup),
         Err(SetupFault::Memory) => Err(RowFault::Memory),
@@ -45,32 +49,29 @@ pub(super) fn read_setup(alloc: Global, words: &mut Words) -> Result<Setup, RowF
     setup(alloc, group, member, members)
 }
 
-/// An empty database in memory.
-pub(super) fn in_memory(alloc: Global) -> Result<Connection<MemStore>, RowFault> {
-    Ok(Connection::open_in_memory(alloc)?)
-}
-
-/// An acceptor over the setup's member's records in a database. Faults: `Memory`, and `NotARow` where they are not opened or not loaded.
-pub(super) fn accepting<S: Alter + Drop>(
-    alloc: Global,
-    connection: Connection<S>,
-    setup: &Setup,
-) -> Result<Acceptor<SqlRecords<S>>, RowFault> {
-    let records = unless_refused(SqlRecords::open(alloc, connection, setup))?;
-    unless_failed(Acceptor::open(alloc, records))
-}
-
 /// What stands in a database, or why it is not opened as this member's.
-pub(super) fn shown<S: Alter + Drop>(
+pub(super) fn standing_in<S: Alter + Drop>(
     alloc: Global,
     connection: Connection<S>,
     setup: &Setup,
 ) -> Result<String, RowFault> {
-    found(alloc, SqlRecords::open(alloc, connection, setup))
+    opened(alloc, SqlRecords::open(alloc, connection, setup))
+}
+
+/// What stands in a database that is opened again, or that there is no connection to it.
+pub(super) fn found<S: Alter + Drop, F: Drop>(
+    alloc: Global,
+    connected: Result<Connection<S>, F>,
+    setup: &Setup,
+) -> Result<String, RowFault> {
+    match connected {
+        Ok(connection) => standing_in(alloc, connection, setup),
+        Err(_) => Ok(String::from_str(alloc, "no connection")?),
+    }
 }
 
 /// What stands in records that were opened, or why they were not.
-fn found<R: Records + Drop, C: Drop>(
+fn opened<R: Records + Drop, C: Drop>(
     alloc: Global,
     opened: Result<R, (OpenFault, C)>,
 ) -> Result<String, RowFault> {
@@ -113,44 +114,23 @@ pub(super) fn refused(alloc: Global, fault: OpenFault) -> Result<String, RowFaul
     Ok(format!(in alloc; "fault {number}")?)
 }
 
-/// Runs statements. Fault: `NotARow` where one fails.
-pub(super) fn run<S: Alter>(connection: &mut Connection<S>, sql: &str) -> Result<(), RowFault> {
-    match connection.execute_batch(sql) {
-        Ok(()) => Ok(()),
-        Err(_) => Err(RowFault::NotARow),
-    }
-}
-
-/// What becomes of an empty database in which statements were run.
-pub(super) fn made(alloc: Global, mut words: Words) -> Result<String, RowFault> {
-    let sql = words.text(alloc)?;
-    let setup = read_setup(alloc, &mut words)?;
-    changed(alloc, in_memory(alloc)?, &sql, &setup)
-}
-
-/// What becomes of records in which statements were run.
-pub(super) fn kept(alloc: Global, mut words: Words) -> Result<String, RowFault> {
-    let sql = words.text(alloc)?;
-    let setup = read_setup(alloc, &mut words)?;
-    changed(alloc, voted(alloc)?, &sql, &setup)
-}
-
-/// A database in which 2,1 is promised, and a vote of that ballot stands at position 5.
-fn voted(alloc: Global) -> Result<Connection<MemStore>, RowFault> {
-    let setup = first_setup(alloc)?;
-    let mut answers = String::new(alloc);
-    let acceptor = accepting(alloc, in_memory(alloc)?, &setup)?;
-    let records = played(alloc, acceptor, "accept 5 2 1", &mut answers)?;
-    Ok(records.into_connection())
-}
-
-/// What becomes of a database in which statements are run, when it is opened as that member's.
-fn changed<S: Alter + Drop>(
-    alloc: Global,
+/// The database after statements. Fault: `NotARow` where one fails.
+pub(super) fn after_statements<S: Alter + Drop>(
     mut connection: Connection<S>,
     sql: &str,
+) -> Result<Connection<S>, RowFault> {
+    let done = or_not_a_row(connection.execute_batch(sql));
+    keeping(done, connection)
+}
+
+/// Appends what stands in a database, or why it is not opened as this member's. Faults: `NotARow`, and `Memory`.
+pub(super) fn push_standing<S: Alter + Drop>(
+    alloc: Global,
+    connection: Connection<S>,
     setup: &Setup,
-) -> Result<String, RowFault> {
-    let done = run(&mut connection, sql);
-    shown(alloc, keeping(done, connection)?, setup)
+    text: &mut String,
+) -> Result<(), RowFault> {
+    let standing = standing_in(alloc, connection, setup)?;
+    text.push_str(standing.as_str())?;
+    Ok(())
 }
