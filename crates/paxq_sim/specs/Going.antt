@@ -50,6 +50,6 @@ HasCome has_applied meaning failures n names done w delivered named = (w.members
 abbrev pub IsDelivering : {A : Type 0} → (has_applied : List (List ℕ) → List Value → A → Type 0) → (meaning : List (List ℕ) → Application) → List Failure → (n : ℕ) → (names : List (List ℕ)) → List Command → World Script A → (delivered : ℕ) → (named : List ℕ) → Type 0
 IsDelivering has_applied meaning failures n names done w delivered named = (w.members ≡ n) × (w.names ≡ names) × ReachedBy Stands has_applied w (Delivers (meaning names) failures n done w delivered named)
 
--- it shows where an event file's commands lead
+-- it is a group of the members and the documents that an event file names, and shows where the file's commands lead
 abbrev pub HasPlayed : {A : Type 0} → (has_applied : List (List ℕ) → List Value → A → Type 0) → (meaning : List (List ℕ) → Application) → EventFileTerm → World Script A → Type 0
-HasPlayed has_applied meaning f w = (end : Progress) × Plays (meaning f.group.names) f.failures (opening f.group.members) f.commands end × (kept : ℕ → Record) × Shows has_applied w kept end.state.world
+HasPlayed has_applied meaning f w = (w.members ≡ f.group.members) × (w.names ≡ f.group.names) × (end : Progress) × Plays (meaning f.group.names) f.failures (opening f.group.members) f.commands end × (kept : ℕ → Record) × Shows has_applied w kept end.state.world

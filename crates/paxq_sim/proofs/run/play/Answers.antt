@@ -14,6 +14,8 @@ returns g c =
     let failures = c.args.file.failures.items in
     let come = c.in_ok-play.ensures.played failures n names (subst (λ fs. HasCome {A = g.row.A.Denot} g.A.Application.has_applied g.A.Application.meaning fs n names [] c.in_ok-simulation.simulation.world c.in_ok-simulation.simulation.delivered c.in_ok-simulation.simulation.named) c.deref.ensures.value c.in_ok-simulation.ensures.begun) in
     let one = one_of {A = g.row.A.Denot} g.A.Application.has_applied end.world (Comes {A = g.row.A.Denot} (g.A.Application.meaning names) failures n c.deref-2.result.now end.world end.delivered end.named) come.2 in (
+      come.0,
+      come.1,
       one.1.progress,
       subst (λ commands. Plays (g.A.Application.meaning names) failures (opening n) commands one.1.progress) c.deref-2.ensures.value one.1.plays,
       one.2,
