@@ -43,10 +43,10 @@ abbrev pub Says : {A : Type 0} → Result A Code → Result A ValueFault → Typ
 Says outcome (Ok a) = outcome ≡ Ok a
 Says outcome (Err f) = Fails outcome f
 
--- a turn is taken, if one is left
+-- a turn is taken, if one is left; else nothing changes
 abbrev pub Turns : Result (Unit {0}) ValueFault → Run → Run → Type 0
 Turns (Ok u) old new = (new ≡ record old { turns = old.turns - 1 }) × ((old.turns == 0) ≡ false)
-Turns (Err f) old new = (f ≡ fault.Code PXQ0002) × ((old.turns == 0) ≡ true)
+Turns (Err f) old new = (f ≡ fault.Code PXQ0002) × ((old.turns == 0) ≡ true) × (new ≡ old)
 
 -- the nodes of the environment stand in the trees
 pub record IsReady (env : Environment) (run : Run) : Type 0 where

@@ -135,7 +135,8 @@ impl<'a> Evaluation<'a> {
     /// So many new nodes: they take the next identities, of which it gives the first. Code: PXQ0003 where the evaluation would have
     /// made more than 100,000; then nothing changes.
     pub fn new_nodes(&mut self, count: u64) -> Result<NodeId, ValueFault>
-        ensures { GivesIn Any (new_nodes count) self.old result self.new }
+        ensures made { GivesIn Any (new_nodes count) self.old result self.new }
+        ensures refused { OnErr result (self.new ≡ self.old) }
     {
         let first = self.shelf.next();
         match first.number().checked_add(count) {

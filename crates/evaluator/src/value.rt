@@ -17,8 +17,7 @@ use values::{Code, ValueFault};
 
 /// The items of an expression, in an environment whose nodes stand among the trees.
 ///
-/// Faults: `Memory`; `Code` with the code of the first fault of the evaluation. What the evaluation had made until then stands among
-/// its own trees, and the lent forest is as it was.
+/// Faults: `Memory`; `Code` with the code of the first fault of the evaluation. Nothing is said then of what the evaluation has made.
 pub fn value_of(run: &mut Evaluation, x: &Expr, env: &Environment) -> Result<Sequence, ValueFault>
     requires ready { IsReady env.now run.old }
     ensures { Gives (mean x.now env.now) run.old result run.new }
