@@ -29,7 +29,7 @@ pub fn value_of(run: &mut Evaluation, x: &Expr, env: &Environment) -> Result<Seq
     let elements = Elements { constructors };
     let updates = Updates { value_of };
     match x {
-        Expr::Integer(value) => number(run, *value, env),
+        Expr::Integer(literal) => number(run, *literal, env),
         Expr::String(text) => string(run, text, env),
         Expr::Variable(name) => variable(run, name, env),
         Expr::Context => context_item(run, env),

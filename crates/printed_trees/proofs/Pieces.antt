@@ -8,7 +8,8 @@ use Rattle.std.specs.Str.{bytes_eq}
 use Rattle.document_names.specs.Characters.{is_digit, is_name, is_name_start, is_name_character}
 use Rattle.fault_codes.specs.declared.code.Code.TheVariants.{XPST0003}
 use Rattle.query_tokens.specs.Reading.{Gives, Fails, fails, pure, begins}
-use Rattle.query_tokens.specs.Lexing.{goes_on, is_space, is_separated, is_left, IsRun, token, name as read_name, name_of, number as read_number, number_of, decimal_of, max_integer, mark_token}
+use Rattle.query_tokens.specs.Lexing.{goes_on, is_space, is_separated, is_left, IsRun, token, name as read_name, name_of, number as read_number, number_of, decimal_of, mark_token}
+use Rattle.query_tokens.specs.Limits.{max_integer}
 use Rattle.query_tokens.specs.Words.{marks, pairs, singles}
 use Rattle.query_tokens.specs.declared.kind.Kind.TheVariants as k
 use Rattle.query_tokens.proofs.Runs.{run_then}

@@ -15,7 +15,7 @@ use Rattle.data_model.specs.declared.node.Kind.{Kind as NodeKind}
 use Rattle.data_model.specs.declared.node.Kind.TheVariants as node
 use Rattle.values.specs.Printing.{escaped, literal, listed, document_content, constructor}
 use Rattle.values.proofs.Escapes.{plain}
-use Rattle.query_tokens.specs.Lexing.{max_integer}
+use Rattle.query_tokens.specs.Limits.{max_integer}
 use Rattle.printed_trees.specs.Constructors.{is_tidy_root}
 use Rattle.printed_trees.proofs.Numerals.{digits_of}
 use Rattle.printed_trees.proofs.Pieces.{has_name}

@@ -11,7 +11,7 @@ ghost use Rattle.evaluation.specs.Evaluates.{Evaluates};
 ghost use Rattle.evaluation.specs.Gives.{Any, Gives, GivesIn, IsReady, Stand};
 
 use evaluation::{Environment, Evaluation, Sequence};
-use query_grammar::Expr;
+use query_grammar::{Expr, IntegerLiteral};
 use sqlite_items::{Boxed, Items};
 use values::{Atom, Code, Item, Text, ValueFault, truth};
 
@@ -125,14 +125,16 @@ impl<F: Fn(&mut Evaluation, &Expr, &Environment) -> Result<Sequence, ValueFault>
     }
 }
 
-/// A number (XQuery 1.0, section 3.1.1). Code: FOAR0002 from 2^63 on.
-pub fn number(run: &mut Evaluation, value: u64, env: &Environment) -> Result<Sequence, ValueFault>
-    ensures { Gives (meaning.number value env.now) run.old result run.new }
+/// A number (XQuery 1.0, section 3.1.1). It fails where memory is refused alone.
+pub fn number(
+    run: &mut Evaluation,
+    literal: IntegerLiteral,
+    env: &Environment,
+) -> Result<Sequence, ValueFault>
+    ensures { Gives (meaning.number literal env.now) run.old result run.new }
 {
-    match i64::try_from(value) {
-        Ok(value) => Ok(Sequence::one(run.alloc(), Item::Atomic(Atom::Integer(value)))?),
-        Err(_) => Err(ValueFault::Code(Code::FOAR0002)),
-    }
+    let value = literal.value();
+    Ok(Sequence::one(run.alloc(), Item::Atomic(Atom::Integer(value)))?)
 }
 
 /// A string (XQuery 1.0, section 3.1.1).

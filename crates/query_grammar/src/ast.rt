@@ -1,5 +1,6 @@
 //! Expressions (XQuery 1.0, section 3; XQuery Update Facility 1.0, section 2).
 
+use query_tokens::IntegerLiteral;
 use sqlite_items::{Boxed, Items};
 use trees::Axis;
 use values::{Comparison, Operator, Text};
@@ -15,7 +16,7 @@ use values::{Comparison, Operator, Text};
 #[derive(Drop)]
 pub enum Expr {
     /// A number.
-    Integer(u64),
+    Integer(IntegerLiteral),
     /// A string, by its content.
     String(Text),
     /// `$name`

@@ -8,3 +8,4 @@ pub use ast::{
     Binary, Binding, Clause, Expr, KindTest, Name, NodeTest, Operation, Place, Quantifier, Sign,
     SortKey,
 };
+pub use query_tokens::IntegerLiteral;

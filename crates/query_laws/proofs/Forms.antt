@@ -5,7 +5,7 @@ use Rattle.std.proofs.lemmas.Option.{get_or_from_slice_get, slice_get_within}
 use Rattle.std.specs.List.{All}
 use Rattle.data_model.specs.declared.axis.Axis.{Axis}
 use Rattle.document_names.specs.Characters.{is_name}
-use Rattle.query_tokens.specs.Lexing.{max_integer}
+use Rattle.query_tokens.specs.Limits.{max_integer}
 use Rattle.query_grammar.specs.declared.ast.Binding.{Binding}
 use Rattle.query_grammar.specs.declared.ast.Clause.{Clause}
 use Rattle.query_grammar.specs.declared.ast.Expr.{Expr, out-Expr}

@@ -8,6 +8,7 @@ use Rattle.std.specs.List.{All, list_all}
 use Rattle.std.specs.Str.{bytes_eq}
 use Rattle.document_names.specs.Characters.{is_digit, is_name, is_name_start, is_name_character}
 use Rattle.fault_codes.specs.declared.code.Code.TheVariants.{XPST0003}
+use Rattle.query_tokens.specs.Limits.{max_integer}
 use Rattle.query_tokens.specs.declared.kind.Kind.{Kind}
 use Rattle.query_tokens.specs.declared.kind.Kind.TheVariants as k
 use Rattle.query_tokens.specs.declared.token.Token.{Token}
@@ -22,10 +23,10 @@ use Rattle.query_laws.proofs.Written.{IsMark, mark_found}
 pub record Says (t : Token) : Type 0 where
   pub has_name : HasName t
   pub name : is_name_kind t.kind ≡ true → is_name t.text ≡ true
-  pub number : t.number ≤ lexing.max_integer
+  pub number : t.number ≤ max_integer
 
 -- a token that is no name says nothing, or a number
-of_no_name : (kind : Kind) (n : ℕ) → is_name_kind kind ≡ false → n ≤ lexing.max_integer → Says (record { kind = kind; text = []; number = n })
+of_no_name : (kind : Kind) (n : ℕ) → is_name_kind kind ≡ false → n ≤ max_integer → Says (record { kind = kind; text = []; number = n })
 of_no_name kind n h le = record { has_name = λ _. inl refl; name = λ e. absurd (let f : ⊥ = cc in f); number = le }
 
 -- such characters, the first of which a name may begin with
@@ -85,12 +86,12 @@ name_made (c ∷ cs) s t rest e =
 -- Tokens.
 
 makes_number_of : (digits : List ℕ) → Makes Says (lexing.number_of digits)
-makes_number_of digits = record { made = λ text a rest e. one (lexing.goes_on is_name_start text) (nat_lt lexing.max_integer (lexing.decimal_of digits)) refl text a rest e }
+makes_number_of digits = record { made = λ text a rest e. one (lexing.goes_on is_name_start text) (nat_lt max_integer (lexing.decimal_of digits)) refl text a rest e }
   where
     token_of : Token
     token_of = record { kind = k.Number; text = []; number = lexing.decimal_of digits }
 
-    one : (word above : Bool) → nat_lt lexing.max_integer (lexing.decimal_of digits) ≡ above → (text : List ℕ) (a : Token) (rest : List ℕ)
+    one : (word above : Bool) → nat_lt max_integer (lexing.decimal_of digits) ≡ above → (text : List ℕ) (a : Token) (rest : List ℕ)
         → cond (word || above) (Fails XPST0003) (Gives token_of text) ≡ Gives a rest → Says a
     one true above h text a rest e = absurd (let f : ⊥ = cc in f)
     one false true h text a rest e = absurd (let f : ⊥ = cc in f)

@@ -7,6 +7,7 @@ use Rattle.std.specs.List.{list_all}
 use Rattle.node_table.proofs.Ups.{same-ids}
 use Rattle.fault_codes.specs.declared.code.Code.TheVariants.{XPST0003, XQST0090, PXQ0002}
 use Rattle.document_names.specs.Characters.{is_digit, is_name_start, is_name_character, is_xml_character}
+use Rattle.query_tokens.specs.Limits.{max_integer}
 use Rattle.query_tokens.specs.Reading.{Read, Gives, Fails, Reader, on_read, ◌>>=◌, ◌>>◌, pure, fails, begins, first_of, skip, mark, such, rounds}
 use Rattle.query_tokens.specs.Lexing as lexing
 use Rattle.query_tokens.specs.Words.{kind_of, marks, pairs, singles}
@@ -243,7 +244,7 @@ word_read c cs after h all other apart =
     ∙ ap (λ r. on_read r lexing.name_of) (whole_run is_name_character (c ∷ cs) after (ap (λ b. b && list_all is_name_character cs) (start_goes_on c h) ∙ all) (no_name_after (c ∷ cs) after apart))
     ∙ ap (λ b. cond b (fails XPST0003) (pure token) after) other
 
-number_read : (d : ℕ) (ds after : List ℕ) → list_all is_digit (d ∷ ds) ≡ true → lexing.decimal_of (d ∷ ds) ≤ lexing.max_integer → IsApart (d ∷ ds) after
+number_read : (d : ℕ) (ds after : List ℕ) → list_all is_digit (d ∷ ds) ≡ true → lexing.decimal_of (d ∷ ds) ≤ max_integer → IsApart (d ∷ ds) after
     → lexing.token (d ∷ ds ++ after) ≡ Gives (record { kind = kind.Number; text = []; number = lexing.decimal_of (d ∷ ds) }) after
 number_read d ds after all le apart =
     let digit = (and_both (is_digit d) (list_all is_digit ds) all).0 in
@@ -252,8 +253,8 @@ number_read d ds after all le apart =
     ap (λ b. cond b (lexing.name (d ∷ ds ++ after)) (cond (is_digit d) (lexing.number (d ∷ ds ++ after)) (cond (d == 34) (lexing.string 34 (d ∷ ds ++ after)) (cond (d == 39) (lexing.string 39 (d ∷ ds ++ after)) (lexing.marked (first_of marks (d ∷ ds ++ after)) (d ∷ ds ++ after)))))) (digit_no_start d digit)
     ∙ ap (λ b. cond b (lexing.number (d ∷ ds ++ after)) (cond (d == 34) (lexing.string 34 (d ∷ ds ++ after)) (cond (d == 39) (lexing.string 39 (d ∷ ds ++ after)) (lexing.marked (first_of marks (d ∷ ds ++ after)) (d ∷ ds ++ after))))) digit
     ∙ ap (λ r. on_read r lexing.number_of) (whole_run is_digit (d ∷ ds) after all (goes_off is_name_character is_digit after no_character_no_digit none))
-    ∙ ap (λ b. cond (b || nat_lt lexing.max_integer (lexing.decimal_of (d ∷ ds))) (Fails XPST0003) (Gives token after)) (goes_off is_name_character is_name_start after no_character_no_start none)
-    ∙ ap (λ b. cond b (Fails XPST0003) (Gives token after)) (le-ltb lexing.max_integer (lexing.decimal_of (d ∷ ds)) le)
+    ∙ ap (λ b. cond (b || nat_lt max_integer (lexing.decimal_of (d ∷ ds))) (Fails XPST0003) (Gives token after)) (goes_off is_name_character is_name_start after no_character_no_start none)
+    ∙ ap (λ b. cond b (Fails XPST0003) (Gives token after)) (le-ltb max_integer (lexing.decimal_of (d ∷ ds)) le)
 
 -- Strings.
 

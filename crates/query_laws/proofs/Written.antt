@@ -7,6 +7,7 @@ use Rattle.std.specs.Str.{bytes_eq}
 use Rattle.std.specs.Prelude.{codes}
 use Rattle.document_names.specs.Characters.{is_digit, is_name_start, is_name_character}
 use Rattle.fault_codes.specs.declared.code.Code.TheVariants.{XPST0003}
+use Rattle.query_tokens.specs.Limits.{max_integer}
 use Rattle.query_tokens.specs.declared.kind.Kind.{Kind}
 use Rattle.query_tokens.specs.declared.kind.Kind.TheVariants as k
 use Rattle.query_tokens.specs.declared.token.Token.{Token}
@@ -73,7 +74,7 @@ makes_name = makes_bind (any (lexing.run_of is_name_character)) (λ found h. mak
 
 makes_number_of : (digits : List ℕ) → Makes HasXmlString (lexing.number_of digits)
 unfolding no_string
-makes_number_of digits = makes_if (λ text. lexing.goes_on is_name_start text || nat_lt lexing.max_integer (lexing.decimal_of digits)) (makes_fails HasXmlString XPST0003)
+makes_number_of digits = makes_if (λ text. lexing.goes_on is_name_start text || nat_lt max_integer (lexing.decimal_of digits)) (makes_fails HasXmlString XPST0003)
     (makes_pure HasXmlString _ (not_such (record { kind = k.Number; text = []; number = lexing.decimal_of digits }) refl))
 
 makes_number : Makes HasXmlString lexing.number

@@ -2,7 +2,7 @@
 use Rattle.std.specs.Prelude.{◌≡◌, ◌≤◌, true}
 use Rattle.std.specs.List.{All}
 use Rattle.document_names.specs.Characters.{is_name}
-use Rattle.query_tokens.specs.Lexing.{max_integer}
+use Rattle.query_tokens.specs.Limits.{max_integer}
 use Rattle.query_grammar.specs.declared.ast.Binding.{Binding}
 use Rattle.query_grammar.specs.declared.ast.Clause.{Clause}
 use Rattle.query_grammar.specs.declared.ast.Clause.TheVariants as clause

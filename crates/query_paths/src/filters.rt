@@ -1,6 +1,6 @@
 //! Predicates, and the filter expressions that have them (XQuery 1.0, sections 3.2.2 and 3.3.2).
 
-ghost use Rattle.std.specs.Prelude.{◌≡◌, ◌≤◌, ◌<◌, ◌+◌, ◌∷◌, [], length, map, IfOk};
+ghost use Rattle.std.specs.Prelude.{◌≡◌, ◌≤◌, ◌<◌, ◌+◌, ◌∷◌, [], length, map, IfOk, Ok};
 ghost use Rattle.values.specs.Items.{IsThere};
 ghost use Rattle.query_meaning.specs.Environment.{with_focus};
 ghost use Rattle.query_meaning.specs.Meaning.{mean};
@@ -12,7 +12,7 @@ ghost use Rattle.query_paths.specs.Predicates.{selected, selected_by_number};
 
 use crate::kept::Kept;
 use evaluation::{Environment, Evaluation, Sequence};
-use query_grammar::Expr;
+use query_grammar::{Expr, IntegerLiteral};
 use sqlite_items::{Boxed, Items};
 use values::{Atom, Code, Item, ValueFault, truth};
 
@@ -189,22 +189,19 @@ impl<F: Fn(&mut Evaluation, &Expr, &Environment) -> Result<Sequence, ValueFault>
         requires ready { IsReady env.now run.old }
         ensures { GivesIn Any (selected position (mean predicate.now) env.now) run.old result run.new }
     {
-        if let Expr::Integer(value) = predicate {
-            return Ok(is_position(*value, position)?);
+        if let Expr::Integer(literal) = predicate {
+            return Ok(is_position(*literal, position));
         }
         let items = self.value_of(run, predicate, env)?;
         Ok(selects(position, items.as_slice())?)
     }
 }
 
-/// Whether a written number is that position. Code: FOAR0002 from 2^63 on.
-fn is_position(value: u64, position: usize) -> Result<bool, Code>
-    ensures { result ≡ selected_by_number value position }
+/// Whether a written number is that position.
+fn is_position(literal: IntegerLiteral, position: usize) -> bool
+    ensures { Ok result ≡ selected_by_number literal position }
 {
-    match i64::try_from(value) {
-        Ok(number) => Ok(u64::try_from(number) == Ok(position as u64)),
-        Err(_) => Err(Code::FOAR0002),
-    }
+    u64::try_from(literal.value()) == Ok(position as u64)
 }
 
 /// Whether a predicate's value selects a position. Code: FORG0006 where it has no effective boolean value.

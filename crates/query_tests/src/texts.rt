@@ -91,7 +91,7 @@ fn the_first_pass_with_a_fault_gives_the_code(rt: HostRuntime) -> Result<(), All
 
 fn is_one(x: &Expr) -> bool {
     match x {
-        Expr::Integer(number) => *number == 1,
+        Expr::Integer(literal) => literal.value() == 1,
         _ => false,
     }
 }

@@ -6,7 +6,7 @@ use std::test::Fail;
 use values::Code;
 
 /// A token's kind, its text, and its number.
-type Row = (Kind, &'static str, u64);
+type Row = (Kind, &'static str, i64);
 
 const TEXT: &str = "for $x in (1 to 20) (: a (: b :) :) return $x << \"a\"\"&lt;&#x41;\u{e9}\"";
 
@@ -42,7 +42,7 @@ fn takes(tokens: &mut Tokens, row: Row) -> bool {
             seen == kind
                 && token.kind == kind
                 && token.text.as_str() == text
-                && token.number == number
+                && token.number.value() == number
         }
     }
 }

@@ -66,6 +66,6 @@ one_saying (x ∷ ms) cs m c h e = step x.says_more cs h (λ ds k. one_saying ms
     step false ds k f = ap (λ ts. mark_token x.kind ∷ ts) (f ds k)
 
 -- a token without text and number
-pub plain_is : (k : Kind) (text : List ℕ) (number : ℕ) → (length text == 0) ≡ true → number ≡ 0 → mark_token k ≡ record { kind = k; text = text; number = number }
-plain_is k [] number e f = ap (λ (n : ℕ). record { kind = k; text = []; number = n }) (sym f)
+pub plain_is : (k : Kind) (text : List ℕ) (number : ℕ) → (length text == 0) ≡ true → (number == 0) ≡ true → mark_token k ≡ record { kind = k; text = text; number = number }
+plain_is k [] number e f = ap (λ (n : ℕ). record { kind = k; text = []; number = n }) (sym (eqb-true number 0 f))
 plain_is k (c ∷ text) number e f = absurd (omega (arith, eqb-true (length (c ∷ text)) 0 e))

@@ -4,6 +4,7 @@ use Rattle.std.proofs.lemmas.List.{length-drop}
 use Rattle.document_names.specs.Characters.{is_digit, is_name_start, is_name_character, is_xml_character}
 use Rattle.fault_codes.specs.declared.code.Code.{Code}
 use Rattle.fault_codes.specs.declared.code.Code.TheVariants.{XPST0003, XQST0090, PXQ0002}
+use Rattle.query_tokens.specs.Limits.{max_integer}
 use Rattle.query_tokens.specs.declared.token.Token.{Token}
 use Rattle.std.specs.Str.{bytes_eq}
 use Rattle.std.specs.Char.{encode_utf8}
@@ -116,7 +117,7 @@ name_of_keeps : (found : List ℕ) → Keeps (lexing.name_of found)
 name_of_keeps found = keeps_either (bytes_eq found (codes "xmlns")) (keeps_fails XPST0003) (keeps_pure (record { kind = kind_of found; text = found; number = 0 }))
 
 number_of_keeps : (digits : List ℕ) → Keeps (lexing.number_of digits)
-number_of_keeps digits = keeps_if (λ text. lexing.goes_on is_name_start text || nat_lt lexing.max_integer (lexing.decimal_of digits)) (keeps_fails XPST0003) (keeps_pure (record { kind = kind.Number; text = []; number = lexing.decimal_of digits }))
+number_of_keeps digits = keeps_if (λ text. lexing.goes_on is_name_start text || nat_lt max_integer (lexing.decimal_of digits)) (keeps_fails XPST0003) (keeps_pure (record { kind = kind.Number; text = []; number = lexing.decimal_of digits }))
 
 -- Strings.
 

@@ -4,6 +4,7 @@ use Rattle.std.specs.Char.{encode_utf8}
 use Rattle.std.specs.Str.{bytes_eq}
 use Rattle.document_names.specs.Characters.{is_digit, is_name_start, is_name_character, is_xml_character}
 use Rattle.fault_codes.specs.declared.code.Code.TheVariants.{XPST0003, XQST0090, PXQ0002}
+use Rattle.query_tokens.specs.Limits.{max_integer}
 use Rattle.query_tokens.specs.declared.kind.Kind.{Kind}
 use Rattle.query_tokens.specs.declared.kind.Kind.TheVariants as kind
 use Rattle.query_tokens.specs.declared.token.Token.{Token}
@@ -77,9 +78,6 @@ name_of found = if bytes_eq found (codes "xmlns") then fails XPST0003 else pure 
 
 abbrev pub name : Reader Token
 name = run_of is_name_character >>= name_of
-
-abbrev pub max_integer : ℕ
-max_integer = 9223372036854775807
 
 -- the number that decimal digits spell
 abbrev pub decimal_of : List ℕ → ℕ

@@ -1,5 +1,6 @@
 pub mod Words
 pub mod Reading
+pub mod Limits
 pub mod Lexing
 pub mod Outcome
 pub mod Cursor

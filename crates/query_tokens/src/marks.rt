@@ -9,6 +9,7 @@ ghost use Rattle.query_tokens.specs.Outcome.{IsNext};
 use crate::characters::{past_one, past_two};
 use crate::fault::ParseFault;
 use crate::kind::Kind;
+use crate::literal::IntegerLiteral;
 use crate::token::Token;
 use std::alloc::Global;
 use values::{Code, Text};
@@ -84,7 +85,7 @@ fn mark_token(alloc: Global, kind: Kind) -> Token
     Token {
         kind,
         text: Text::new(String::new(alloc)),
-        number: 0,
+        number: IntegerLiteral::zero(),
     }
 }
 

@@ -2,19 +2,18 @@
 
 ghost use Rattle.std.specs.Prelude.{◌≡◌, ◌≤◌, ◌<◌, MatchOption, IfOk, All, true, string_bytes};
 ghost use Rattle.document_names.specs.Characters as class;
+ghost use Rattle.query_tokens.specs.Limits.{max_integer};
 ghost use Rattle.query_tokens.specs.Lexing as lexing;
 ghost use Rattle.query_tokens.specs.Outcome.{IsNext};
 
 use crate::characters::{is_digit, is_name_character, is_name_start};
 use crate::fault::ParseFault;
 use crate::kind::Kind;
+use crate::literal::{IntegerLiteral, MAX_INTEGER};
 use crate::token::Token;
 use crate::words::kind_of;
 use std::alloc::{AllocError, Global};
 use values::{Code, Text};
-
-/// The greatest number.
-const MAX_INTEGER: u64 = 9223372036854775807;
 
 // The name characters that the text begins with, and the rest.
 fn name_characters(text: &[char]) -> (&[char], &[char])
@@ -60,15 +59,15 @@ pub(crate) fn name(alloc: Global, text: &[char]) -> Result<(Token, &[char]), Par
     let token = Token {
         kind,
         text: Text::new(spelling),
-        number: 0,
+        number: IntegerLiteral::zero(),
     };
     Ok((token, rest))
 }
 
 // The number that the digits spell, unless it is above the limit.
-fn decimal(digits: &[char]) -> Option<u64>
+fn decimal(digits: &[char]) -> Option<IntegerLiteral>
     requires { All (λ d. (48 ≤ d) × (d < 58)) digits.now }
-    ensures { MatchOption result (lexing.max_integer < lexing.decimal_of digits.now) (λ n. (n ≤ lexing.max_integer) × (n ≡ lexing.decimal_of digits.now)) }
+    ensures { MatchOption result (max_integer < lexing.decimal_of digits.now) (λ n. (n ≤ max_integer) × (n ≡ lexing.decimal_of digits.now)) }
 {
     let mut value: u64 = 0;
     for character in digits {
@@ -78,7 +77,7 @@ fn decimal(digits: &[char]) -> Option<u64>
         }
         value = 10 * value + digit;
     }
-    Some(value)
+    IntegerLiteral::new(value)
 }
 
 fn begins_name(text: &[char]) -> bool

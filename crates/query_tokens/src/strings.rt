@@ -7,6 +7,7 @@ ghost use Rattle.query_tokens.specs.Outcome.{IsNext};
 use crate::characters::{is_xml_character, past_one, past_two};
 use crate::fault::ParseFault;
 use crate::kind::Kind;
+use crate::literal::IntegerLiteral;
 use crate::references::reference;
 use crate::token::Token;
 use std::alloc::Global;
@@ -85,7 +86,7 @@ pub(crate) fn string(
             let token = Token {
                 kind: Kind::String,
                 text: Text::shared(alloc, content)?,
-                number: 0,
+                number: IntegerLiteral::zero(),
             };
             Ok((token, rest))
         }

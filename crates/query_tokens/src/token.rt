@@ -1,6 +1,7 @@
 //! Tokens.
 
 use super::kind::Kind;
+use super::literal::IntegerLiteral;
 use values::Text;
 
 /// A token of a text (XQuery 1.0, appendix A.2).
@@ -11,5 +12,5 @@ pub struct Token {
     /// The name, the word or the content of the string; empty for others.
     pub text: Text,
     /// The number; 0 for others.
-    pub number: u64,
+    pub number: IntegerLiteral,
 }

@@ -4,6 +4,7 @@ ghost use Rattle.std.specs.Prelude.{◌≡◌, ◌∷◌, ◌++◌, [], length, 
 ghost use Rattle.query_tokens.specs.Cursor.{kind_at};
 
 use crate::kind::Kind;
+use crate::literal::IntegerLiteral;
 use crate::token::Token;
 use std::alloc::{AllocError, Global};
 use std::collections::VecDeque;
@@ -21,7 +22,7 @@ struct Mark {
 #[derive(Drop)]
 struct Content {
     text: Text,
-    number: u64,
+    number: IntegerLiteral,
 }
 
 /// The tokens of a text that are left, in order. Contracts see their list.
@@ -64,7 +65,7 @@ impl Tokens {
         ensures err { OnErr result (self.new ≡ self.old) }
     {
         let Token { kind, text, number } = token;
-        if text.as_str().is_empty() && number == 0 {
+        if text.as_str().is_empty() && number.is_zero() {
             let mark = Mark {
                 kind,
                 says_more: false,
@@ -114,7 +115,7 @@ impl Tokens {
             None => Token {
                 kind,
                 text: Text::new(String::new(self.alloc)),
-                number: 0,
+                number: IntegerLiteral::zero(),
             },
             Some(Content { text, number }) => Token { kind, text, number },
         })

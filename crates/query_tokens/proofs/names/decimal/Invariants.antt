@@ -1,5 +1,6 @@
 use Rattle.std.proofs.Common.{◌≡◌, ◌≤◌, ◌+◌, ◌*◌, ◌-◌, drop, fold}
-use Rattle.query_tokens.specs.Lexing.{decimal_of, max_integer}
+use Rattle.query_tokens.specs.Lexing.{decimal_of}
+use Rattle.query_tokens.specs.Limits.{max_integer}
 use Rattle.query_tokens.proofs.names.decimal.Given as goal
 
 abbrev pub invariant-loop-character : goal.invariant-loop-character

@@ -5,8 +5,8 @@ use Rattle.query_tokens.specs.Queues.{counted, tokens_of}
 use Rattle.query_tokens.proofs.Queues.{as_counted, counted_plain, one_plain, one_saying, plain_is}
 use Rattle.query_tokens.proofs.tokens.Tokens.push.Goals as goal
 
-pub invariant_of-self-then-number-eq0 : goal.invariant_of-self-then-number-eq0
-invariant_of-self-then-number-eq0 c =
+pub invariant_of-self-then-is_zero : goal.invariant_of-self-then-is_zero
+invariant_of-self-then-is_zero c =
     let m : Mark = record { kind = c.args.token.kind; says_more = false } in
     ap counted c.in_ok-push_back.ensures.items ∙ counted_plain c.self.inside.marks.items m refl ∙ c.self.invariant
 
@@ -24,7 +24,7 @@ returns-in_ok-push_back-clause-ok c =
     ap (λ ms. tokens_of ms c.self.inside.contents.items) c.in_ok-push_back.ensures.items
     ∙ one_plain c.self.inside.marks.items c.self.inside.contents.items m refl
     ∙ ap₂ (λ ts t. ts ++ t ∷ []) c.self.view_is
-    (plain_is c.args.token.kind c.args.token.text c.args.token.number (sym (ap (λ xs. length xs == 0) c.as_str.ensures) ∙ (sym c.is_empty.ensures ∙ c.if-is_empty.true)) c.if-number-eq0.true)
+    (plain_is c.args.token.kind c.args.token.text c.args.token.number (sym (ap (λ xs. length xs == 0) c.as_str.ensures) ∙ (sym c.is_empty.ensures ∙ c.if-is_empty.true)) (sym c.is_zero.ensures ∙ c.if-is_zero.true))
 
 pub returns-in_ok-push_back-2-clause-ok : goal.returns-in_ok-push_back-2-clause-ok
 returns-in_ok-push_back-2-clause-ok c =
