@@ -19,6 +19,7 @@ use Rattle.values.specs.declared.atom.Item.{Item}
 use Rattle.values.specs.declared.fault.ValueFault.{ValueFault}
 use Rattle.query_grammar.specs.declared.ast.Name.{Name}
 use Rattle.query_grammar.specs.declared.ast.Name.TheVariants as name
+use Rattle.query_grammar.specs.declared.functions.Function.{Function}
 use Rattle.query_meaning.specs.Running.{Run, fault}
 use Rattle.query_meaning.specs.Environment.{Environment}
 use Rattle.query_meaning.specs.Constructors.{attribute, document, element, text, comment, instruction}
@@ -89,8 +90,8 @@ of_step axis test xs = by_form (e.Step axis test xs) (Expr-F.Step axis test xs) 
 pub of_filter : (x : Expr) (xs : List Expr) → mean (e.Filter x xs) ≡ filter_of (mean x) (map mean xs)
 of_filter x xs = by_form (e.Filter x xs) (Expr-F.Filter x xs) (search (rules, the_lemmas))
 
-pub of_call : (name : List ℕ) (xs : List Expr) → mean (e.Call name xs) ≡ call name (map mean xs)
-of_call name xs = by_form (e.Call name xs) (Expr-F.Call name xs) (search (rules, the_lemmas))
+pub of_call : (f? : Option Function) (xs : List Expr) → mean (e.Call f? xs) ≡ call f? (map mean xs)
+of_call f? xs = by_form (e.Call f? xs) (Expr-F.Call f? xs) (search (rules, the_lemmas))
 
 pub of_path : (x : Expr) (xs : List Expr) → mean (e.Path x xs) ≡ path (mean x) (map mean xs)
 of_path x xs = by_form (e.Path x xs) (Expr-F.Path x xs) (search (rules, the_lemmas))

@@ -34,7 +34,7 @@ pub fn value_of(run: &mut Evaluation, x: &Expr, env: &Environment) -> Result<Seq
         Expr::Variable(name) => variable(run, name, env),
         Expr::Context => context_item(run, env),
         Expr::Sequence(parts) => forms.sequence(run, parts, env),
-        Expr::Call(function, arguments) => calls.call(run, function, arguments, env),
+        Expr::Call(function, arguments) => calls.call(run, *function, arguments, env),
         Expr::Document(content) => elements.document(run, content, env),
         Expr::Element(name, content) => elements.element(run, name, content, env),
         Expr::Attribute(name, content) => constructors.attribute(run, name, content, env),

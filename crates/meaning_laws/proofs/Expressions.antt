@@ -18,6 +18,7 @@ use Rattle.query_grammar.specs.declared.ast.Quantifier.{Quantifier}
 use Rattle.query_grammar.specs.declared.ast.Name.{Name}
 use Rattle.query_grammar.specs.declared.ast.Sign.{Sign}
 use Rattle.static_checks.specs.Parts.{source_of}
+use Rattle.query_grammar.specs.declared.functions.Function.{Function}
 use Rattle.query_meaning.specs.Running.{fault}
 use Rattle.query_meaning.specs.Sequences as sequences
 use Rattle.query_meaning.specs.Operators as operators
@@ -57,7 +58,7 @@ pub record Forms (G : Meaning → Type 0) : Type 0 where
   pub variable : (x : List ℕ) → G (sequences.variable x)
   pub context_item : G sequences.context_item
   pub sequence : (ms : List Meaning) → Each G ms → G (sequences.sequence ms)
-  pub call : (name : List ℕ) (ms : List Meaning) → Each G ms → G (functions.call name ms)
+  pub call : (f? : Option Function) (ms : List Meaning) → Each G ms → G (functions.call f? ms)
   pub document_node : (m : Meaning) → G m → G (constructors.document m)
   pub element : (n : Name Meaning) (m : Meaning) → OfName G n → G m → G (constructors.element n m)
   pub attribute : (n : Name Meaning) (m : Meaning) → OfName G n → G m → G (constructors.attribute n m)

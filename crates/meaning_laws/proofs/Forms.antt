@@ -1,5 +1,5 @@
 -- Each form keeps what its parts keep.
-use Rattle.std.proofs.Common.{ℕ, suc, ◌+◌, ℤ, pos, neg_ℤ, ◌+ℤ◌, Bool, true, false, not, ◌&&◌, ◌||◌, if◌then◌else◌, List, [], ◌∷◌, ◌++◌, length, map, reverse, filter, Option, Some, None, Result, Err}
+use Rattle.std.proofs.Common.{ℕ, suc, ◌+◌, ℤ, pos, neg_ℤ, ◌+ℤ◌, Bool, true, false, not, ◌&&◌, ◌||◌, List, [], ◌∷◌, ◌++◌, length, map, reverse, filter, Option, Some, None, Result, Err}
 use Rattle.std.specs.List.{starts_with, ends_with, concat}
 use Rattle.std.specs.Prelude.{◌==◌, chars}
 use Rattle.data_model.specs.Order.{identities, precedes}
@@ -35,6 +35,8 @@ use Rattle.query_grammar.specs.declared.ast.Sign.{Sign}
 use Rattle.query_grammar.specs.declared.ast.Sign.TheVariants.{Plus, Minus}
 use Rattle.query_grammar.specs.declared.ast.SortKey.{SortKey}
 use Rattle.static_checks.specs.Parts.{source_of}
+use Rattle.query_grammar.specs.declared.functions.Function.{Function}
+use Rattle.query_grammar.specs.declared.functions.Function.TheVariants as function
 use Rattle.query_meaning.specs.Running.{Run, M, pure, ◌>>=◌, come_to, atoms, each, turn, joined, within}
 use Rattle.query_meaning.specs.Environment.{Environment, Focus, value_in, with_variable, with_focus}
 use Rattle.query_meaning.specs.Sequences as sequences
@@ -390,84 +392,48 @@ module _ (R : Run → Run → Type 0) (s : IsQuiet R) where
   distinct_values : KeepsOne functions.distinct_values
   distinct_values x = step (atoms_keep R s x) (λ values. pure_ (functions.items_of (functions.distinct [] values)))
 
-  abbrev KeepsFunction : functions.Function → Type 0
-  KeepsFunction g = KeepsAll g.application
-
-  all_functions : Each KeepsFunction functions.functions
-  all_functions = (
-    of_one functions.doc doc,
-    (
-      of_one_or_context functions.root root,
-      (
-        of_one_or_context functions.name name,
-        (
-          of_one_or_context functions.string_of string_of,
-          (
-            of_one functions.data_of data_of,
-            (
-              of_one functions.count count,
-              (
-                of_one functions.empty empty,
-                (
-                  of_one functions.exists exists,
-                  (
-                    of_one functions.reversed reversed,
-                    (
-                      of_one functions.untruth_of untruth,
-                      (
-                        of_one functions.truth_of truth_value,
-                        (
-                          of_none (λ env. functions.boolean true) (λ env. pure_ (one (atom.Boolean true))),
-                          (
-                            of_none (λ env. functions.boolean false) (λ env. pure_ (one (atom.Boolean false))),
-                            (
-                              of_none functions.position position,
-                              (
-                                of_none functions.last last,
-                                (
-                                  concatenated,
-                                  (
-                                    of_two (functions.of_texts functions.contains) (of_texts functions.contains),
-                                    (
-                                      of_two (functions.of_texts (starts_with ◌==◌)) (of_texts (starts_with ◌==◌)),
-                                      (
-                                        of_two (functions.of_texts (ends_with ◌==◌)) (of_texts (ends_with ◌==◌)),
-                                        (of_one functions.string_length string_length, (of_two functions.string_join string_join, (of_one functions.sum sum, (of_one functions.distinct_values distinct_values, tt)))),
-                                      ),
-                                    ),
-                                  ),
-                                ),
-                              ),
-                            ),
-                          ),
-                        ),
-                      ),
-                    ),
-                  ),
-                ),
-              ),
-            ),
-          ),
-        ),
-      ),
-    ),
-  )
-
-  applied_if : (b : Bool) (g h : functions.Application) (env : Environment) (values : List (List Item)) → KeepsAll g → K (h env values) → K (if b then g env values else h env values)
+  of_two_or_more : (g : functions.Application) → KeepsAll g → KeepsAll (functions.of_two_or_more g)
   unfolding KeepsAll
-  applied_if true g h env values k j = k env values
-  applied_if false g h env values k j = j
+  of_two_or_more g k env [] = fault_keeps R s code.XPST0017
+  of_two_or_more g k env (x ∷ []) = fault_keeps R s code.XPST0017
+  of_two_or_more g k env (x ∷ y ∷ more) = k env (x ∷ y ∷ more)
 
-  applied : (name : List ℕ) (fs : List functions.Function) → Each KeepsFunction fs → (env : Environment) (values : List (List Item)) → K (functions.applied name fs env values)
-  applied _ [] ks env values = fault_keeps R s code.XPST0017
-  applied name (g ∷ gs) ks env values = applied_if (functions.is_called name (length values) g) g.application (functions.applied name gs) env values ks.0 (applied name gs ks.1 env values)
+  application : (f : Function) → KeepsAll (functions.application f)
+  application function.Doc = of_one functions.doc doc
+  application function.Root = of_one_or_context functions.root root
+  application function.Name = of_one_or_context functions.name name
+  application function.String = of_one_or_context functions.string_of string_of
+  application function.Data = of_one functions.data_of data_of
+  application function.Count = of_one functions.count count
+  application function.Empty = of_one functions.empty empty
+  application function.Exists = of_one functions.exists exists
+  application function.Reverse = of_one functions.reversed reversed
+  application function.Not = of_one functions.untruth_of untruth
+  application function.Boolean = of_one functions.truth_of truth_value
+  application function.True = of_none (λ env. functions.boolean true) (λ env. pure_ (one (atom.Boolean true)))
+  application function.False = of_none (λ env. functions.boolean false) (λ env. pure_ (one (atom.Boolean false)))
+  application function.Position = of_none functions.position position
+  application function.Last = of_none functions.last last
+  application function.Concat = of_two_or_more functions.concatenated concatenated
+  application function.Contains = of_two (functions.of_texts functions.contains) (of_texts functions.contains)
+  application function.StartsWith = of_two (functions.of_texts (starts_with ◌==◌)) (of_texts (starts_with ◌==◌))
+  application function.EndsWith = of_two (functions.of_texts (ends_with ◌==◌)) (of_texts (ends_with ◌==◌))
+  application function.StringLength = of_one functions.string_length string_length
+  application function.StringJoin = of_two functions.string_join string_join
+  application function.Sum = of_one functions.sum sum
+  application function.DistinctValues = of_one functions.distinct_values distinct_values
+
+  applied : (f? : Option Function) (env : Environment) (values : List (List Item)) → K (functions.applied f? env values)
+  unfolding KeepsAll
+  applied None env values = fault_keeps R s code.XPST0017
+  applied (Some f) env values = application f env values
 
   arguments : (env : Environment) (n : ℕ) (ms : List Meaning) → Each Good ms → (given : List (List Item)) → K (each (λ _ given (m : Meaning). m env >>= (λ x. pure (given ++ x ∷ []))) n ms given)
   arguments env n [] gs given = pure_ given
   arguments env n (m ∷ ms) gs given = step (step (gs.0 env) (λ x. pure_ (given ++ x ∷ []))) (λ more. arguments env (suc n) ms gs.1 more)
 
-  pub call : (name : List ℕ) (ms : List Meaning) → Each Good ms → Good (functions.call name ms)
-  call name ms gs env = step (arguments env 0 ms gs []) (λ values. applied name functions.functions all_functions env values)
+  pub call : (f? : Option Function) (ms : List Meaning) → Each Good ms → Good (functions.call f? ms)
+  call f? ms gs env = step (arguments env 0 ms gs []) (λ values. applied f? env values)
 
   -- Constructors.
 

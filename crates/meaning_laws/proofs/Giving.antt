@@ -1,5 +1,5 @@
 -- Each form gives at most as many items as there may be, and nodes that stand, where its parts do.
-use Rattle.std.proofs.Common.{◌≡◌, ℕ, suc, ◌+◌, ◌≤◌, ◌<◌, ℤ, pos, neg_ℤ, ◌+ℤ◌, Bool, true, false, not, ◌&&◌, ◌||◌, nat_le, nat_lt, if◌then◌else◌}
+use Rattle.std.proofs.Common.{◌≡◌, ℕ, suc, ◌+◌, ◌≤◌, ◌<◌, ℤ, pos, neg_ℤ, ◌+ℤ◌, Bool, true, false, not, ◌&&◌, ◌||◌, nat_le, nat_lt, if◌then◌else◌, Option, Some, None}
 use Rattle.std.proofs.Common.{List, [], ◌∷◌, ◌++◌, length, map, reverse, filter, Option, Some, None, Result, Ok, Err, refl, ap, subst, sym, arith}
 use Rattle.std.proofs.lemmas.Bool.{ltb-false, leb-true}
 use Rattle.std.proofs.lemmas.Grind.{reverse_onto}
@@ -46,6 +46,8 @@ use Rattle.query_grammar.specs.declared.ast.Quantifier.{Quantifier}
 use Rattle.query_grammar.specs.declared.ast.Sign.{Sign}
 use Rattle.query_grammar.specs.declared.ast.Sign.TheVariants.{Plus, Minus}
 use Rattle.query_grammar.specs.declared.ast.SortKey.{SortKey}
+use Rattle.query_grammar.specs.declared.functions.Function.{Function}
+use Rattle.query_grammar.specs.declared.functions.Function.TheVariants as function
 use Rattle.query_meaning.specs.Running.{Run, M, trees_of, pure, ◌>>=◌, come_to, atoms, each, turn, joined, most_items}
 use Rattle.query_meaning.specs.Environment.{Environment, Focus, Bound, no_environment, value_in, with_variable, with_focus}
 use Rattle.query_meaning.specs.Sequences as sequences
@@ -678,77 +680,41 @@ distinct_values : GivesOne functions.distinct_values
 distinct_values r x q =
     bind (few_atoms x) (λ b _ values few. pure_ (functions.items_of (functions.distinct [] values)) (λ c j. items_given c (functions.distinct [] values) (let d = distinct_few [] values in let f = q.few in omega (arith, d, few, f))))
 
-abbrev GivesFunction : functions.Function → Type 0
-GivesFunction g = GivesAll g.application
-
-all_functions : Each GivesFunction functions.functions
-all_functions = (
-  of_one functions.doc doc,
-  (
-    of_one_or_context functions.root root,
-    (
-      of_one_or_context functions.name name,
-      (
-        of_one_or_context functions.string_of string_of,
-        (
-          of_one functions.data_of data_of,
-          (
-            of_one functions.count count,
-            (
-              of_one functions.empty empty,
-              (
-                of_one functions.exists exists,
-                (
-                  of_one functions.reversed reversed,
-                  (
-                    of_one functions.untruth_of untruth,
-                    (
-                      of_one functions.truth_of truth_value,
-                      (
-                        of_none (λ env. functions.boolean true) (λ r env. one_atom (atom.Boolean true)),
-                        (
-                          of_none (λ env. functions.boolean false) (λ r env. one_atom (atom.Boolean false)),
-                          (
-                            of_none functions.position position,
-                            (
-                              of_none functions.last last,
-                              (
-                                concatenated,
-                                (
-                                  of_two (functions.of_texts functions.contains) (of_texts functions.contains),
-                                  (
-                                    of_two (functions.of_texts (starts_with ◌==◌)) (of_texts (starts_with ◌==◌)),
-                                    (
-                                      of_two (functions.of_texts (ends_with ◌==◌)) (of_texts (ends_with ◌==◌)),
-                                      (of_one functions.string_length string_length, (of_two functions.string_join string_join, (of_one functions.sum sum, (of_one functions.distinct_values distinct_values, tt)))),
-                                    ),
-                                  ),
-                                ),
-                              ),
-                            ),
-                          ),
-                        ),
-                      ),
-                    ),
-                  ),
-                ),
-              ),
-            ),
-          ),
-        ),
-      ),
-    ),
-  ),
-)
-
-applied_if : (b : Bool) (g h : functions.Application) (r : Run) (env : Environment) (values : List (List Item)) → GivesAll g → Knows r env → Each (Given r) values → Holds r (List Item) Given (h env values) → Holds r (List Item) Given (if b then g env values else h env values)
+of_two_or_more : (g : functions.Application) → GivesAll g → GivesAll (functions.of_two_or_more g)
 unfolding GivesAll
-applied_if true g h r env values k e q j = k r env values e q
-applied_if false g h r env values k e q j = j
+of_two_or_more g k r env [] h q = fault_ code.XPST0017
+of_two_or_more g k r env (x ∷ []) h q = fault_ code.XPST0017
+of_two_or_more g k r env (x ∷ y ∷ more) h q = k r env (x ∷ y ∷ more) h q
 
-applied : (name : List ℕ) (fs : List functions.Function) → Each GivesFunction fs → (r : Run) (env : Environment) (values : List (List Item)) → Knows r env → Each (Given r) values → Holds r (List Item) Given (functions.applied name fs env values)
-applied _ [] ks r env values h q = fault_ code.XPST0017
-applied name (g ∷ gs) ks r env values h q = applied_if (functions.is_called name (length values) g) g.application (functions.applied name gs) r env values ks.0 h q (applied name gs ks.1 r env values h q)
+application : (f : Function) → GivesAll (functions.application f)
+application function.Doc = of_one functions.doc doc
+application function.Root = of_one_or_context functions.root root
+application function.Name = of_one_or_context functions.name name
+application function.String = of_one_or_context functions.string_of string_of
+application function.Data = of_one functions.data_of data_of
+application function.Count = of_one functions.count count
+application function.Empty = of_one functions.empty empty
+application function.Exists = of_one functions.exists exists
+application function.Reverse = of_one functions.reversed reversed
+application function.Not = of_one functions.untruth_of untruth
+application function.Boolean = of_one functions.truth_of truth_value
+application function.True = of_none (λ env. functions.boolean true) (λ r env. one_atom (atom.Boolean true))
+application function.False = of_none (λ env. functions.boolean false) (λ r env. one_atom (atom.Boolean false))
+application function.Position = of_none functions.position position
+application function.Last = of_none functions.last last
+application function.Concat = of_two_or_more functions.concatenated concatenated
+application function.Contains = of_two (functions.of_texts functions.contains) (of_texts functions.contains)
+application function.StartsWith = of_two (functions.of_texts (starts_with ◌==◌)) (of_texts (starts_with ◌==◌))
+application function.EndsWith = of_two (functions.of_texts (ends_with ◌==◌)) (of_texts (ends_with ◌==◌))
+application function.StringLength = of_one functions.string_length string_length
+application function.StringJoin = of_two functions.string_join string_join
+application function.Sum = of_one functions.sum sum
+application function.DistinctValues = of_one functions.distinct_values distinct_values
+
+applied : (f? : Option Function) (r : Run) (env : Environment) (values : List (List Item)) → Knows r env → Each (Given r) values → Holds r (List Item) Given (functions.applied f? env values)
+unfolding GivesAll
+applied None r env values h q = fault_ code.XPST0017
+applied (Some f) r env values h q = application f r env values h q
 
 abbrev AllGiven : Run → List (List Item) → Type 0
 AllGiven run xs = Each (Given run) xs
@@ -761,11 +727,11 @@ given_more : (run : Run) (xs : List (List Item)) (x : List Item) → AllGiven ru
 given_more run [] x h g = (g, tt)
 given_more run (y ∷ ys) x h g = (h.0, given_more run ys x h.1 g)
 
-pub call : (name : List ℕ) (ms : List Meaning) → Each Good ms → Good (functions.call name ms)
-call name ms gs r env h =
+pub call : (f? : Option Function) (ms : List Meaning) → Each Good ms → Good (functions.call f? ms)
+call f? ms gs r env h =
     bind (loop {f = λ _ given (m : Meaning). m env >>= (λ x. pure (given ++ x ∷ []))} (among_up Good env) all_given_up
     (λ n b given m v w. bind (w.1 b env w.0) (λ c j x q. pure_ (given ++ x ∷ []) (λ d l. given_more d given x (all_given_up b d given (up j l) v) (given_up c d x l q)))) 0 r ms (among Good r env h ms gs) [] tt)
-    (λ b k values q. applied name functions.functions all_functions b env values (knows_up r b env k h) q)
+    (λ b k values q. applied f? b env values (knows_up r b env k h) q)
 
 -- Constructors.
 

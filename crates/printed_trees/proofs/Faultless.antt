@@ -1,9 +1,11 @@
 -- The passes over the expression of an item find no fault.
-use Rattle.std.proofs.Common.{not, cond, ◌&&◌, ◌≡◌, ℕ, ℤ, pos, negsuc, suc, Bool, true, false, ◌||◌, List, [], ◌∷◌, ◌++◌, map, refl, ap, ap₂, ◌∙◌, rules, codes, if◌then◌else◌}
+use Rattle.std.proofs.Common.{cond, ◌&&◌, ◌≡◌, ℕ, ℤ, pos, negsuc, suc, Bool, true, false, ◌||◌, List, [], ◌∷◌, ◌++◌, map, refl, ap, ap₂, ◌∙◌, rules, if◌then◌else◌, Some}
 use Rattle.std.specs.List.{list_any}
 use Rattle.data_model.specs.Trees.{Trees, no_trees, tree}
 use Rattle.data_model.specs.declared.node.Kind.{Kind as NodeKind}
 use Rattle.data_model.specs.declared.node.Kind.TheVariants as node
+use Rattle.query_grammar.specs.declared.functions.Function.{Function}
+use Rattle.query_grammar.specs.declared.functions.Function.TheVariants as function
 use Rattle.query_grammar.specs.Grammar.{of_list}
 use Rattle.query_grammar.specs.declared.ast.Expr.{Expr, map-Expr, fold-Expr, out-Expr}
 use Rattle.query_grammar.specs.declared.ast.Expr.TheFolds.{fold_out-Expr}
@@ -14,7 +16,7 @@ use Rattle.query_grammar.specs.declared.ast.Name.TheVariants.{Written}
 use Rattle.query_grammar.specs.declared.ast.Sign.TheVariants.{Minus}
 use Rattle.static_checks.specs.Categories.{Form, outside, Judged, judged, judged_form, form_of, is_updating, is_simple, may_not_stand, categories}
 use Rattle.static_checks.specs.declared.categories.Category.TheVariants.{Updating, Vacuous, Simple}
-use Rattle.static_checks.specs.Functions.{is_function, is_unknown_call, has_unknown_call}
+use Rattle.static_checks.specs.Functions.{is_unknown_call, has_unknown_call}
 use Rattle.static_checks.specs.Inside.{children}
 use Rattle.static_checks.specs.Parts.{Part, Scope, parts, under}
 use Rattle.static_checks.specs.Static.{HasNoFault}
@@ -124,12 +126,12 @@ plain_integer (pos n) = plain_number n
 plain_integer (negsuc n) =
     items (e.Signed (Minus ∷ []) (e.Integer (suc n))) (Expr-F.Signed (Minus ∷ []) (e.Integer (suc n))) (e.Integer (suc n) ∷ []) (search (rules, the_lemmas)) refl (plain_number (suc n), tt) refl refl (λ bound. refl) refl
 
-plain_call : (name : List ℕ) → is_function name 0 ≡ true → IsPlain (e.Call name [])
-plain_call name h = items (e.Call name []) (Expr-F.Call name []) [] (search (rules, the_lemmas)) refl tt (ap not h) refl (λ bound. refl) refl
+plain_call : (f : Function) → IsPlain (e.Call (Some f) [])
+plain_call f = items (e.Call (Some f) []) (Expr-F.Call (Some f) []) [] (search (rules, the_lemmas)) refl tt refl refl (λ bound. refl) refl
 
-pub plain_boolean : (b : Bool) → IsPlain (e.Call (if b then codes "true" else codes "false") [])
-plain_boolean true = plain_call (codes "true") refl
-plain_boolean false = plain_call (codes "false") refl
+pub plain_boolean : (b : Bool) → IsPlain (e.Call (Some (if b then function.True else function.False)) [])
+plain_boolean true = plain_call function.True
+plain_boolean false = plain_call function.False
 
 sequence : (xs : List Expr) → ArePlain xs → IsPlain (e.Sequence xs)
 sequence xs h =

@@ -1,5 +1,5 @@
 -- Tokens that are spelt as an expression that no comma parts, whatever comes after them.
-use Rattle.std.proofs.Common.{Bool, true, false, if◌then◌else◌, ◌≡◌, ℕ, ℤ, pos, negsuc, zero, suc, ◌≤◌, List, [], ◌∷◌, ◌++◌, refl, ap, sym, subst, inl, inr, arith, append_assoc, append-nil, Option, codes}
+use Rattle.std.proofs.Common.{Bool, true, false, if◌then◌else◌, ◌≡◌, ℕ, ℤ, pos, negsuc, zero, suc, ◌≤◌, List, [], ◌∷◌, ◌++◌, refl, ap, sym, subst, inl, inr, arith, append_assoc, append-nil, Option, codes, Some}
 use Rattle.std.specs.List.{AllZip}
 use Rattle.data_model.specs.Trees.{Trees, no_trees, tree, height}
 use Rattle.data_model.specs.declared.node.Kind.{Kind as NodeKind}
@@ -9,6 +9,8 @@ use Rattle.query_tokens.specs.declared.kind.Kind.TheVariants as k
 use Rattle.query_tokens.specs.declared.token.Token.{Token}
 use Rattle.query_tokens.specs.Lexing.{mark_token}
 use Rattle.query_tokens.specs.Words.{kind_of}
+use Rattle.query_grammar.specs.declared.functions.Function.TheVariants as function
+use Rattle.query_grammar.specs.Functions.{function_of}
 use Rattle.query_grammar.specs.Grammar.{SingleOf, Primary, Path, OfPrimary, Unary, Inter, Union, Mul, Add, Range, Comp, And, Or, Chain, Exprs, Content, Body, Braces, Make, NameOrBraces, Named, IsQuery, of_list}
 use Rattle.query_grammar.specs.Lang.{Lang, Many, tok, stands, ◌>>◌}
 use Rattle.query_grammar.specs.Words.{is_function, sign_of}
@@ -140,12 +142,12 @@ module _ (level : ℕ) where
       of_unary level n (mark_token k.Minus ∷ number (suc i) ∷ rest) rest (e.Signed (Minus ∷ []) (e.Integer (suc i)))
       (Minus ∷ [], number (suc i) ∷ rest, signs, (e.Integer (suc i), rest, digits, (refl, refl)))
 
-  call_spelt : (n : ℕ) (name : List ℕ) → kind_of name ≡ k.Name → IsSpelt (suc n) (word name ∷ parens) (e.Call name [])
+  call_spelt : (n : ℕ) (name : List ℕ) → kind_of name ≡ k.Name → IsSpelt (suc n) (word name ∷ parens) (e.Call (function_of name 0) [])
   call_spelt n name h rest =
-      of_primary level n (word name ∷ parens ++ rest) rest (e.Call name [])
+      of_primary level n (word name ∷ parens ++ rest) rest (e.Call (function_of name 0) [])
       (inr (inr (inr (inr (inr (inl (word name, parens ++ rest, (refl, ap is_function h), (mark_token k.OpenParen, mark_token k.CloseParen ∷ rest, (refl, refl), ([], mark_token k.CloseParen ∷ rest, inl (refl, refl), (mark_token k.CloseParen, rest, (refl, refl), (refl, refl)))))))))))
 
-  pub boolean_spelt : (n : ℕ) (b : Bool) → IsSpelt (suc n) (word (if b then codes "true" else codes "false") ∷ parens) (e.Call (if b then codes "true" else codes "false") [])
+  pub boolean_spelt : (n : ℕ) (b : Bool) → IsSpelt (suc n) (word (if b then codes "true" else codes "false") ∷ parens) (e.Call (Some (if b then function.True else function.False)) [])
   boolean_spelt n true = call_spelt n (codes "true") true_word
   boolean_spelt n false = call_spelt n (codes "false") false_word
 

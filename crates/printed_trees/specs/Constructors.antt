@@ -1,5 +1,5 @@
 -- The expression that makes an item again: the computed constructors of its nodes (XQuery 1.0, section 3.7.3), and literals (section 3.1.1).
-use Rattle.std.specs.Prelude.{◌≡◌, ℕ, suc, ◌≤◌, ℤ, pos, negsuc, unsigned_abs, Bool, true, ◌&&◌, if◌then◌else◌, List, [], ◌∷◌, ◌++◌, length, Option, Some, None, codes, IsUtf8}
+use Rattle.std.specs.Prelude.{◌≡◌, ℕ, suc, ◌≤◌, ℤ, pos, negsuc, unsigned_abs, Bool, true, ◌&&◌, if◌then◌else◌, List, [], ◌∷◌, ◌++◌, length, Option, Some, None, IsUtf8}
 use Rattle.std.specs.List.{All}
 use Rattle.std.specs.Str.{bytes_eq}
 use Rattle.data_model.specs.Tidy.{is_tidy_content, is_xml_text, are_tidy, may_be_attribute, may_be_child, has_distinct_names}
@@ -16,6 +16,7 @@ use Rattle.static_checks.specs.Brackets.{most_open}
 use Rattle.query_grammar.specs.Grammar.{of_list}
 use Rattle.query_grammar.specs.declared.ast.Expr.{Expr}
 use Rattle.query_grammar.specs.declared.ast.Expr.TheVariants as e
+use Rattle.query_grammar.specs.declared.functions.Function.TheVariants as function
 use Rattle.query_grammar.specs.declared.ast.Name.TheVariants.{Written}
 use Rattle.query_grammar.specs.declared.ast.Sign.TheVariants.{Minus}
 
@@ -50,7 +51,7 @@ integer_expression (negsuc n) = e.Signed (Minus ∷ []) (e.Integer (suc n))
 abbrev pub atom_expression : Atom → Expr
 atom_expression (a.String text) = e.String text
 atom_expression (a.Untyped text) = e.String text
-atom_expression (a.Boolean b) = e.Call (if b then codes "true" else codes "false") []
+atom_expression (a.Boolean b) = e.Call (Some (if b then function.True else function.False)) []
 atom_expression (a.Integer z) = integer_expression z
 
 -- the expression of an item

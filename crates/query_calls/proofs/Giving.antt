@@ -1,5 +1,5 @@
 -- What functions give, by what their parts give.
-use Rattle.std.proofs.Common.{◌≡◌, ℕ, ℤ, zero, suc, pos, List, [], ◌∷◌, ◌≤◌, length, map, refl, sym, ap, ◌∙◌, subst, arith, Result, Ok, Err}
+use Rattle.std.proofs.Common.{◌≡◌, ℕ, ℤ, zero, suc, pos, List, [], ◌∷◌, ◌≤◌, length, map, refl, sym, ap, ◌∙◌, subst, arith, Option, Result, Ok, Err}
 use Rattle.fault_codes.specs.declared.code.Code.{Code}
 use Rattle.values.specs.Atoms.{atomized}
 use Rattle.values.specs.declared.atom.Atom.{Atom}
@@ -7,8 +7,9 @@ use Rattle.values.specs.declared.atom.Item.{Item}
 use Rattle.values.specs.declared.fault.ValueFault.{ValueFault}
 use Rattle.values.specs.declared.fault.ValueFault.TheVariants as fault
 use Rattle.query_grammar.specs.declared.ast.Expr.{Expr}
-use Rattle.query_meaning.specs.Environment.{Environment, no_environment}
-use Rattle.query_meaning.specs.Functions.{all_texts, and_addend, applied, arguments, call, functions, integer, items_of, string, string_join}
+use Rattle.query_grammar.specs.declared.functions.Function.{Function}
+use Rattle.query_meaning.specs.Environment.{Environment}
+use Rattle.query_meaning.specs.Functions.{all_texts, and_addend, application, applied, arguments, call, integer, items_of, string, string_join}
 use Rattle.query_meaning.specs.Meaning.{mean}
 use Rattle.query_meaning.specs.Operators.{between_atoms}
 use Rattle.query_meaning.specs.Running.{M, Run, and_then, pure, ◌>>=◌, come_to, each, atoms, trees_of}
@@ -17,7 +18,8 @@ use Rattle.evaluation.specs.Gives.{Any, Fails, Gives, GivesIn, Says, Stand}
 use Rattle.evaluation.proofs.Each.{grows_refl, then_gives}
 use Rattle.query_calls.specs.Arguments.{AllStand}
 use Rattle.query_calls.specs.Parts.{sum_of}
-use Rattle.query_calls.specs.Table.{of_more, of_values}
+use Rattle.query_calls.specs.Table.{of_more}
+use Rattle.query_calls.proofs.Rows.{application_is}
 
 -- the same of what is equal
 pub gives_same : (m q : M (List Item)) (old new : Run) (r : Result (List Item) ValueFault) → m old ≡ q old → Gives q old r new → Gives m old r new
@@ -92,18 +94,18 @@ join_gives xs ys texts separator text seen old new r are is fits same g =
     gives_same (string_join xs ys) (string seen) old new r (joins xs ys texts old (Ok separator) (are old) is ∙ ap (λ o. and_then (come_to o old) string) fits ∙ ap (λ t. string t old) (sym same)) g
 
 -- what is called with two arguments or more
-pub more_give : (f : List ℕ) (env : Environment) (values : List (List Item)) (old new : Run) (r : Result (List Item) ValueFault)
-    → 2 ≤ length values → Gives (of_more f no_environment values) old r new → Gives (of_values f env values) old r new
+pub more_give : (f : Function) (env : Environment) (values : List (List Item)) (old new : Run) (r : Result (List Item) ValueFault)
+    → 2 ≤ length values → Gives (of_more f values) old r new → Gives (application f env values) old r new
 more_give f env [] old new r many g = absurd (omega (arith, many))
 more_give f env (x ∷ []) old new r many g = absurd (omega (arith, many))
-more_give f env (x ∷ y ∷ rest) old new r many g = g
+more_give f env (x ∷ y ∷ rest) old new r many g =
+    gives_same (application f env (x ∷ y ∷ rest)) (of_more f (x ∷ y ∷ rest)) old new r (ap (λ m. m old) (application_is f env x y rest)) g
 
 -- a call
-pub call_gives : (f name : List ℕ) (xs ys : List Expr) (env : Environment) (old mid new : Run) (values seen : List (List Item)) (r : Result (List Item) ValueFault)
-    → ys ≡ xs → name ≡ f → seen ≡ values → GivesIn AllStand (arguments env (map mean ys)) old (Ok values) mid → Gives (applied name functions env seen) mid r new
-    → Gives (call f (map mean xs) env) old r new
-call_gives f name xs ys env old mid new values seen r all named same g h =
+pub call_gives : (f? : Option Function) (xs ys : List Expr) (env : Environment) (old mid new : Run) (values seen : List (List Item)) (r : Result (List Item) ValueFault)
+    → ys ≡ xs → seen ≡ values → GivesIn AllStand (arguments env (map mean ys)) old (Ok values) mid → Gives (applied f? env seen) mid r new
+    → Gives (call f? (map mean xs) env) old r new
+call_gives f? xs ys env old mid new values seen r all same g h =
     let P : List Expr → Type 0 = λ zs. GivesIn AllStand (arguments env (map mean zs)) old (Ok values) mid in
-    let Q : List ℕ → Type 0 = λ f. Gives (applied f functions env values) mid r new in
-    let R : List (List Item) → Type 0 = λ us. Gives (applied name functions env us) mid r new in
-    then_gives AllStand Stand (arguments env (map mean xs)) (applied f functions env) old mid new values r (subst P all g) (subst Q named (subst R same h))
+    let R : List (List Item) → Type 0 = λ us. Gives (applied f? env us) mid r new in
+    then_gives AllStand Stand (arguments env (map mean xs)) (applied f? env) old mid new values r (subst P all g) (subst R same h)

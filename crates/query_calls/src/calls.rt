@@ -10,9 +10,9 @@ ghost use Rattle.query_calls.specs.Arguments.{AllStand, and_argument};
 use crate::argument_values::Values;
 use crate::table::applied;
 use evaluation::{Environment, Evaluation, Sequence};
-use query_grammar::Expr;
+use query_grammar::{Expr, Function};
 use sqlite_items::Items;
-use values::{Text, ValueFault};
+use values::ValueFault;
 
 /// Calls of functions, over a function value that evaluates their arguments.
 #[derive(Clone, Copy)]
@@ -23,21 +23,21 @@ pub struct Calls<F> {
 
 impl<F: Fn(&mut Evaluation, &Expr, &Environment) -> Result<Sequence, ValueFault>> Calls<F> {
     /// `f(a, b, ..)`: what the function makes of its arguments' values, which are evaluated from the left (XQuery 1.0, section 3.1.5).
-    /// Codes: that of the first argument that has one; XPST0017 where no function of that name takes so many arguments; those of the
+    /// Codes: that of the first argument that has one; XPST0017 where there is none that takes so many arguments; those of the
     /// function.
     pub fn call(
         &self,
         run: &mut Evaluation,
-        function: &Text,
+        function: Option<Function>,
         arguments: &Items<Expr>,
         env: &Environment,
     ) -> Result<Sequence, ValueFault>
         requires evaluates { Evaluates (F.pre self.now.value_of) (F.post self.now.value_of) arguments.now }
         requires ready { IsReady env.now run.old }
-        ensures { Gives (functions.call function.now (map mean arguments.now) env.now) run.old result run.new }
+        ensures { Gives (functions.call function (map mean arguments.now) env.now) run.old result run.new }
     {
         let values = self.values_of(run, arguments.as_slice(), env)?;
-        applied(run, function.as_str(), values.as_slice(), env)
+        applied(run, function, values.as_slice(), env)
     }
 
     /// The values of arguments.

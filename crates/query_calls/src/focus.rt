@@ -3,7 +3,7 @@
 ghost use Rattle.std.specs.Prelude.{◌≡◌, pos, IfOk};
 ghost use Rattle.query_meaning.specs.Functions as functions;
 ghost use Rattle.evaluation.specs.Gives.{Gives, IsReady, Says};
-ghost use Rattle.query_calls.specs.Table.{context, of_context};
+ghost use Rattle.query_calls.specs.Parts.{context, of_context};
 
 use crate::nodes::{name, root, string};
 use crate::sequences::integer_of;

@@ -1,6 +1,6 @@
-//! The table of functions.
+//! What each function makes of its arguments.
 
-ghost use Rattle.std.specs.Prelude.{◌≡◌};
+ghost use Rattle.std.specs.Prelude.{◌≡◌, [], ◌∷◌};
 ghost use Rattle.query_meaning.specs.Environment.{no_environment};
 ghost use Rattle.query_meaning.specs.Functions as functions;
 ghost use Rattle.evaluation.specs.Gives.{Gives, IsReady, Stand};
@@ -15,33 +15,37 @@ use crate::strings::{concat, contains, ends_with, starts_with, string_join, stri
 use crate::sums::sum;
 use crate::truths::{boolean, not, truth_value};
 use evaluation::{Environment, Evaluation, Sequence};
+use query_grammar::Function;
 use values::{Code, ValueFault};
 
-/// What a function makes of the values of its arguments. Codes: XPST0017 where no function of that name takes so many; those of the
-/// function.
+/// What a function makes of the values of its arguments. Codes: XPST0017 where there is none, or it takes another number of them; those of
+/// the function.
 pub fn applied(
     run: &mut Evaluation,
-    function: &str,
+    function: Option<Function>,
     values: &[Sequence],
     env: &Environment,
 ) -> Result<Sequence, ValueFault>
     requires ready { IsReady env.now run.old }
     requires stand { AllStand values.now run.old }
-    ensures { Gives (functions.applied function.now functions.functions env.now values.now) run.old result run.new }
+    ensures { Gives (functions.applied function env.now values.now) run.old result run.new }
 {
-    of_values(run, function, values, env)
+    match function {
+        Some(function) => of_values(run, function, values, env),
+        None => Err(ValueFault::Code(Code::XPST0017)),
+    }
 }
 
-/// The same, by how many values there are.
+/// The same of a function that there is, by how many values there are.
 fn of_values(
     run: &mut Evaluation,
-    function: &str,
+    function: Function,
     values: &[Sequence],
     env: &Environment,
 ) -> Result<Sequence, ValueFault>
     requires ready { IsReady env.now run.old }
     requires stand { AllStand values.now run.old }
-    ensures { Gives (table.of_values function.now env.now values.now) run.old result run.new }
+    ensures { Gives (functions.application function env.now values.now) run.old result run.new }
 {
     match values {
         [] => of_none(run, function, env),
@@ -50,71 +54,79 @@ fn of_values(
     }
 }
 
-/// A function without arguments. Codes: XPST0017 where there is none; those of the function.
-fn of_none(run: &mut Evaluation, function: &str, env: &Environment) -> Result<Sequence, ValueFault>
+/// A function without arguments. Codes: XPST0017 where it takes some; those of the function.
+fn of_none(
+    run: &mut Evaluation,
+    function: Function,
+    env: &Environment,
+) -> Result<Sequence, ValueFault>
     requires ready { IsReady env.now run.old }
-    ensures { Gives (table.of_none function.now env.now) run.old result run.new }
+    ensures { Gives (functions.application function env.now []) run.old result run.new }
 {
     match function {
-        "root" => root_of_context(run, env),
-        "name" => name_of_context(run, env),
-        "string" => string_of_context(run, env),
-        "true" => truth_value(run, true),
-        "false" => truth_value(run, false),
-        "position" => position(run, env),
-        "last" => last(run, env),
+        Function::Root => root_of_context(run, env),
+        Function::Name => name_of_context(run, env),
+        Function::String => string_of_context(run, env),
+        Function::True => truth_value(run, true),
+        Function::False => truth_value(run, false),
+        Function::Position => position(run, env),
+        Function::Last => last(run, env),
         _ => Err(ValueFault::Code(Code::XPST0017)),
     }
 }
 
-/// A function with one argument. Codes: XPST0017 where there is none; those of the function.
-fn of_one(run: &mut Evaluation, function: &str, value: &Sequence) -> Result<Sequence, ValueFault>
+/// A function with one argument. Codes: XPST0017 where it takes another number; those of the function.
+fn of_one(
+    run: &mut Evaluation,
+    function: Function,
+    value: &Sequence,
+) -> Result<Sequence, ValueFault>
     requires stand { Stand value.now run.old }
-    ensures { Gives (table.of_one function.now value.now) run.old result run.new }
+    ensures { Gives (functions.application function no_environment (value.now ∷ [])) run.old result run.new }
 {
     match function {
-        "doc" => doc(run, value),
-        "root" => root(run, value),
-        "name" => name(run, value),
-        "string" => string(run, value),
-        "data" => data(run, value),
-        "count" => count(run, value),
-        "empty" => empty(run, value),
-        "exists" => exists(run, value),
-        "reverse" => reverse(run, value),
-        "not" => not(run, value),
-        "boolean" => boolean(run, value),
-        "string-length" => string_length(run, value),
-        "sum" => sum(run, value),
-        "distinct-values" => distinct_values(run, value),
+        Function::Doc => doc(run, value),
+        Function::Root => root(run, value),
+        Function::Name => name(run, value),
+        Function::String => string(run, value),
+        Function::Data => data(run, value),
+        Function::Count => count(run, value),
+        Function::Empty => empty(run, value),
+        Function::Exists => exists(run, value),
+        Function::Reverse => reverse(run, value),
+        Function::Not => not(run, value),
+        Function::Boolean => boolean(run, value),
+        Function::StringLength => string_length(run, value),
+        Function::Sum => sum(run, value),
+        Function::DistinctValues => distinct_values(run, value),
         _ => Err(ValueFault::Code(Code::XPST0017)),
     }
 }
 
-/// A function with more than one argument. Codes: XPST0017 where there is none; those of the function.
+/// A function with more than one argument. Codes: XPST0017 where it takes another number; those of the function.
 fn of_more(
     run: &mut Evaluation,
-    function: &str,
+    function: Function,
     values: &[Sequence],
 ) -> Result<Sequence, ValueFault>
     requires stand { AllStand values.now run.old }
-    ensures { Gives (table.of_more function.now no_environment values.now) run.old result run.new }
+    ensures { Gives (table.of_more function values.now) run.old result run.new }
 {
-    if function == "concat" {
-        concat(run, values)
-    } else {
-        of_several(run, function, values)
+    match function {
+        Function::Concat => concat(run, values),
+        _ => of_several(run, function, values),
     }
 }
 
-/// A function but `concat` with two arguments. Codes: XPST0017 where there is none, or the arguments are more; those of the function.
+/// A function but `concat` with two arguments. Codes: XPST0017 where it takes another number, or the arguments are more; those of the
+/// function.
 fn of_several(
     run: &mut Evaluation,
-    function: &str,
+    function: Function,
     values: &[Sequence],
 ) -> Result<Sequence, ValueFault>
     requires stand { AllStand values.now run.old }
-    ensures { Gives (table.of_several function.now values.now) run.old result run.new }
+    ensures { Gives (table.of_several function values.now) run.old result run.new }
 {
     match values {
         [left, right] => of_two(run, function, left, right),
@@ -122,22 +134,22 @@ fn of_several(
     }
 }
 
-/// A function but `concat` with two arguments. Codes: XPST0017 where there is none; those of the function.
+/// A function but `concat` with two arguments. Codes: XPST0017 where it takes another number; those of the function.
 fn of_two(
     run: &mut Evaluation,
-    function: &str,
+    function: Function,
     left: &Sequence,
     right: &Sequence,
 ) -> Result<Sequence, ValueFault>
     requires left { Stand left.now run.old }
     requires right { Stand right.now run.old }
-    ensures { Gives (table.of_two function.now left.now right.now) run.old result run.new }
+    ensures { Gives (table.of_two function left.now right.now) run.old result run.new }
 {
     match function {
-        "contains" => contains(run, left, right),
-        "starts-with" => starts_with(run, left, right),
-        "ends-with" => ends_with(run, left, right),
-        "string-join" => string_join(run, left, right),
+        Function::Contains => contains(run, left, right),
+        Function::StartsWith => starts_with(run, left, right),
+        Function::EndsWith => ends_with(run, left, right),
+        Function::StringJoin => string_join(run, left, right),
         _ => Err(ValueFault::Code(Code::XPST0017)),
     }
 }

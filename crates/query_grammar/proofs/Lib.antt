@@ -1,3 +1,4 @@
+pub mod Naming
 pub mod Follows
 pub mod Steps
 pub mod Sound

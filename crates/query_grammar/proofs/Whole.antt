@@ -17,6 +17,7 @@ use Rattle.query_grammar.specs.declared.ast.NodeTest.TheVariants as test
 use Rattle.data_model.specs.declared.axis.Axis.{Axis}
 use Rattle.query_grammar.specs.declared.ast.Sign.{Sign}
 use Rattle.query_grammar.specs.Lang.{Lang, pure as empty, ◌>>=◌ as ◌▹◌, ◌∪◌, Many, tok, stands}
+use Rattle.query_grammar.specs.Functions.{function_of}
 use Rattle.query_grammar.specs.Grammar as g
 use Rattle.query_grammar.specs.Words.{axis_of, kind_test_of, is_function, sign_of, intersect_operator, union_operator, multiply_operator, add_operator, range_operator, comparison_operator, and_operator, or_operator}
 use Rattle.query_grammar.specs.Loose.{looseness, looseness_of}
@@ -339,7 +340,7 @@ module _ {m : ℕ} {p : Reader Expr} {S : Lang Expr} (s : Complete m 10 p S) (l 
   complete_call : Complete (suc m) 0 (r.call p) (g.Call S)
   unfolding r.call r.arguments starts starts_path
   complete_call = complete_after (such_reads is_function) (shrinks_such is_function) (λ name. then_tok k.OpenParen
-      (complete_closed 0 k.CloseParen [] (λ xs. e.Call name.text xs) refl (omega arith) refl complete_list begins_list))
+      (complete_closed 0 k.CloseParen [] (λ xs. e.Call (function_of name.text (length xs)) xs) refl (omega arith) refl complete_list begins_list))
 
   braces_reads : (ts : List Token) (a : Expr) (rest : List Token) → length ts ≤ m → g.Braces S ts a rest → r.braces p ts ≡ Some (a, rest)
   unfolding r.braces

@@ -1,6 +1,6 @@
 -- The productions (XQuery 1.0, appendix A.1, and XQuery Update Facility 1.0, appendix A.1, in the forms that are taken). Each stands
 -- below its rule in EBNF. Keywords are names, and not reserved.
-use Rattle.std.specs.Prelude.{◌≡◌, ℕ, zero, suc, Bool, true, false, nat_le, List, [], ◌∷◌, ◌++◌, map, Option, Some, None}
+use Rattle.std.specs.Prelude.{◌≡◌, ℕ, zero, suc, Bool, true, false, nat_le, List, [], ◌∷◌, ◌++◌, length, map, Option, Some, None}
 use Rattle.std.specs.List.{flat_map}
 use Rattle.data_model.specs.declared.axis.Axis.{Axis}
 use Rattle.data_model.specs.declared.axis.Axis.TheVariants as axis
@@ -26,6 +26,7 @@ use Rattle.query_grammar.specs.declared.ast.Quantifier.{Quantifier}
 use Rattle.query_grammar.specs.declared.ast.Quantifier.TheVariants as quantifier
 use Rattle.query_grammar.specs.declared.ast.Sign.{Sign}
 use Rattle.query_grammar.specs.declared.ast.SortKey.{SortKey}
+use Rattle.query_grammar.specs.Functions.{function_of}
 use Rattle.query_grammar.specs.Lang.{Lang, pure, ◌>>=◌, ◌>>◌, ◌∪◌, Many, tok, such, stands}
 use Rattle.query_grammar.specs.Words.{axis_of, kind_test_of, is_function, sign_of, intersect_operator, union_operator, multiply_operator, add_operator, range_operator, comparison_operator, and_operator, or_operator}
 
@@ -204,7 +205,7 @@ module _ (Single : Lang Expr) where
     tok k.OpenParen
     arguments ← List0 Single
     tok k.CloseParen
-    pure (e.Call name.text arguments)
+    pure (e.Call (function_of name.text (length arguments)) arguments)
 
   -- Name | "{" Expr "}"
   abbrev pub NameOrBraces : Lang (NameOf Expr)

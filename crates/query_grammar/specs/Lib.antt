@@ -1,5 +1,6 @@
 pub mod Lang
 pub mod Words
+pub mod Functions
 pub mod Grammar
 pub mod Loose
 pub mod Reading

@@ -25,6 +25,7 @@ use Rattle.query_grammar.specs.declared.ast.Place.TheVariants as place
 use Rattle.query_grammar.specs.declared.ast.Quantifier.{Quantifier}
 use Rattle.query_grammar.specs.declared.ast.Quantifier.TheVariants as quantifier
 use Rattle.query_grammar.specs.declared.ast.SortKey.{SortKey}
+use Rattle.query_grammar.specs.Functions.{function_of}
 use Rattle.query_grammar.specs.Grammar.{AxisStep, StepOf, OfAxis, OfPrimary, of_list, chain_of, step_of, steps_of, path_of, signed_of}
 use Rattle.query_grammar.specs.Reading.{Reader, pure, refuse, ◌>>=◌, ◌>>◌, choose, same_kind, sees, at_level, take_if, eat, take_as, many}
 use Rattle.query_grammar.specs.Words.{axis_of, kind_test_of, is_function, sign_of, intersect_operator, union_operator, multiply_operator, add_operator, range_operator, comparison_operator, and_operator, or_operator}
@@ -243,7 +244,7 @@ module _ (single : Reader Expr) where
     eat k.OpenParen
     xs ← arguments
     eat k.CloseParen
-    pure (e.Call name.text xs)
+    pure (e.Call (function_of name.text (length xs)) xs)
 
   unfoldable pub name_or_braces : Reader (NameOf Expr)
   name_or_braces = choose (sees 0 k.OpenBrace) (braces >>= (λ x. pure (Computed x))) (name >>= (λ found. pure (Written found)))

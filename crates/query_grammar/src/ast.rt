@@ -1,5 +1,6 @@
 //! Expressions (XQuery 1.0, section 3; XQuery Update Facility 1.0, section 2).
 
+use crate::functions::Function;
 use query_tokens::IntegerLiteral;
 use sqlite_items::{Boxed, Items};
 use trees::Axis;
@@ -25,8 +26,8 @@ pub enum Expr {
     Context,
     /// `a, b, ..` of two expressions or more, or `()`.
     Sequence(Items<Expr>),
-    /// `name(a, ..)`
-    Call(Text, Items<Expr>),
+    /// `name(a, ..)`: the function of that name, where there is one that takes so many arguments.
+    Call(Option<Function>, Items<Expr>),
     /// `document {content}`
     Document(Boxed<Expr>),
     /// `element name {content}`

@@ -2,10 +2,12 @@
 #![tactic(auto)]
 
 mod ast;
+mod functions;
 pub mod laws;
 
 pub use ast::{
     Binary, Binding, Clause, Expr, KindTest, Name, NodeTest, Operation, Place, Quantifier, Sign,
     SortKey,
 };
+pub use functions::Function;
 pub use query_tokens::IntegerLiteral;

@@ -1,5 +1,5 @@
 -- An expression says well throughout where it says well itself, and its parts do throughout: form by form.
-use Rattle.std.proofs.Common.{◌≡◌, ◌≤◌, ℕ, true, List, [], ◌∷◌, ◌++◌, map, slice_get, Option, Some, None, option_to_list, refl, subst, sym, ap, ◌∙◌, rules}
+use Rattle.std.proofs.Common.{◌≡◌, ◌≤◌, ℕ, true, List, [], ◌∷◌, ◌++◌, length, map, slice_get, Option, Some, None, option_to_list, refl, subst, sym, ap, ◌∙◌, rules}
 use Rattle.std.proofs.lemmas.List.Elements.{All-nil, All-cons, All-append, All-map}
 use Rattle.std.proofs.lemmas.Option.{get_or_from_slice_get, slice_get_within}
 use Rattle.std.specs.List.{All}
@@ -12,6 +12,7 @@ use Rattle.query_grammar.specs.declared.ast.Expr.{Expr, out-Expr}
 use Rattle.query_grammar.specs.declared.ast.Expr.TheOpen.{Expr-F}
 use Rattle.query_grammar.specs.declared.ast.Expr.TheVariants as e
 use Rattle.query_grammar.specs.declared.ast.Expr.TheViews.{the_lemmas}
+use Rattle.query_grammar.specs.declared.functions.Function.{Function}
 use Rattle.query_grammar.specs.declared.ast.Name.{Name}
 use Rattle.query_grammar.specs.declared.ast.Name.TheVariants as name
 use Rattle.query_grammar.specs.declared.ast.NodeTest.{NodeTest}
@@ -23,7 +24,7 @@ use Rattle.query_grammar.specs.declared.ast.SortKey.{SortKey}
 use Rattle.static_checks.specs.Inside.{children}
 use Rattle.static_checks.specs.Parts.{parts_alone, keys, operands, source_of, sources, under, variables_of}
 use Rattle.static_checks.proofs.Folds.{parts_under, parts_of_bindings, parts_of_both, parts_of_clauses}
-use Rattle.query_laws.specs.Saying.{TestSaysName, BindsName, ClauseBindsNames, SaysWell}
+use Rattle.query_laws.specs.Saying.{TakesSoMany, TestSaysName, BindsName, ClauseBindsNames, SaysWell}
 use Rattle.query_laws.specs.Standing.{StandsIn, Itself, InPart}
 use Rattle.query_laws.specs.Written.{IsXmlString}
 
@@ -72,7 +73,7 @@ context = by_form e.Context Expr-F.Context [] (search (rules, the_lemmas)) refl 
 pub sequence : (xs : List Expr) → All Well xs → Well (e.Sequence xs)
 sequence xs all = by_form (e.Sequence xs) (Expr-F.Sequence xs) xs (search (rules, the_lemmas)) (parts_under [] xs) tt all
 
-pub call : (f : List ℕ) (xs : List Expr) → is_name f ≡ true → All Well xs → Well (e.Call f xs)
+pub call : (f : Option Function) (xs : List Expr) → TakesSoMany f (length xs) → All Well xs → Well (e.Call f xs)
 call f xs h all = by_form (e.Call f xs) (Expr-F.Call f xs) xs (search (rules, the_lemmas)) (parts_under [] xs) h all
 
 -- Constructors.

@@ -1,5 +1,5 @@
 -- What is spelt from tokens that say well says well throughout: production by production.
-use Rattle.std.proofs.Common.{◌≡◌, ℕ, zero, suc, true, false, Bool, List, [], ◌∷◌, ◌++◌, map, Option, Some, None, refl}
+use Rattle.std.proofs.Common.{◌≡◌, ℕ, zero, suc, true, false, Bool, List, [], ◌∷◌, ◌++◌, length, map, Option, Some, None, refl}
 use Rattle.std.proofs.lemmas.List.Elements.{All-nil, All-cons, All-head, All-tail, All-append, All-map}
 use Rattle.std.specs.List.{All, flat_map}
 use Rattle.document_names.specs.Characters.{is_name}
@@ -14,11 +14,14 @@ use Rattle.query_grammar.specs.declared.ast.Expr.TheVariants as e
 use Rattle.query_grammar.specs.declared.ast.Name.{Name}
 use Rattle.query_grammar.specs.declared.ast.Operation.{Operation}
 use Rattle.query_grammar.specs.declared.ast.Sign.{Sign}
+use Rattle.query_grammar.specs.declared.functions.Function.{Function}
+use Rattle.query_grammar.specs.Functions.{function_of}
+use Rattle.query_grammar.proofs.Naming.{called}
 use Rattle.query_grammar.specs.Grammar as g
 use Rattle.query_grammar.specs.Lang.{Lang, pure, ◌>>=◌, ◌>>◌, Many, tok}
 use Rattle.query_grammar.specs.Words.{is_function, kind_test_of, axis_of, sign_of, intersect_operator, union_operator, multiply_operator, add_operator, range_operator, comparison_operator, and_operator, or_operator}
 use Rattle.static_checks.specs.Static.{IsExpression}
-use Rattle.query_laws.specs.Saying.{TestSaysName, SaysWell}
+use Rattle.query_laws.specs.Saying.{TakesSoMany, TestSaysName, SaysWell}
 use Rattle.query_laws.specs.Standing.{StandsIn}
 use Rattle.query_laws.proofs.Forms as form
 use Rattle.query_laws.proofs.Forms.{Well, WellNamed, WellOperated, WellBound, WellClause, WellTested, WellSorted, well_and, one}
@@ -32,15 +35,12 @@ IsName name = is_name name ≡ true
 keeps_name : Keeps IsName g.Name
 keeps_name = keeps_made IsName (λ t. t.text) (keeps_such is_name_kind) (λ t h. h.says_all.says.name h.passes)
 
-function_name : (kind : Kind) → is_function kind ≡ true → is_name_kind kind ≡ true
-function_name k.If h = refl
-function_name k.Node h = refl
-function_name k.DocumentNode h = refl
-function_name k.Element h = refl
-function_name k.Text h = refl
-function_name k.Comment h = refl
-function_name k.ProcessingInstruction h = refl
-function_name _ h = h
+takes_so_many : (name : List ℕ) (n : ℕ) → TakesSoMany (function_of name n) n
+takes_so_many name n = of (function_of name n) refl
+  where
+    of : (found : Option Function) → function_of name n ≡ found → TakesSoMany found n
+    of None h = tt
+    of (Some f) h = (called name n f h).1
 
 keeps_var : Keeps IsName g.Var
 keeps_var = after k.Dollar keeps_name
@@ -150,7 +150,7 @@ module _ {S : Lang Expr} (s : Keeps Well S) where
 
   keeps_call : Keeps Well (g.Call S)
   keeps_call = keeps_bind (keeps_such is_function) (λ t h. after k.OpenParen (keeps_bind (keeps_list0 s)
-      (λ xs all. after k.CloseParen (keeps_pure Well _ (form.call t.text xs (h.says_all.says.name (function_name t.kind h.passes)) all)))))
+      (λ xs all. after k.CloseParen (keeps_pure Well _ (form.call _ xs (takes_so_many t.text (length xs)) all)))))
 
   keeps_name_or_braces : Keeps WellNamed (g.NameOrBraces S)
   keeps_name_or_braces = keeps_either (keeps_made WellNamed _ keeps_name (λ name h. h)) (keeps_made WellNamed _ keeps_braces (λ x h. h))

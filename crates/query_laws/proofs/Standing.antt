@@ -1,19 +1,24 @@
 -- What the passes over an expression say of each expression within it.
-use Rattle.std.proofs.Common.{◌≡◌, ℕ, zero, suc, Bool, true, false, not, ◌||◌, List, [], ◌∷◌, ◌++◌, map, length, slice_get, Some, refl, ap, sym, ◌∙◌, rules}
+use Rattle.std.proofs.Common.{◌≡◌, ℕ, zero, suc, Bool, true, false, not, ◌||◌, List, [], ◌∷◌, ◌++◌, map, length, slice_get, is_some, Option, Some, None, refl, subst, ap, sym, ◌∙◌, rules}
 use Rattle.std.proofs.lemmas.List.Folds.{list_any-append}
 use Rattle.std.proofs.lemmas.Option.{none-some, same_Some}
 use Rattle.std.specs.List.{list_any}
 use Rattle.query_grammar.specs.declared.ast.Expr.{Expr, out-Expr}
 use Rattle.query_grammar.specs.declared.ast.Expr.TheVariants as e
 use Rattle.query_grammar.specs.declared.ast.Expr.TheViews.{the_lemmas}
+use Rattle.query_grammar.specs.declared.ast.Expr.TheOpen.{Expr-F}
+use Rattle.query_grammar.specs.declared.functions.Function.{Function}
+use Rattle.query_grammar.specs.Functions.{takes}
 use Rattle.static_checks.specs.Categories.{Judged, judged, judged_form, may_not_stand, categories, category_of, mixes}
-use Rattle.static_checks.specs.Functions.{is_function, is_unknown_call, has_unknown_call}
+use Rattle.static_checks.specs.Functions.{is_unknown_call, has_unknown_call}
 use Rattle.static_checks.specs.Inside.{children}
 use Rattle.static_checks.specs.Static.{IsExpression}
 use Rattle.static_checks.proofs.Forms.{map_form, judged_out, children_in_order}
 use Rattle.static_checks.proofs.Here.{unknown_out}
 use Rattle.static_checks.proofs.Passes.{any_map}
+use Rattle.query_laws.specs.Saying.{TakesSoMany, SaysWell}
 use Rattle.query_laws.specs.Standing.{StandsIn, Itself, InPart, IsPlaced, category, updates, form}
+use Rattle.query_laws.proofs.Saying.{words}
 
 neither : (a b : Bool) → a || b ≡ false → (a ≡ false) × (b ≡ false)
 neither true b h = absurd (let f : ⊥ = cc in f)
@@ -37,18 +42,22 @@ throughout p parts inner x (InPart _ part k there within) h = throughout p parts
 no_unknown_part : (x : Expr) → has_unknown_call x ≡ false → list_any has_unknown_call (children x) ≡ false
 no_unknown_part x h = (neither (is_unknown_call (out-Expr x)) (list_any has_unknown_call (children x)) (sym (unknown_out x) ∙ h)).1
 
-call_out : (name : List ℕ) (arguments : List Expr) → is_unknown_call (out-Expr (e.Call name arguments)) ≡ not (is_function name (length arguments))
-call_out name arguments = search (rules, the_lemmas)
+call_out : (f? : Option Function) (arguments : List Expr) → out-Expr (e.Call f? arguments) ≡ Expr-F.Call f? arguments
+call_out f? arguments = search (rules, the_lemmas)
 
-not_false : (b : Bool) → not b ≡ false → b ≡ true
-not_false true h = refl
-not_false false h = absurd (let f : ⊥ = cc in f)
+-- a function that there is, of those that take so many arguments
+there : (n : ℕ) (f? : Option Function) → TakesSoMany f? n → not (is_some f?) ≡ false → (f : Function) × (f? ≡ Some f) × (takes n f ≡ true)
+there n None t h = absurd (let f : ⊥ = cc in f)
+there n (Some f) t h = (f, refl, t)
 
-pub known : (level : ℕ) (text : List ℕ) (x : Expr) (name : List ℕ) (arguments : List Expr) → IsExpression level text x → StandsIn (e.Call name arguments) x → is_function name (length arguments) ≡ true
-known level text x name arguments h within =
-    let call = e.Call name arguments in
+pub known : (level : ℕ) (text : List ℕ) (x : Expr) (f? : Option Function) (arguments : List Expr) → IsExpression level text x → StandsIn (e.Call f? arguments) x
+    → (f : Function) × (f? ≡ Some f) × (takes (length arguments) f ≡ true)
+known level text x f? arguments h within =
+    let call = e.Call f? arguments in
+    let out = call_out f? arguments in
     let here = throughout has_unknown_call no_unknown_part call x within h.faultless.functions in
-    not_false (is_function name (length arguments)) (sym (call_out name arguments) ∙ (neither (is_unknown_call (out-Expr call)) (list_any has_unknown_call (children call)) (sym (unknown_out call) ∙ here)).0)
+    there (length arguments) f? (subst SaysWell out (words level text x call h within))
+    (ap is_unknown_call (sym out) ∙ (neither (is_unknown_call (out-Expr call)) (list_any has_unknown_call (children call)) (sym (unknown_out call) ∙ here)).0)
 
 -- Categories.
 

@@ -1,5 +1,5 @@
 -- The data of the worked examples.
-use Rattle.std.specs.Prelude.{ℕ, Bool, List, [], ◌∷◌, codes}
+use Rattle.std.specs.Prelude.{ℕ, List, [], ◌∷◌, codes, Option}
 use Rattle.data_model.specs.declared.axis.Axis.{Axis}
 use Rattle.data_model.specs.declared.axis.Axis.TheVariants as axis
 use Rattle.query_grammar.specs.declared.ast.Binary.{Binary}
@@ -8,7 +8,8 @@ use Rattle.query_grammar.specs.declared.ast.Expr.TheVariants as e
 use Rattle.query_grammar.specs.declared.ast.KindTest.{KindTest}
 use Rattle.query_grammar.specs.declared.ast.NodeTest.TheVariants as test
 use Rattle.query_grammar.specs.declared.ast.Operation.{Operation}
-use Rattle.static_checks.specs.Functions.{is_function}
+use Rattle.query_grammar.specs.declared.functions.Function.{Function}
+use Rattle.query_grammar.specs.Functions.{function_of}
 
 -- the element children of that name
 abbrev pub child : List ℕ → Expr
@@ -42,6 +43,6 @@ then operator x = record { operator = operator; operand = x }
 abbrev pub between : Binary → Expr
 between operator = e.Chain a (then operator b ∷ [])
 
--- whether there is a function of that name that takes none, one, two and three arguments
-abbrev pub takes : List ℕ → List Bool
-takes name = is_function name 0 ∷ is_function name 1 ∷ is_function name 2 ∷ is_function name 3 ∷ []
+-- the functions that are called by that name with none, one, two and three arguments
+abbrev pub called : List ℕ → List (Option Function)
+called name = function_of name 0 ∷ function_of name 1 ∷ function_of name 2 ∷ function_of name 3 ∷ []

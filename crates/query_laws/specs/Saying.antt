@@ -1,5 +1,5 @@
 -- What an expression says beside its parts.
-use Rattle.std.specs.Prelude.{◌≡◌, ◌≤◌, true}
+use Rattle.std.specs.Prelude.{◌≡◌, ◌≤◌, ℕ, true, length, Option, Some, None}
 use Rattle.std.specs.List.{All}
 use Rattle.document_names.specs.Characters.{is_name}
 use Rattle.query_tokens.specs.Limits.{max_integer}
@@ -11,6 +11,8 @@ use Rattle.query_grammar.specs.declared.ast.Name.{Name}
 use Rattle.query_grammar.specs.declared.ast.Name.TheVariants.{Written, Computed}
 use Rattle.query_grammar.specs.declared.ast.NodeTest.{NodeTest}
 use Rattle.query_grammar.specs.declared.ast.NodeTest.TheVariants as test
+use Rattle.query_grammar.specs.declared.functions.Function.{Function}
+use Rattle.query_grammar.specs.Functions.{takes}
 use Rattle.query_laws.specs.Written.{IsXmlString}
 
 -- a test of a name says a name; the other tests say none
@@ -30,12 +32,17 @@ ClauseBindsNames (clause.For b) = BindsName b
 ClauseBindsNames (clause.ForAt b at) = BindsName b × (is_name at ≡ true)
 ClauseBindsNames (clause.Let b) = BindsName b
 
--- each name is a name, a string has characters of XML alone, and a number is none above the greatest
+-- a function is called with as many arguments as it takes
+abbrev pub TakesSoMany : Option Function → ℕ → Type 0
+TakesSoMany None n = Unit {0}
+TakesSoMany (Some f) n = takes n f ≡ true
+
+-- each name is a name, a string has characters of XML alone, a number is none above the greatest, and calls are with as many arguments as are taken
 abbrev pub SaysWell : {A : Type 0} → Expr-F A → Type 0
 SaysWell (Expr-F.Integer n) = n ≤ max_integer
 SaysWell (Expr-F.String s) = IsXmlString s
 SaysWell (Expr-F.Variable name) = is_name name ≡ true
-SaysWell (Expr-F.Call name xs) = is_name name ≡ true
+SaysWell (Expr-F.Call f xs) = TakesSoMany f (length xs)
 SaysWell (Expr-F.Step axis t xs) = TestSaysName t
 SaysWell (Expr-F.Element name x) = SaysName name
 SaysWell (Expr-F.Attribute name x) = SaysName name

@@ -1,6 +1,6 @@
 //! Laws of texts and their expressions, each the contract of a function that does nothing.
 
-ghost use Rattle.std.specs.Prelude.{◌≡◌, ◌↔◌, ℕ, List, [], ◌∷◌, codes, length, Some, None, Err, true, false};
+ghost use Rattle.std.specs.Prelude.{◌≡◌, ◌↔◌, ℕ, List, [], ◌∷◌, codes, length, Option, Some, None, Err, true, false};
 ghost use Rattle.data_model.specs.declared.axis.Axis.TheVariants as axis;
 ghost use Rattle.fault_codes.specs.declared.code.Code.{Code};
 ghost use Rattle.values.specs.declared.compare.Comparison.TheVariants as comparison;
@@ -15,14 +15,16 @@ ghost use Rattle.query_grammar.specs.declared.ast.NodeTest.TheVariants as test;
 ghost use Rattle.query_grammar.specs.declared.ast.Place.TheVariants as place;
 ghost use Rattle.query_grammar.specs.declared.ast.Quantifier.TheVariants as quantifier;
 ghost use Rattle.query_grammar.specs.declared.ast.Sign.TheVariants.{Plus, Minus};
-ghost use Rattle.static_checks.specs.Functions.{is_function};
+ghost use Rattle.query_grammar.specs.declared.functions.Function.{Function};
+ghost use Rattle.query_grammar.specs.declared.functions.Function.TheVariants as function;
+ghost use Rattle.query_grammar.specs.Functions.{takes};
 ghost use Rattle.static_checks.specs.Static.{IsExpression, parsed};
 ghost use Rattle.std.specs.List.{All};
 ghost use Rattle.query_tokens.specs.Lexing.{tokens};
 ghost use Rattle.query_tokens.specs.Reading.{Gives};
 ghost use Rattle.query_tokens.specs.declared.token.Token.{Token};
 ghost use Rattle.query_laws.specs.Written.{HasName, HasXmlString};
-ghost use Rattle.query_laws.specs.Examples.{a, b, c, none, on, of_kind, then, between, takes};
+ghost use Rattle.query_laws.specs.Examples.{a, b, c, none, on, of_kind, then, between, called};
 ghost use Rattle.query_laws.specs.Faults.{FirstFault, IsSpelt};
 ghost use Rattle.query_laws.specs.Spelling.{IsSpeltAs};
 ghost use Rattle.query_laws.specs.Saying.{SaysWell};
@@ -36,8 +38,8 @@ pub fn first_fault()
 
 /// Each call in the expression of a text is of a function that there is, with a number of arguments that it takes.
 pub fn calls_are_known()
-    ensures { (level : ℕ) (text : List ℕ) (x : Expr) (name : List ℕ) (arguments : List Expr)
-        → IsExpression level text x → StandsIn (e.Call name arguments) x → is_function name (length arguments) ≡ true }
+    ensures { (level : ℕ) (text : List ℕ) (x : Expr) (f? : Option Function) (arguments : List Expr)
+        → IsExpression level text x → StandsIn (e.Call f? arguments) x → (f : Function) × (f? ≡ Some f) × (takes (length arguments) f ≡ true) }
 {}
 
 /// In the expression of a text updating expressions stand only where they may, and each category is that of the inner parts.
@@ -56,7 +58,7 @@ pub fn names_are_names()
 {}
 
 /// In the expression of a text each name is a name (an NCName of ASCII characters, other than `xmlns`), each string is the UTF-8 of characters of XML 1.0, of
-/// at most 65,536 bytes, and each number is at most 2^63 - 1.
+/// at most 65,536 bytes, each number is at most 2^63 - 1, and each function takes as many arguments as it is called with.
 pub fn words_are_said()
     ensures { (level : ℕ) (text : List ℕ) (x inner : Expr) → IsExpression level text x → StandsIn inner x → SaysWell (out-Expr inner) }
 {}
@@ -81,7 +83,7 @@ pub fn examples()
     ensures value_comparisons { IsSpelt 1 (codes "a eq b, a ne b, a lt b, a le b, a gt b, a ge b") (e.Sequence (between (operator.Value comparison.Equal) ∷ between (operator.Value comparison.NotEqual) ∷ between (operator.Value comparison.Less) ∷ between (operator.Value comparison.LessOrEqual) ∷ between (operator.Value comparison.Greater) ∷ between (operator.Value comparison.GreaterOrEqual) ∷ [])) }
     ensures other_operators { IsSpelt 1 (codes "a is b, a << b, a >> b, a to b, a and b, a or b") (e.Sequence (between operator.Is ∷ between operator.Precedes ∷ between operator.Follows ∷ between operator.To ∷ between operator.And ∷ between operator.Or ∷ [])) }
     ensures levels { IsSpelt 1 (codes "a or a and a < a to a + a * a union a intersect b") (e.Chain a (then operator.Or (e.Chain a (then operator.And (e.Chain a (then (operator.General comparison.Less) (e.Chain a (then operator.To (e.Chain a (then (operator.Arithmetic arithmetic.Add) (e.Chain a (then (operator.Arithmetic arithmetic.Multiply) (e.Chain a (then operator.Union (between operator.Intersect) ∷ [])) ∷ [])) ∷ [])) ∷ [])) ∷ [])) ∷ [])) ∷ [])) }
-    ensures primaries { IsSpelt 1 (codes "7, 'b', $a, ., (), b(), b(a, c), a[b][c], (a)[b]") (e.Sequence (e.Integer 7 ∷ e.String (codes "b") ∷ e.Variable (codes "a") ∷ e.Context ∷ none ∷ e.Call (codes "b") [] ∷ e.Call (codes "b") (a ∷ c ∷ []) ∷ e.Step axis.Child (test.Name (codes "a")) (b ∷ c ∷ []) ∷ e.Filter a (b ∷ []) ∷ [])) }
+    ensures primaries { IsSpelt 1 (codes "7, 'b', $a, ., (), true(), contains(a, c), b(a, c), a[b][c], (a)[b]") (e.Sequence (e.Integer 7 ∷ e.String (codes "b") ∷ e.Variable (codes "a") ∷ e.Context ∷ none ∷ e.Call (Some function.True) [] ∷ e.Call (Some function.Contains) (a ∷ c ∷ []) ∷ e.Call None (a ∷ c ∷ []) ∷ e.Step axis.Child (test.Name (codes "a")) (b ∷ c ∷ []) ∷ e.Filter a (b ∷ []) ∷ [])) }
     ensures constructors { IsSpelt 1 (codes "document {a}, text {a}, comment {a}, element a {b}, element {a} {}, attribute a {b}, attribute {a} {}, processing-instruction a {b}, processing-instruction {a} {}") (e.Sequence (e.Document a ∷ e.Text a ∷ e.Comment a ∷ e.Element (Written (codes "a")) b ∷ e.Element (Computed a) none ∷ e.Attribute (Written (codes "a")) b ∷ e.Attribute (Computed a) none ∷ e.Instruction (Written (codes "a")) b ∷ e.Instruction (Computed a) none ∷ [])) }
     ensures conditional { IsSpelt 1 (codes "if (a) then b else c") (e.If a b c) }
     ensures quantified { IsSpelt 1 (codes "some $a in b, $b in c satisfies a, every $a in b satisfies c") (e.Sequence (e.Quantified quantifier.Some (record { variable = codes "a"; source = b } ∷ record { variable = codes "b"; source = c } ∷ []) a ∷ e.Quantified quantifier.Every (record { variable = codes "a"; source = b } ∷ []) c ∷ [])) }
@@ -92,31 +94,31 @@ pub fn examples()
     ensures copied { IsSpelt 2 (codes "copy $a := b, $b := c modify a return b") (e.Copy (record { variable = codes "a"; source = b } ∷ record { variable = codes "b"; source = c } ∷ []) a b) }
 {}
 
-/// How many arguments each function takes, of none to three. A name of no function takes none of these.
+/// Which function is called by each name with none to three arguments. By another name none is.
 pub fn functions()
-    ensures true_ { takes (codes "true") ≡ true ∷ false ∷ false ∷ false ∷ [] }
-    ensures false_ { takes (codes "false") ≡ true ∷ false ∷ false ∷ false ∷ [] }
-    ensures position_ { takes (codes "position") ≡ true ∷ false ∷ false ∷ false ∷ [] }
-    ensures last_ { takes (codes "last") ≡ true ∷ false ∷ false ∷ false ∷ [] }
-    ensures root_ { takes (codes "root") ≡ true ∷ true ∷ false ∷ false ∷ [] }
-    ensures name_ { takes (codes "name") ≡ true ∷ true ∷ false ∷ false ∷ [] }
-    ensures string_ { takes (codes "string") ≡ true ∷ true ∷ false ∷ false ∷ [] }
-    ensures doc_ { takes (codes "doc") ≡ false ∷ true ∷ false ∷ false ∷ [] }
-    ensures data_ { takes (codes "data") ≡ false ∷ true ∷ false ∷ false ∷ [] }
-    ensures count_ { takes (codes "count") ≡ false ∷ true ∷ false ∷ false ∷ [] }
-    ensures empty_ { takes (codes "empty") ≡ false ∷ true ∷ false ∷ false ∷ [] }
-    ensures exists_ { takes (codes "exists") ≡ false ∷ true ∷ false ∷ false ∷ [] }
-    ensures reverse_ { takes (codes "reverse") ≡ false ∷ true ∷ false ∷ false ∷ [] }
-    ensures not_ { takes (codes "not") ≡ false ∷ true ∷ false ∷ false ∷ [] }
-    ensures boolean_ { takes (codes "boolean") ≡ false ∷ true ∷ false ∷ false ∷ [] }
-    ensures string_length_ { takes (codes "string-length") ≡ false ∷ true ∷ false ∷ false ∷ [] }
-    ensures sum_ { takes (codes "sum") ≡ false ∷ true ∷ false ∷ false ∷ [] }
-    ensures distinct_values_ { takes (codes "distinct-values") ≡ false ∷ true ∷ false ∷ false ∷ [] }
-    ensures contains_ { takes (codes "contains") ≡ false ∷ false ∷ true ∷ false ∷ [] }
-    ensures starts_with_ { takes (codes "starts-with") ≡ false ∷ false ∷ true ∷ false ∷ [] }
-    ensures ends_with_ { takes (codes "ends-with") ≡ false ∷ false ∷ true ∷ false ∷ [] }
-    ensures string_join_ { takes (codes "string-join") ≡ false ∷ false ∷ true ∷ false ∷ [] }
-    ensures concat_ { takes (codes "concat") ≡ false ∷ false ∷ true ∷ true ∷ [] }
-    ensures node_ { takes (codes "node") ≡ false ∷ false ∷ false ∷ false ∷ [] }
-    ensures id_ { takes (codes "id") ≡ false ∷ false ∷ false ∷ false ∷ [] }
+    ensures true_ { called (codes "true") ≡ Some function.True ∷ None ∷ None ∷ None ∷ [] }
+    ensures false_ { called (codes "false") ≡ Some function.False ∷ None ∷ None ∷ None ∷ [] }
+    ensures position_ { called (codes "position") ≡ Some function.Position ∷ None ∷ None ∷ None ∷ [] }
+    ensures last_ { called (codes "last") ≡ Some function.Last ∷ None ∷ None ∷ None ∷ [] }
+    ensures root_ { called (codes "root") ≡ Some function.Root ∷ Some function.Root ∷ None ∷ None ∷ [] }
+    ensures name_ { called (codes "name") ≡ Some function.Name ∷ Some function.Name ∷ None ∷ None ∷ [] }
+    ensures string_ { called (codes "string") ≡ Some function.String ∷ Some function.String ∷ None ∷ None ∷ [] }
+    ensures doc_ { called (codes "doc") ≡ None ∷ Some function.Doc ∷ None ∷ None ∷ [] }
+    ensures data_ { called (codes "data") ≡ None ∷ Some function.Data ∷ None ∷ None ∷ [] }
+    ensures count_ { called (codes "count") ≡ None ∷ Some function.Count ∷ None ∷ None ∷ [] }
+    ensures empty_ { called (codes "empty") ≡ None ∷ Some function.Empty ∷ None ∷ None ∷ [] }
+    ensures exists_ { called (codes "exists") ≡ None ∷ Some function.Exists ∷ None ∷ None ∷ [] }
+    ensures reverse_ { called (codes "reverse") ≡ None ∷ Some function.Reverse ∷ None ∷ None ∷ [] }
+    ensures not_ { called (codes "not") ≡ None ∷ Some function.Not ∷ None ∷ None ∷ [] }
+    ensures boolean_ { called (codes "boolean") ≡ None ∷ Some function.Boolean ∷ None ∷ None ∷ [] }
+    ensures string_length_ { called (codes "string-length") ≡ None ∷ Some function.StringLength ∷ None ∷ None ∷ [] }
+    ensures sum_ { called (codes "sum") ≡ None ∷ Some function.Sum ∷ None ∷ None ∷ [] }
+    ensures distinct_values_ { called (codes "distinct-values") ≡ None ∷ Some function.DistinctValues ∷ None ∷ None ∷ [] }
+    ensures contains_ { called (codes "contains") ≡ None ∷ None ∷ Some function.Contains ∷ None ∷ [] }
+    ensures starts_with_ { called (codes "starts-with") ≡ None ∷ None ∷ Some function.StartsWith ∷ None ∷ [] }
+    ensures ends_with_ { called (codes "ends-with") ≡ None ∷ None ∷ Some function.EndsWith ∷ None ∷ [] }
+    ensures string_join_ { called (codes "string-join") ≡ None ∷ None ∷ Some function.StringJoin ∷ None ∷ [] }
+    ensures concat_ { called (codes "concat") ≡ None ∷ None ∷ Some function.Concat ∷ Some function.Concat ∷ [] }
+    ensures node_ { called (codes "node") ≡ None ∷ None ∷ None ∷ None ∷ [] }
+    ensures id_ { called (codes "id") ≡ None ∷ None ∷ None ∷ None ∷ [] }
 {}

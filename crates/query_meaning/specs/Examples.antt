@@ -1,5 +1,5 @@
 -- The data of the worked examples: expressions by what they mean, and two small stores.
-use Rattle.std.specs.Prelude.{ℕ, ◌+◌, ◌-◌, List, [], ◌∷◌, map, codes, None, Result, Ok, Err}
+use Rattle.std.specs.Prelude.{ℕ, ◌+◌, ◌-◌, List, [], ◌∷◌, length, map, codes, None, Result, Ok, Err}
 use Rattle.trees.specs.Forest.{ForestTerm, opening_forest}
 use Rattle.data_model.specs.Trees.{Trees, no_trees, tree, leaf, append}
 use Rattle.data_model.specs.declared.axis.Axis.{Axis}
@@ -17,6 +17,7 @@ use Rattle.query_grammar.specs.declared.ast.KindTest.TheVariants.{AnyNode}
 use Rattle.query_grammar.specs.declared.ast.Name.TheVariants.{Written, Computed}
 use Rattle.query_grammar.specs.declared.ast.NodeTest.TheVariants as test
 use Rattle.query_grammar.specs.declared.ast.Place.{Place}
+use Rattle.query_grammar.specs.Functions.{function_of}
 use Rattle.query_meaning.specs.Environment.{no_environment}
 use Rattle.query_meaning.specs.Meaning.{Outcome, meaning_of, outcome, start}
 use Rattle.query_meaning.specs.Running.{Run, most_nodes}
@@ -36,7 +37,7 @@ abbrev pub list : List Meaning → Meaning
 list ms = meaning_of (Expr-F.Sequence ms)
 
 abbrev pub call : (name : List ℕ) → List Meaning → Meaning
-call name ms = meaning_of (Expr-F.Call name ms)
+call name ms = meaning_of (Expr-F.Call (function_of name (length ms)) ms)
 
 -- `a op b`
 abbrev pub binary : Binary → Meaning → Meaning → Meaning

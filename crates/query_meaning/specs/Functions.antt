@@ -1,6 +1,6 @@
--- The functions (XQuery 1.0 and XPath 2.0 Functions and Operators), in one table. All arguments are evaluated, then atomized from the left,
+-- The functions (XQuery 1.0 and XPath 2.0 Functions and Operators). All arguments are evaluated, then atomized from the left,
 -- then judged from the left (our own choice).
-use Rattle.std.specs.Prelude.{ℕ, ℤ, pos, ◌+ℤ◌, Bool, true, false, not, ◌&&◌, ◌==◌, nat_le, if◌then◌else◌, List, [], ◌∷◌, ◌++◌, length, map, reverse, codes, chars, Option, Some, None, Result, Ok, Err}
+use Rattle.std.specs.Prelude.{ℕ, ℤ, pos, ◌+ℤ◌, Bool, true, false, not, ◌==◌, if◌then◌else◌, List, [], ◌∷◌, ◌++◌, length, map, reverse, chars, Option, Some, None, Result, Ok, Err}
 use Rattle.std.specs.List.{concat, list_any, starts_with, ends_with}
 use Rattle.std.specs.Ordering.{is_eq}
 use Rattle.std.specs.declared.cmp.Ordering.{Ordering}
@@ -18,6 +18,8 @@ use Rattle.values.specs.Arithmetic.{in_range}
 use Rattle.values.specs.Atoms.{or_fault, truth}
 use Rattle.values.specs.Comparisons.{as_string, same_type_cmp}
 use Rattle.values.specs.Readings.{integer_of}
+use Rattle.query_grammar.specs.declared.functions.Function.{Function}
+use Rattle.query_grammar.specs.declared.functions.Function.TheVariants as function
 use Rattle.query_meaning.specs.Running.{M, pure, fault, ◌>>=◌, come_to, seen, each, atoms}
 use Rattle.query_meaning.specs.Environment.{Environment, Focus}
 use Rattle.query_meaning.specs.Operators.{nodes}
@@ -48,6 +50,10 @@ of_two f env (x ∷ y ∷ []) = do
   ys ← atoms y
   f xs ys
 of_two f env _ = fault XPST0017
+
+abbrev pub of_two_or_more : Application → Application
+of_two_or_more f env (x ∷ y ∷ more) = f env (x ∷ y ∷ more)
+of_two_or_more f env _ = fault XPST0017
 
 -- A string argument: at most one value, a string or untyped; none is the empty string.
 abbrev pub string_argument : List Atom → Result (List ℕ) Code
@@ -223,59 +229,41 @@ distinct given (a ∷ more) = distinct (and_distinct given (as_string a)) more
 abbrev pub distinct_values : List Item → M (List Item)
 distinct_values x = atoms x >>= (λ values. pure (items_of (distinct [] values)))
 
--- a function: its name, how many arguments it takes, from the least number to the most, where there is one, and what it makes of them
-pub record Function : Type 0 where
-  pub name : List ℕ
-  pub least : ℕ
-  pub most : Option ℕ
-  pub application : Application
+-- what each function makes of its arguments' values; of another number than it takes it makes a fault
+abbrev pub application : Function → Application
+application function.Doc = of_one doc
+application function.Root = of_one_or_context root
+application function.Name = of_one_or_context name
+application function.String = of_one_or_context string_of
+application function.Data = of_one data_of
+application function.Count = of_one count
+application function.Empty = of_one empty
+application function.Exists = of_one exists
+application function.Reverse = of_one reversed
+application function.Not = of_one untruth_of
+application function.Boolean = of_one truth_of
+application function.True = of_none (λ env. boolean true)
+application function.False = of_none (λ env. boolean false)
+application function.Position = of_none position
+application function.Last = of_none last
+application function.Concat = of_two_or_more concatenated
+application function.Contains = of_two (of_texts contains)
+application function.StartsWith = of_two (of_texts (starts_with ◌==◌))
+application function.EndsWith = of_two (of_texts (ends_with ◌==◌))
+application function.StringLength = of_one string_length
+application function.StringJoin = of_two string_join
+application function.Sum = of_one sum
+application function.DistinctValues = of_one distinct_values
 
-abbrev pub function : (name : List ℕ) → (least most : ℕ) → Application → Function
-function name least most f = record { name = name; least = least; most = Some most; application = f }
-
-abbrev pub functions : List Function
-functions =
-    function (codes "doc") 1 1 (of_one doc)
-    ∷ function (codes "root") 0 1 (of_one_or_context root)
-    ∷ function (codes "name") 0 1 (of_one_or_context name)
-    ∷ function (codes "string") 0 1 (of_one_or_context string_of)
-    ∷ function (codes "data") 1 1 (of_one data_of)
-    ∷ function (codes "count") 1 1 (of_one count)
-    ∷ function (codes "empty") 1 1 (of_one empty)
-    ∷ function (codes "exists") 1 1 (of_one exists)
-    ∷ function (codes "reverse") 1 1 (of_one reversed)
-    ∷ function (codes "not") 1 1 (of_one untruth_of)
-    ∷ function (codes "boolean") 1 1 (of_one truth_of)
-    ∷ function (codes "true") 0 0 (of_none (λ env. boolean true))
-    ∷ function (codes "false") 0 0 (of_none (λ env. boolean false))
-    ∷ function (codes "position") 0 0 (of_none position)
-    ∷ function (codes "last") 0 0 (of_none last)
-    ∷ record { name = codes "concat"; least = 2; most = None; application = concatenated }
-    ∷ function (codes "contains") 2 2 (of_two (of_texts contains))
-    ∷ function (codes "starts-with") 2 2 (of_two (of_texts (starts_with ◌==◌)))
-    ∷ function (codes "ends-with") 2 2 (of_two (of_texts (ends_with ◌==◌)))
-    ∷ function (codes "string-length") 1 1 (of_one string_length)
-    ∷ function (codes "string-join") 2 2 (of_two string_join)
-    ∷ function (codes "sum") 1 1 (of_one sum)
-    ∷ function (codes "distinct-values") 1 1 (of_one distinct_values)
-    ∷ []
-
-abbrev pub is_at_most : ℕ → Option ℕ → Bool
-is_at_most n None = true
-is_at_most n (Some most) = nat_le n most
-
--- the function has that name and takes so many arguments
-abbrev pub is_called : (name : List ℕ) → (arguments : ℕ) → Function → Bool
-is_called name n f = bytes_eq name f.name && nat_le f.least n && is_at_most n f.most
-
-abbrev pub applied : (name : List ℕ) → List Function → Application
-applied name [] env values = fault XPST0017
-applied name (f ∷ fs) env values = if is_called name (length values) f then f.application env values else applied name fs env values
+-- where there is no function, it is a fault
+abbrev pub applied : Option Function → Application
+applied None env values = fault XPST0017
+applied (Some f) env values = application f env values
 
 -- the values of the arguments, from the left
 abbrev pub arguments : Environment → List Meaning → M (List (List Item))
 arguments env ms = each (λ _ given (m : Meaning). m env >>= (λ x. pure (given ++ x ∷ []))) 0 ms []
 
 -- a call (section 3.1.5)
-abbrev pub call : (name : List ℕ) → List Meaning → Meaning
-call name ms = λ env. arguments env ms >>= applied name functions env
+abbrev pub call : Option Function → List Meaning → Meaning
+call f? ms = λ env. arguments env ms >>= applied f? env

@@ -8,7 +8,7 @@ ghost use Rattle.query_grammar.specs.Reading as reading;
 ghost use Rattle.query_tokens.specs.declared.kind.Kind.TheVariants as k;
 
 use crate::rules::Rules;
-use query_grammar::Expr;
+use query_grammar::{Expr, Function};
 use query_parts::cursor::{eat, function_name, sees, variable};
 use query_parts::held::followed;
 use query_parts::words::is_function;
@@ -119,7 +119,8 @@ impl<F: Fn(Global, u8, &mut Tokens, usize) -> Result<Expr, ParseFault>> Rules<F>
         eat(tokens, Kind::OpenParen)?;
         let arguments = self.arguments(tokens)?;
         eat(tokens, Kind::CloseParen)?;
-        Ok(Expr::Call(name.text, arguments))
+        let function = Function::called(name.text.as_str(), arguments.len());
+        Ok(Expr::Call(function, arguments))
     }
 
     fn call_or_constructor(&self, tokens: &mut Tokens) -> Result<Expr, ParseFault>

@@ -7,6 +7,7 @@ use Rattle.query_grammar.specs.declared.ast.Clause.{Clause}
 use Rattle.query_grammar.specs.declared.ast.Expr.{Expr}
 use Rattle.query_grammar.specs.declared.ast.Expr.TheVariants as e
 use Rattle.query_grammar.specs.declared.ast.Expr.TheViews.{the_lemmas}
+use Rattle.query_grammar.specs.declared.functions.Function.{Function}
 use Rattle.query_grammar.specs.declared.ast.Operation.{Operation}
 use Rattle.query_grammar.specs.declared.ast.SortKey.{SortKey}
 use Rattle.query_grammar.specs.declared.ast.Quantifier.{Quantifier}
@@ -64,7 +65,7 @@ part_at o xs ys k found same = found ∙ ap (λ zs. slice_get zs k) (sym same)
 pub of_sequence : (xs : List Expr) → children (e.Sequence xs) ≡ xs
 of_sequence xs = search (rules, the_lemmas, parts_under [] xs)
 
-pub of_call : (f : List ℕ) (xs : List Expr) → children (e.Call f xs) ≡ xs
+pub of_call : (f : Option Function) (xs : List Expr) → children (e.Call f xs) ≡ xs
 of_call f xs = search (rules, the_lemmas, parts_under [] xs)
 
 pub of_step : (axis : Axis) (test : NodeTest) (xs : List Expr) → children (e.Step axis test xs) ≡ xs

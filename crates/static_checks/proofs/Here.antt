@@ -1,5 +1,5 @@
 -- What the passes ask of a form stays the same under a function on its parts.
-use Rattle.std.proofs.Common.{◌≡◌, ◌||◌, ℕ, Bool, not, List, [], ◌∷◌, map, refl, ap, ap₂, ◌∙◌}
+use Rattle.std.proofs.Common.{◌≡◌, ◌||◌, ℕ, Bool, List, [], ◌∷◌, map, refl, ap, ap₂, ◌∙◌}
 use Rattle.std.specs.List.{list_any}
 use Rattle.query_grammar.specs.declared.ast.Expr.{Expr, map-Expr, out-Expr}
 use Rattle.query_grammar.specs.declared.ast.Expr.TheOpen.{Expr-F}
@@ -8,13 +8,12 @@ use Rattle.query_grammar.specs.declared.ast.Binding.{Binding}
 use Rattle.query_grammar.specs.declared.ast.Clause.{Clause}
 use Rattle.query_grammar.specs.declared.ast.Clause.TheVariants as clause
 use Rattle.static_checks.specs.Variables.{binds_twice, has_twice_bound, binds_a_name_twice}
-use Rattle.static_checks.specs.Functions.{is_function, is_unknown_call, has_unknown_call}
+use Rattle.static_checks.specs.Functions.{is_unknown_call, has_unknown_call}
 use Rattle.static_checks.specs.Inside.{children}
-use Rattle.static_checks.proofs.Folds.{length_mapped}
 use Rattle.static_checks.proofs.Passes.{somewhere_out}
 
 unknown_mapped : (f : Expr → Bool) (x : Expr-F Expr) → is_unknown_call (map-Expr Expr Bool f x) ≡ is_unknown_call x
-unknown_mapped f (Expr-F.Call g xs) = ap (λ n. not (is_function g n)) (length_mapped f xs)
+unknown_mapped f (Expr-F.Call g xs) = refl
 unknown_mapped f (Expr-F.Integer n) = refl
 unknown_mapped f (Expr-F.String n) = refl
 unknown_mapped f (Expr-F.Variable n) = refl
