@@ -2,6 +2,7 @@
 use Rattle.std.specs.Prelude.{ℕ, ◌≤◌, Bool, ◌&&◌, ◌==◌, nat_eq, List, refl}
 use Rattle.std.specs.Cmp.Lexicographic.{pointwise}
 use Rattle.std.specs.Coded.{Coded, code_by, coded×, coded_ℕ, coded_list}
+use Rattle.ballots.specs.Ballot.{most_members}
 
 -- what a client asks for: its number, the number of the request, the language level and the bytes of the text
 pub record Request : Type 0 where
@@ -30,6 +31,10 @@ question_code =
 abbrev pub most_text : ℕ
 most_text = 4096
 
+-- the bytes that an answer's text has at most (our own choice)
+abbrev pub most_answer : ℕ
+most_answer = 32768
+
 -- the two agree in all four
 abbrev pub same_request : Request → Request → Bool
 same_request a b = (a.client == b.client && a.number == b.number) && (a.level == b.level && pointwise nat_eq a.text b.text)
@@ -51,4 +56,4 @@ setup_code =
 
 -- there are 1 to 63 members, and it is one of them
 abbrev pub IsPlace : (member members : ℕ) → Type 0
-IsPlace member members = (1 ≤ member) × (member ≤ members) × (members ≤ 63)
+IsPlace member members = (1 ≤ member) × (member ≤ members) × (members ≤ most_members)

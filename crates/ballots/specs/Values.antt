@@ -10,6 +10,14 @@ use Rattle.ballots.specs.declared.value.Vote.{Vote}
 unfoldable pub positions : ℕ
 positions = 1000000
 
+-- the votes, or learnt values, that a message has at most (our own choice)
+abbrev pub most_entries : ℕ
+most_entries = 8
+
+-- the proposals that a leader has open at most (our own choice)
+abbrev pub most_open : ℕ
+most_open = 16
+
 -- positions rise from `least` on, and are at most the last that there is
 abbrev pub IsRising : (least : ℕ) → List ℕ → Type 0
 IsRising least [] = Unit {0}

@@ -1,7 +1,7 @@
 //! Ballots, members and majorities.
 
 ghost use Rattle.std.specs.Prelude.{◌≡◌, ◌≤◌, ◌<◌, ◌⊎◌, ◌↔◌, None, IfSome};
-ghost use Rattle.ballots.specs.Ballot.{below, is_majority, has_member};
+ghost use Rattle.ballots.specs.Ballot.{below, is_majority, has_member, most_members};
 
 use super::limits::MOST_MEMBERS;
 use std::marker::Model;
@@ -38,12 +38,13 @@ pub struct Members(u8);
 
 impl Model for Members {
     ghost use Rattle.std.specs.Prelude.{ℕ, ◌≤◌};
+    ghost use Rattle.ballots.specs.Ballot.{most_members};
 
     ghost Value = { ℕ };
 
     ghost view = { λ a. a.0 };
 
-    ghost invariant = { λ a. (1 ≤ a.0) × (a.0 ≤ 63) };
+    ghost invariant = { λ a. (1 ≤ a.0) × (a.0 ≤ most_members) };
 
     ghost inverse = { λ n. record { 0 = n } };
 }
@@ -52,7 +53,7 @@ impl Members {
     /// So many members; there are none where it isn't 1 to 63.
     pub fn new(count: u8) -> Option<Members>
         ensures made { IfSome result (λ n. n ≡ count) }
-        ensures range { (result ≡ None) ↔ ((count ≡ 0) ⊎ (63 < count)) }
+        ensures range { (result ≡ None) ↔ ((count ≡ 0) ⊎ (most_members < count)) }
     {
         if count == 0 || count > MOST_MEMBERS {
             return None;
@@ -64,7 +65,7 @@ impl Members {
     pub fn count(self) -> u8
         ensures count { result ≡ self }
         ensures least { 1 ≤ self }
-        ensures most { self ≤ 63 }
+        ensures most { self ≤ most_members }
     {
         self.0
     }

@@ -15,5 +15,8 @@ pub const MOST_ENTRIES: usize = 8;
 /// The bytes that the text of a request or a question has at most.
 pub const MOST_BYTES: usize = 4096;
 
+/// The bytes that the text of an answer has at most.
+pub const MOST_ANSWER: usize = 32_768;
+
 /// The proposals that a leader has open at most.
 pub const MOST_OPEN: usize = 16;

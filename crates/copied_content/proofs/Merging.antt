@@ -8,7 +8,7 @@ use Rattle.data_model.proofs.Turns.{all_of-push}
 use Rattle.pending.specs.Texts.{before_merged, merged, is_empty_text, without_empty_texts, texts_within}
 use Rattle.fault_codes.specs.declared.code.Code.{Code}
 use Rattle.fault_codes.specs.declared.code.Code.TheVariants.{PXQ0002}
-use Rattle.values.specs.Atoms.{most_bytes}
+use Rattle.data_model.specs.Limits.{most_bytes}
 use Rattle.values.specs.declared.fault.ValueFault.{ValueFault}
 use Rattle.values.specs.declared.fault.ValueFault.TheVariants as fault
 use Rattle.query_meaning.specs.Content.{without_adjacent_texts}

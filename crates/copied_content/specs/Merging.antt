@@ -5,7 +5,7 @@ use Rattle.data_model.specs.Trees.{Trees, no_trees, tree, is_text}
 use Rattle.pending.specs.Texts.{texts_within}
 use Rattle.fault_codes.specs.declared.code.Code.{Code}
 use Rattle.fault_codes.specs.declared.code.Code.TheVariants.{PXQ0002}
-use Rattle.values.specs.Atoms.{most_bytes}
+use Rattle.data_model.specs.Limits.{most_bytes}
 
 -- a tree after others: the last of them takes in its text, if both are texts
 abbrev pub and_merged : Trees → TreeTerm → Trees

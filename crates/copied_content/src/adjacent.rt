@@ -4,18 +4,16 @@ ghost use Rattle.std.specs.Prelude.{◌≡◌, ◌≤◌, ◌&&◌, ◌∷◌, �
 ghost use Rattle.data_model.specs.Tree.{all_of};
 ghost use Rattle.data_model.specs.Trees.{count, is_text};
 ghost use Rattle.pending.specs.Texts.{is_empty_text, texts_within, without_empty_texts};
-ghost use Rattle.values.specs.Atoms.{most_bytes};
+ghost use Rattle.data_model.specs.Limits.{most_bytes};
 ghost use Rattle.query_meaning.specs.Content as meaning;
 ghost use Rattle.evaluation.specs.Gives.{Fails, Says};
 ghost use Rattle.copied_content.specs.Merging.{and_merged, within_bytes};
 
 use crate::copied::CopiedContent;
+use data_model::limits::MOST_BYTES;
 use std::alloc::{AllocError, Global};
 use trees::Tree;
 use values::{Code, ValueFault};
-
-/// The bytes that a text has at most (our own limit).
-const MOST_BYTES: usize = 65_536;
 
 impl CopiedContent {
     /// The same, but adjacent texts are merged, and empty ones are gone: a text takes in those after it, and keeps its identity. Each

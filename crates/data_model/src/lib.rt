@@ -4,6 +4,7 @@
 #![tactic(auto)]
 
 mod axis;
+pub mod limits;
 mod node;
 mod tree;
 

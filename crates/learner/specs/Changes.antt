@@ -1,7 +1,7 @@
 -- What a message that is heard changes in a learner.
 use Rattle.std.specs.Prelude.{◌≡◌, ◌≤◌, ◌||◌, ◌==◌, ℕ, Bool, if◌then◌else◌, List, [], ◌∷◌, map, None, is_none, is_some}
 use Rattle.std.specs.List.{All, filter}
-use Rattle.ballots.specs.Ballot.{is_majority}
+use Rattle.ballots.specs.Ballot.{is_majority, most_members}
 use Rattle.ballots.specs.declared.value.Vote.{Vote}
 use Rattle.ballots.specs.declared.value.Pair.{Pair}
 use Rattle.paxos.specs.Lists.{Has}
@@ -45,7 +45,7 @@ positions_of (Learns pairs) = positions_in pairs
 
 -- a member of at most 63
 abbrev pub IsMember : ℕ → Type 0
-IsMember m = (1 ≤ m) × (m ≤ 63)
+IsMember m = (1 ≤ m) × (m ≤ most_members)
 
 -- the numbers of a change are those of members and positions
 abbrev pub IsDue : Change → Type 0

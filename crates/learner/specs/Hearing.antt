@@ -1,7 +1,7 @@
 -- When a learner is one that has heard some messages ("Paxos Made Simple", section 2.3); lists of what was heard have the newest first.
 use Rattle.std.specs.Prelude.{◌≡◌, ◌≢◌, ◌<◌, ◌≤◌, ℕ, Bool, false, ◌&&◌, ◌==◌, List, [], ◌∷◌, map, None, IsSome}
 use Rattle.std.specs.List.{list_any}
-use Rattle.ballots.specs.Ballot.{has_member}
+use Rattle.ballots.specs.Ballot.{has_member, most_members}
 use Rattle.ballots.specs.Values.{same_vote}
 use Rattle.ballots.specs.declared.value.Vote.{Vote}
 use Rattle.ballots.specs.declared.value.Pair.{Pair}
@@ -34,7 +34,7 @@ AreAbove p (e ∷ es) = (p < e.position) × AreAbove e.position es
 -- what a learner that heard this knows: the values learnt; of the other positions a tally for each vote heard there, and no others
 pub record HasHeard (heard : List Heard) (l : Learner) : Type 0 where
   pub learnt : (p : ℕ) → value_at p (learnt_of l) ≡ learnt_at l.members p heard
-  pub tallied : (p : ℕ) (vote : Vote) (m : ℕ) → 1 ≤ m → m ≤ 63 → learnt_at l.members p heard ≡ None → is_tallied (open_of l) p vote m ≡ accepted_by p vote heard m
+  pub tallied : (p : ℕ) (vote : Vote) (m : ℕ) → 1 ≤ m → m ≤ most_members → learnt_at l.members p heard ≡ None → is_tallied (open_of l) p vote m ≡ accepted_by p vote heard m
   pub unlearnt : (t : Tally) → Has (open_of l) t → (learnt_at l.members t.position heard ≡ None) × (t.mask ≢ 0)
   pub distinct : AreDistinct (open_of l)
 

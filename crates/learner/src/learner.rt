@@ -10,6 +10,7 @@ ghost use Rattle.learner.specs.Changes.{AreForgotten, change_of, HasRoom, IsAsWa
 ghost use Rattle.learner.specs.Hearing.{AreAbove, HasHeard, IsLowest, news_at};
 ghost use Rattle.learner.specs.Slots.{AreWithin, IsPosition, pairs_of};
 ghost use Rattle.learner.specs.Terms.{learnt_of, open_in, open_of};
+ghost use Rattle.ballots.specs.Ballot.{most_members};
 
 use super::draft::{Change, Draft};
 use super::poll::mask_with;
@@ -39,8 +40,9 @@ impl Model for Learner {
 
     ghost use Rattle.std.specs.Prelude.{◌≤◌};
     ghost use Rattle.learner.specs.Slots.{AreWithin};
+    ghost use Rattle.ballots.specs.Ballot.{most_members};
 
-    ghost invariant = { λ l. (l.members ≤ 63) × AreWithin l.chosen };
+    ghost invariant = { λ l. (l.members ≤ most_members) × AreWithin l.chosen };
 }
 
 impl Learner {
@@ -109,7 +111,7 @@ impl Learner {
         vote: &Vote,
     ) -> Result<Vec<u32>, AllocError>
         requires least_member { 1 ≤ member }
-        requires most_member { member ≤ 63 }
+        requires most_member { member ≤ most_members }
         requires least { 1 ≤ position }
         requires most { position ≤ positions }
         ensures heard { OnOk result ((heard : List Heard) → HasHeard heard self.old → HasHeard (AcceptedBy member position vote.now ∷ heard) self.new) }
@@ -149,7 +151,7 @@ impl Learner {
         vote: &Vote,
     ) -> Result<Draft, AllocError>
         requires least_member { 1 ≤ member }
-        requires most_member { member ≤ 63 }
+        requires most_member { member ≤ most_members }
         requires least { 1 ≤ position }
         requires most { position ≤ positions }
         ensures change { IfOk result (λ d. d.change ≡ change_of self.old (AcceptedBy member position vote.now)) }

@@ -3,6 +3,7 @@
 ghost use Rattle.std.specs.Prelude.{◌≡◌, ◌≤◌, ◌+◌, if◌then◌else◌, true, false, [], ◌∷◌, ◌++◌, length, IfOk, OnErr, OnOk};
 ghost use Rattle.ballots.specs.declared.value.Vote.{Vote};
 ghost use Rattle.learner.specs.Polls.{has_vote, heard_in, mask_in, mask_with, with_room, with_voter};
+ghost use Rattle.ballots.specs.Ballot.{most_members};
 
 use ballots::Vote;
 use std::alloc::{AllocError, Global};
@@ -112,7 +113,7 @@ impl Poll {
     /// Adds a member to those that accepted a vote, which is there or has room. Says whether nobody had accepted it before.
     pub(super) fn count(&mut self, member: u8, vote: &Vote) -> bool
         requires least { 1 ≤ member }
-        requires most { member ≤ 63 }
+        requires most { member ≤ most_members }
         requires room { has_vote vote.now self.old ≡ true }
         ensures counted { self.new ≡ with_voter member vote.now self.old }
         ensures grew { heard_in self.new ≡ heard_in self.old + (if result then 1 else 0) }
@@ -124,7 +125,7 @@ impl Poll {
 /// A mask with a member's bit.
 pub(super) fn mask_with(mask: u64, member: u8) -> u64
     requires least { 1 ≤ member }
-    requires most { member ≤ 63 }
+    requires most { member ≤ most_members }
     ensures { result ≡ mask_with mask member }
 {
     mask | 1 << (member - 1)
@@ -133,7 +134,7 @@ pub(super) fn mask_with(mask: u64, member: u8) -> u64
 /// Adds a member to those that accepted a vote, which is there. Says whether nobody had accepted it before.
 fn add(voters: &mut [Voters], member: u8, vote: &Vote) -> bool
     requires least { 1 ≤ member }
-    requires most { member ≤ 63 }
+    requires most { member ≤ most_members }
     requires room { has_vote vote.now voters.old ≡ true }
     ensures added { voters.new ≡ with_voter member vote.now voters.old }
     ensures grew { heard_in (with_voter member vote.now voters.old) ≡ heard_in voters.old + (if result then 1 else 0) }

@@ -4,7 +4,7 @@ ghost use Rattle.std.specs.Prelude.{◌≡◌, ◌≤◌, ◌+◌, ◌-◌, ℕ,
 ghost use Rattle.std.specs.BTreeMap.{is_at};
 ghost use Rattle.std.specs.Map.{lookup};
 ghost use Rattle.std.specs.Ordering.{nat_cmp};
-ghost use Rattle.ballots.specs.Ballot.{has_member};
+ghost use Rattle.ballots.specs.Ballot.{has_member, most_members};
 ghost use Rattle.learner.specs.Hearing.{is_tallied};
 ghost use Rattle.learner.specs.Polls.{has_vote, HasTally, IsAdded, IsCounted, IsForgotten, poll_at, tallies_of};
 ghost use Rattle.learner.specs.Terms.{open_in};
@@ -109,7 +109,7 @@ impl Tallies {
     /// Adds a member to those that accepted a vote at a position, where the vote is there or has room. It takes no memory.
     pub(super) fn count(&mut self, member: u8, position: u32, vote: &Vote)
         requires least_member { 1 ≤ member }
-        requires most_member { member ≤ 63 }
+        requires most_member { member ≤ most_members }
         requires room { HasTally position vote.now self.old }
         ensures { IsAdded member position vote.now self.old self.new }
     {
@@ -206,7 +206,7 @@ fn is_empty(polls: &BTreeMap<u32, Poll>, position: u32) -> bool
 /// accepted it before.
 fn count_at(polls: &mut BTreeMap<u32, Poll>, member: u8, position: u32, vote: &Vote) -> bool
     requires least { 1 ≤ member }
-    requires most { member ≤ 63 }
+    requires most { member ≤ most_members }
     requires room { has_vote vote.now (poll_at position polls.old.entries) ≡ true }
     ensures added { (n h : ℕ) → IsCounted n h polls.old.entries → IsAdded member position vote.now (tallies_of polls.old.entries) (tallies_of polls.new.entries) }
     ensures counted { (n h : ℕ) → IsCounted n h polls.old.entries → IsCounted n (h + (if result then 1 else 0)) polls.new.entries }

@@ -11,7 +11,7 @@ use Rattle.fault_codes.specs.declared.code.Code.{Code}
 use Rattle.fault_codes.specs.declared.code.Code.TheVariants.{PXQ0002, PXQ0003}
 use Rattle.values.specs.declared.atom.Item.{Item}
 use Rattle.values.specs.declared.atom.Item.TheVariants as item
-use Rattle.values.specs.Atoms.{most_bytes}
+use Rattle.data_model.specs.Limits.{most_bytes}
 use Rattle.query_meaning.specs.Running.{Run, M, trees_of, pure, and_then, ◌>>=◌, come_to, each, new_nodes, standing, most_nodes}
 use Rattle.query_meaning.specs.Strings.{spaced}
 use Rattle.query_meaning.specs.Content as contents

@@ -5,7 +5,7 @@ use Rattle.byteorder.specs.Endian.{big_bytes}
 use Rattle.byteorder.specs.Numbers.{length-bytes_high_first}
 use Rattle.fault_codes.specs.Codes.{code_number}
 use Rattle.ballots.specs.Ballot.{most_members}
-use Rattle.ballots.specs.Terms.{Request, Question, most_text}
+use Rattle.ballots.specs.Terms.{Question, Request, most_answer, most_text}
 use Rattle.ballots.specs.Replies.{Answered, text, fault}
 use Rattle.ballots.specs.Messages.{Body, Window, Prepare, Promise, Accept, Accepted, Chosen, CatchUp, Submit, Reply, Ask, Answer, Behind, Elsewhere}
 use Rattle.ballots.specs.Spelling.{IsRequest, IsValue, request_spelling, value_spelling}
@@ -17,7 +17,7 @@ use Rattle.ballots.specs.declared.value.Pair.{Pair}
 use Rattle.ballots.specs.declared.reply.Reply.{Reply as Outcome}
 use Rattle.ballots.specs.declared.reply.Reply.TheVariants.{Done, Fault}
 use Rattle.paxos.specs.WellFormed.{IsBody}
-use Rattle.messages.specs.Spelling.{Datagram, IsAnswer, IsDatagram, ballot_spelling, position_spelling, entry_spelling, pair_spelling, text_spelling, id_spelling, reply_spelling, answer_spelling, body_spelling, kind, mark, most_answer, spelling, HasFields}
+use Rattle.messages.specs.Spelling.{Datagram, IsAnswer, IsDatagram, ballot_spelling, position_spelling, entry_spelling, pair_spelling, text_spelling, id_spelling, reply_spelling, answer_spelling, body_spelling, kind, mark, spelling, HasFields}
 use Rattle.messages.specs.Lengths.{most_request, most_value, most_length}
 
 -- the length of two lists in a row

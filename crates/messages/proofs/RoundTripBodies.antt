@@ -6,7 +6,7 @@ use Rattle.fault_codes.specs.Codes.{code_number}
 use Rattle.fault_codes.specs.declared.code.Code.{Code}
 use Rattle.fault_codes.specs.declared.code.Code.TheVariants.{XPST0003, XPST0008, XPST0017, XQST0090, XUST0001, XPDY0002, XPTY0004, XPTY0018, XPTY0019, XPTY0020, FOAR0001, FOAR0002, FODC0002, FORG0001, FORG0006, XQTY0024, XQDY0025, XQDY0026, XQDY0041, XQDY0064, XQDY0072, XQDY0074, XUTY0004, XUTY0005, XUTY0006, XUTY0007, XUTY0008, XUTY0010, XUTY0011, XUTY0012, XUTY0022, XUDY0009, XUDY0015, XUDY0016, XUDY0017, XUDY0021, XUDY0027, XUDY0029, XUDY0030, PXQ0001, PXQ0002, PXQ0003, PXQ0004, PXQ0005, XQST0089}
 use Rattle.ballots.specs.Ballot.{most_members}
-use Rattle.ballots.specs.Terms.{most_text}
+use Rattle.ballots.specs.Terms.{most_answer, most_text}
 use Rattle.ballots.specs.Values.{positions}
 use Rattle.ballots.specs.Replies.{text, fault}
 use Rattle.ballots.specs.Messages.{Body, Prepare, Promise, Accept, Accepted, Chosen, CatchUp, Submit, Reply, Ask, Answer, Behind, Elsewhere}
@@ -18,7 +18,7 @@ use Rattle.ballots.specs.declared.reply.Reply.TheVariants.{Done, Fault}
 use Rattle.paxos.specs.Lists.{at}
 use Rattle.paxos.specs.WellFormed.{AreVotes, ArePairs, IsBody, IsSender, last_position}
 use Rattle.messages.specs.Reading.{Read, Gives, on_read, pure, entries_read, pair_read, pairs_read, outcome_after, outcome_read, ends_well, bodies, body_of_kind, is_sender, header_read, datagram_read}
-use Rattle.messages.specs.Spelling.{Datagram, mark, most_answer, position_spelling, text_spelling, entry_spelling, pair_spelling, kind, body_spelling, spelling, HasFields, IsDatagram}
+use Rattle.messages.specs.Spelling.{Datagram, mark, position_spelling, text_spelling, entry_spelling, pair_spelling, kind, body_spelling, spelling, HasFields, IsDatagram}
 use Rattle.messages.proofs.Appending.{append_none}
 use Rattle.messages.proofs.RoundTrip.{le-true, eq-true, number-back, byte-back, small-back, position-back, text-back, value-back, ballot-back, own-ballot-back, entry-back}
 

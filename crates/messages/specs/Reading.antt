@@ -5,8 +5,8 @@ use Rattle.byteorder.specs.Endian.{big_number}
 use Rattle.fault_codes.specs.declared.code.Code.{Code}
 use Rattle.fault_codes.specs.declared.code.Code.TheVariants.{XPST0003, XPST0008, XPST0017, XQST0090, XUST0001, XPDY0002, XPTY0004, XPTY0018, XPTY0019, XPTY0020, FOAR0001, FOAR0002, FODC0002, FORG0001, FORG0006, XQTY0024, XQDY0025, XQDY0026, XQDY0041, XQDY0064, XQDY0072, XQDY0074, XUTY0004, XUTY0005, XUTY0006, XUTY0007, XUTY0008, XUTY0010, XUTY0011, XUTY0012, XUTY0022, XUDY0009, XUDY0015, XUDY0016, XUDY0017, XUDY0021, XUDY0027, XUDY0029, XUDY0030, PXQ0001, PXQ0002, PXQ0003, PXQ0004, PXQ0005, XQST0089}
 use Rattle.ballots.specs.Ballot.{below, last_round, most_members}
-use Rattle.ballots.specs.Terms.{most_text}
-use Rattle.ballots.specs.Values.{positions}
+use Rattle.ballots.specs.Terms.{most_answer, most_text}
+use Rattle.ballots.specs.Values.{positions, most_entries}
 use Rattle.ballots.specs.Replies.{Answered, text, fault}
 use Rattle.ballots.specs.Messages.{Body, Prepare, Promise, Accept, Accepted, Chosen, CatchUp, Submit, Reply, Ask, Answer, Behind, Elsewhere}
 use Rattle.ballots.specs.Spelling.{Read as ValueRead, Gives as ValueGives, Fails as ValueFails, value_read}
@@ -20,7 +20,7 @@ use Rattle.ballots.specs.declared.spelling.ValueFault.{ValueFault}
 use Rattle.ballots.specs.declared.spelling.ValueFault.TheVariants as of_value
 use Rattle.paxos.specs.Lists.{at}
 use Rattle.paxos.specs.WellFormed.{last_position}
-use Rattle.messages.specs.Spelling.{Datagram, mark, most_answer}
+use Rattle.messages.specs.Spelling.{Datagram, mark}
 use Rattle.messages.specs.declared.fault.WireFault.{WireFault}
 use Rattle.messages.specs.declared.fault.WireFault.TheVariants.{Short, Mark, Kind, Number, NotUtf8, LeftOver, Memory}
 
@@ -160,14 +160,14 @@ prepare_read sender = do
 
 -- the positions that are covered end with the last that there is, or with that of the eighth vote
 abbrev pub ends_well : (covered : ℕ) → List Entry → Bool
-ends_well covered entries = covered == positions || (length entries == 8 && last_position 0 entries == covered)
+ends_well covered entries = covered == positions || (length entries == most_entries && last_position 0 entries == covered)
 
 abbrev pub promise_read : List ℕ → Read Body
 promise_read = do
   ballot ← ballot_read
   from ← position_read 1 positions
   covered ← position_read from positions
-  count ← between_read 1 0 8
+  count ← between_read 1 0 most_entries
   entries ← entries_read count ballot from covered
   _ ← check Number (ends_well covered entries)
   pure (Promise (record { ballot = ballot; from = from; covered = covered; entries = entries }))
@@ -188,7 +188,7 @@ accepted_read = do
 
 abbrev pub chosen_read : List ℕ → Read Body
 chosen_read = do
-  count ← between_read 1 1 8
+  count ← between_read 1 1 most_entries
   pairs ← pairs_read count 1
   pure (Chosen pairs)
 

@@ -4,8 +4,8 @@ use Rattle.std.specs.Str.{is_utf8}
 use Rattle.byteorder.specs.Endian.{big_bytes}
 use Rattle.fault_codes.specs.Codes.{code_number}
 use Rattle.ballots.specs.Ballot.{most_members}
-use Rattle.ballots.specs.Terms.{most_text}
-use Rattle.ballots.specs.Values.{positions}
+use Rattle.ballots.specs.Terms.{most_answer, most_text}
+use Rattle.ballots.specs.Values.{positions, most_entries}
 use Rattle.ballots.specs.Replies.{Answered, text, fault}
 use Rattle.ballots.specs.Messages.{Body, Prepare, Promise, Accept, Accepted, Chosen, CatchUp, Submit, Reply, Ask, Answer, Behind, Elsewhere}
 use Rattle.ballots.specs.Spelling.{request_spelling, value_spelling, IsRequest, IsValue}
@@ -26,10 +26,6 @@ pub record Datagram : Type 0 where
 -- `PXQ1`
 abbrev pub mark : ℕ
 mark = 1347965233
-
--- the bytes of an answer's text at most
-abbrev pub most_answer : ℕ
-most_answer = 32768
 
 abbrev pub ballot_spelling : Ballot → List ℕ
 ballot_spelling b = big_bytes 8 b.round ++ b.member ∷ []
@@ -146,8 +142,8 @@ IsWithin (fault code) = Unit {0}
 
 -- What has no fixed length is no longer than its fields can say. The types of all else see to the rest.
 abbrev pub Fits : Body → Type 0
-Fits (Promise w) = length w.entries ≤ 8
-Fits (Chosen pairs) = length pairs ≤ 8
+Fits (Promise w) = length w.entries ≤ most_entries
+Fits (Chosen pairs) = length pairs ≤ most_entries
 Fits (Answer client number applied answer) = IsWithin answer
 Fits body = Unit {0}
 

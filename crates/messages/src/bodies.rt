@@ -11,9 +11,8 @@ use super::fields::{
     split_ballot, split_outcome, split_own_ballot, split_position, split_small, split_text,
     split_u32, split_u64, split_value,
 };
-use super::limits::MOST_ANSWER;
 use super::lists::{split_entries, split_pairs};
-use ballots::limits::{MOST_BYTES, MOST_ENTRIES, MOST_MEMBERS, POSITIONS};
+use ballots::limits::{MOST_ANSWER, MOST_BYTES, MOST_ENTRIES, MOST_MEMBERS, POSITIONS};
 use ballots::{Answer, Ask, AskFault, Entry, Message, Reply, Request, RequestFault, Vote, Window};
 use fault_codes::Code;
 use std::alloc::Global;

@@ -1,6 +1,6 @@
 //! Walks below nodes, over the flat table.
 
-ghost use Rattle.std.specs.Prelude.{◌≡◌, ℕ, ◌++◌, ◌<◌, ◌≤◌, ◌^◌, Some, None, IfOk, cond, length, string_bytes};
+ghost use Rattle.std.specs.Prelude.{◌≡◌, ℕ, ◌++◌, ◌<◌, ◌≤◌, ◌^◌, Some, None, IfOk, cond, false, length, string_bytes};
 ghost use Rattle.data_model.specs.Trees.{count, size, text_of, text_within};
 ghost use Rattle.node_table.specs.Flat.{AreThere, read_trees};
 ghost use Rattle.node_table.specs.Rows.{table_of, row_of};
@@ -10,9 +10,12 @@ use data_model::NodeId;
 use std::alloc::AllocError;
 
 /// Appends a text where at most `most` bytes stand there then, and says whether they do; where not, nothing is appended.
+///
+/// It fails where memory is refused.
 pub fn push_within(out: &mut String, text: &str, most: usize) -> Result<bool, AllocError>
     requires { length (string_bytes out.old) ≤ most }
     ensures value { IfOk result (λ fits. text_within most (string_bytes out.old ++ text.now) ≡ cond fits (Some (string_bytes out.new)) None) }
+    ensures same { IfOk result (λ fits. fits ≡ false → string_bytes out.new ≡ string_bytes out.old) }
     ensures most { length (string_bytes out.new) ≤ most }
 {
     if text.len() > most - out.len() {
@@ -23,7 +26,9 @@ pub fn push_within(out: &mut String, text: &str, most: usize) -> Result<bool, Al
 }
 
 /// Appends the texts below some nodes, at most so many levels down, where at most `most` bytes stand there then, and says whether
-/// they do; where not, it stops before the text that would pass them.
+/// they do; where not, some of the texts may stand there.
+///
+/// It fails where memory is refused.
 pub fn add_text_within(
     rows: &Rows,
     ids: &[NodeId],

@@ -5,7 +5,7 @@ use Rattle.std.specs.List.{list_any}
 use Rattle.paxos.specs.Lists.{Has}
 use Rattle.ballots.specs.Terms.{Request}
 use Rattle.ballots.specs.Ballot.{IsMajority, is_majority}
-use Rattle.ballots.specs.Values.{is_numbered, positions}
+use Rattle.ballots.specs.Values.{is_numbered, positions, most_open}
 use Rattle.ballots.specs.declared.value.Value.{Value}
 use Rattle.ballots.specs.declared.value.Value.TheVariants.{NoOp}
 use Rattle.ballots.specs.declared.value.Vote.{Vote}
@@ -43,7 +43,7 @@ is_covered n cover p = is_majority n (λ m. nat_le p (cover m))
 
 -- fewer than 16 proposals are open, and a majority covers the next position
 abbrev pub has_place : (members : ℕ) → (cover : ℕ → ℕ) → Turn → Bool
-has_place n cover t = nat_lt (length t.proposals) 16 && (nat_le t.next positions && is_covered n cover t.next)
+has_place n cover t = nat_lt (length t.proposals) most_open && (nat_le t.next positions && is_covered n cover t.next)
 
 -- a vote is reported, or a value learnt, at one of the k positions after p
 abbrev pub lies_after : (report : ℕ → Option Vote) → (is_learnt : ℕ → Bool) → (p : ℕ) → (k : ℕ) → Bool
@@ -92,7 +92,7 @@ pub record IsProposed (members : ℕ) (cover : ℕ → ℕ) (report : ℕ → Op
 -- Why proposing stops: 16 proposals are open, positions are spent, no majority covers the next one, or nothing is reported or
 -- learnt there or above.
 pub data HasStopped (members : ℕ) (cover : ℕ → ℕ) (report : ℕ → Option Vote) (is_learnt : ℕ → Bool) (t : Turn) : Type 0 where
-  Full : (16 ≤ length t.proposals) → HasStopped members cover report is_learnt t
+  Full : (most_open ≤ length t.proposals) → HasStopped members cover report is_learnt t
   Spent : (positions < t.next) → HasStopped members cover report is_learnt t
   Uncovered : (¬ IsMajority members (λ m. nat_le t.next (cover m))) → HasStopped members cover report is_learnt t
   NothingAbove : ((p : ℕ) → t.next ≤ p → p ≤ positions → (report p ≡ None) × (is_learnt p ≡ false)) → HasStopped members cover report is_learnt t
@@ -102,7 +102,7 @@ pub data HasStopped (members : ℕ) (cover : ℕ → ℕ) (report : ℕ → Opti
 pub record WentOn (members : ℕ) (cover : ℕ → ℕ) (report : ℕ → Option Vote) (is_learnt : ℕ → Bool) (before end : Turn) : Type 0 where
   pub reasons : (pair : Pair) → Has end.made pair → IsProposed members cover report is_learnt pair
   pub opens : end.proposals ≡ before.proposals ++ end.made
-  pub most : length before.proposals ≤ 16 → length end.proposals ≤ 16
+  pub most : length before.proposals ≤ most_open → length end.proposals ≤ most_open
   pub on : before.next ≤ end.next
   pub passes : (p : ℕ) → before.next ≤ p → p < end.next → (is_learnt p ≡ true) ⊎ ((value : Value) × Has end.made (record { position = p; value = value }))
   pub stopped : HasStopped members cover report is_learnt end

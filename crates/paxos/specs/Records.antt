@@ -2,7 +2,7 @@
 use Rattle.std.specs.Prelude.{ℕ, zero, suc, Bool, true, false, nat_lt, ◌==◌, if◌then◌else◌, List, [], ◌∷◌, take, Option, Some, None}
 use Rattle.ballots.specs.Ballot.{below}
 use Rattle.ballots.specs.declared.ballot.Ballot.{Ballot}
-use Rattle.ballots.specs.Values.{same_vote, positions}
+use Rattle.ballots.specs.Values.{same_vote, positions, most_entries}
 use Rattle.ballots.specs.declared.value.Vote.{Vote}
 use Rattle.ballots.specs.declared.value.Entry.{Entry}
 use Rattle.ballots.specs.Messages.{Window}
@@ -39,7 +39,7 @@ covered_by (suc (suc k)) (e ∷ es) = covered_by (suc k) es
 
 -- the window that answers a Prepare from a position on: the votes there, lowest first, at most 8 (our own choice)
 abbrev pub window : Ballot → (from : ℕ) → List Entry → Window
-window b from votes = record { ballot = b; from = from; covered = covered_by 8 (since from votes); entries = take 8 (since from votes) }
+window b from votes = record { ballot = b; from = from; covered = covered_by most_entries (since from votes); entries = take most_entries (since from votes) }
 
 -- One write of a record. A vote is written together with the promise of its ballot.
 pub data Write : Type 0 where

@@ -4,7 +4,7 @@ use Rattle.std.specs.Prelude.{ℕ, suc, ◌-◌, Bool, true, not, ◌&&◌, ◌=
 use Rattle.ballots.specs.Terms.{Request, Question}
 use Rattle.ballots.specs.Ballot.{below, last_round}
 use Rattle.ballots.specs.declared.ballot.Ballot.{Ballot}
-use Rattle.ballots.specs.Values.{positions}
+use Rattle.ballots.specs.Values.{positions, most_entries}
 use Rattle.ballots.specs.declared.value.Value.{Value}
 use Rattle.ballots.specs.declared.value.Value.TheVariants.{Request as Of}
 use Rattle.ballots.specs.declared.value.Vote.{Vote}
@@ -148,7 +148,7 @@ chosen_packet m target (e ∷ es) = packet m (Chosen (e ∷ es)) target ∷ []
 
 -- the lowest 8 learnt positions from this one on
 abbrev pub on_catch_up : (members : ℕ) → (self : ℕ) → Running → (sender : ℕ) → (from : ℕ) → Effect
-on_catch_up n m u sender from = says u (chosen_packet m sender (take 8 (learnt_from n (news u.heard) from (suc positions - from))))
+on_catch_up n m u sender from = says u (chosen_packet m sender (take most_entries (learnt_from n (news u.heard) from (suc positions - from))))
 
 -- Clients.
 

@@ -4,7 +4,7 @@ use Rattle.std.specs.List.{All}
 use Rattle.paxos.specs.Lists.{at, Has}
 use Rattle.ballots.specs.Ballot.{IsBallot, below, no_ballot}
 use Rattle.ballots.specs.declared.ballot.Ballot.{Ballot}
-use Rattle.ballots.specs.Values.{positions}
+use Rattle.ballots.specs.Values.{positions, most_entries}
 use Rattle.ballots.specs.declared.value.Entry.{Entry}
 use Rattle.ballots.specs.declared.value.Pair.{Pair}
 use Rattle.ballots.specs.Messages.{Window, Body, Prepare, Promise, Accept, Accepted, Chosen, CatchUp, Submit, Ask, Elsewhere, Packet}
@@ -43,8 +43,8 @@ pub record IsWindow (members : ℕ) (w : Window) : Type 0 where
   pub most : w.covered ≤ positions
   pub covers : w.from ≤ w.covered
   pub votes : AreVotes members w.ballot w.from w.covered w.entries
-  pub many : length w.entries ≤ 8
-  pub end : (w.covered ≡ positions) ⊎ ((length w.entries ≡ 8) × (last_position 0 w.entries ≡ w.covered))
+  pub many : length w.entries ≤ most_entries
+  pub end : (w.covered ≡ positions) ⊎ ((length w.entries ≡ most_entries) × (last_position 0 w.entries ≡ w.covered))
 
 -- what a message may say among n members
 abbrev pub IsBody : (members : ℕ) → Body → Type 0
@@ -52,7 +52,7 @@ IsBody n (Prepare b from) = IsBallotOf n b × IsPosition from
 IsBody n (Promise w) = IsWindow n w
 IsBody n (Accept p vote) = IsPosition p × IsBallotOf n vote.ballot
 IsBody n (Accepted p vote) = IsPosition p × IsBallotOf n vote.ballot
-IsBody n (Chosen pairs) = ArePairs 1 pairs × (1 ≤ length pairs) × (length pairs ≤ 8)
+IsBody n (Chosen pairs) = ArePairs 1 pairs × (1 ≤ length pairs) × (length pairs ≤ most_entries)
 IsBody n (CatchUp from) = IsPosition from
 IsBody n (Elsewhere client number member) = member ≤ n
 IsBody n body = Unit {0}

@@ -7,7 +7,7 @@ use Rattle.data_model.specs.Tidy.{holds_text, ends_in_hyphen, begins_with_space}
 use Rattle.data_model.specs.declared.node.Kind.TheVariants as kind
 use Rattle.fault_codes.specs.declared.code.Code.{Code}
 use Rattle.fault_codes.specs.declared.code.Code.TheVariants.{XQDY0026, XQDY0041, XQDY0064, XQDY0072, XQDY0074, PXQ0002}
-use Rattle.values.specs.Atoms.{most_bytes}
+use Rattle.data_model.specs.Limits.{most_bytes}
 use Rattle.values.specs.Readings.{is_space, after_spaces}
 use Rattle.query_grammar.specs.declared.ast.Expr.{Expr, map-Expr, out-Expr}
 use Rattle.query_grammar.specs.declared.ast.Expr.TheVariants as e

@@ -15,7 +15,7 @@ use Rattle.data_model.proofs.Weights.{append-append}
 use Rattle.node_table.proofs.Copies.{renumbered-within}
 use Rattle.fault_codes.specs.declared.code.Code.{Code}
 use Rattle.fault_codes.specs.declared.code.Code.TheVariants.{PXQ0003}
-use Rattle.values.specs.Atoms.{most_bytes}
+use Rattle.data_model.specs.Limits.{most_bytes}
 use Rattle.values.specs.declared.atom.Item.{Item}
 use Rattle.values.specs.declared.atom.Item.TheVariants as item
 use Rattle.query_grammar.specs.Grammar.{of_list}

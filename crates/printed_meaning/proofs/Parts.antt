@@ -10,7 +10,7 @@ use Rattle.data_model.proofs.Weights.{append-none}
 use Rattle.pending.specs.Texts.{before_merged, merged, is_empty_text, without_empty_texts, texts_within}
 use Rattle.fault_codes.specs.declared.code.Code.{Code}
 use Rattle.fault_codes.specs.declared.code.Code.TheVariants.{XPTY0004, XQTY0024, XQDY0025, PXQ0002, PXQ0003}
-use Rattle.values.specs.Atoms.{most_bytes}
+use Rattle.data_model.specs.Limits.{most_bytes}
 use Rattle.query_meaning.specs.Content.{those, are_all, is_attribute, is_other, attributes, others, has_attributes_first, has_room, without_adjacent_texts, element_fault, document_fault}
 use Rattle.printed_meaning.specs.Made.{anonymous}
 use Rattle.printed_meaning.proofs.Anonymous.{carried, carried_those, same_all, same_beginning, same_distinct, same_first, same_room}

@@ -7,7 +7,7 @@ use Rattle.data_model.specs.Tidy.{is_tidy_content, is_xml_text, are_tidy, may_be
 use Rattle.data_model.specs.Trees.{Trees, no_trees, tree, Content, append, is_text, is_inner, listing}
 use Rattle.data_model.specs.declared.node.Kind.{Kind}
 use Rattle.data_model.specs.declared.node.Kind.TheVariants.{Document, Element, Attribute, Text}
-use Rattle.values.specs.Atoms.{most_bytes}
+use Rattle.data_model.specs.Limits.{most_bytes}
 use Rattle.query_meaning.specs.Content.{are_all, is_attribute, is_other, has_room}
 use Rattle.printed_trees.specs.Constructors.{IsPrintable, is_tidy_root}
 use Rattle.printed_meaning.specs.Made.{have_room}

@@ -13,7 +13,8 @@ use Rattle.data_model.specs.declared.node.Kind.{Kind as NodeKind}
 use Rattle.data_model.specs.declared.node.Kind.TheVariants as node
 use Rattle.values.specs.Printing.{escaped, literal, listed, document_content, constructor}
 use Rattle.query_tokens.specs.Reading.{Gives}
-use Rattle.query_tokens.specs.Lexing.{is_separated, mark_token, most_bytes}
+use Rattle.data_model.specs.Limits.{most_bytes}
+use Rattle.query_tokens.specs.Lexing.{is_separated, mark_token}
 use Rattle.query_tokens.specs.Limits.{max_integer}
 use Rattle.query_tokens.specs.declared.kind.Kind.TheVariants as k
 use Rattle.query_tokens.specs.declared.token.Token.{Token}

@@ -6,7 +6,8 @@ use Rattle.document_names.specs.Characters.{is_xml_character}
 use Rattle.values.specs.Printing.{escaped}
 use Rattle.fault_codes.specs.declared.code.Code.TheVariants.{XPST0003, PXQ0002}
 use Rattle.query_tokens.specs.Reading.{Gives, Fails, on_read, fails, pure, rounds, begins}
-use Rattle.query_tokens.specs.Lexing.{character, reference, content_character, is_in_string, longer, more_content, contents, string_of, most_bytes, token}
+use Rattle.data_model.specs.Limits.{most_bytes}
+use Rattle.query_tokens.specs.Lexing.{character, reference, content_character, is_in_string, longer, more_content, contents, string_of, token}
 use Rattle.query_tokens.proofs.Rounds.{ends}
 use Rattle.printed_trees.proofs.Spelling.{string}
 

@@ -10,7 +10,7 @@ use Rattle.values.specs.declared.atom.Atom.{Atom}
 use Rattle.values.specs.declared.atom.Atom.TheVariants as a
 use Rattle.values.specs.declared.atom.Item.{Item}
 use Rattle.values.specs.declared.atom.Item.TheVariants as item
-use Rattle.query_tokens.specs.Lexing.{most_bytes}
+use Rattle.data_model.specs.Limits.{most_bytes}
 use Rattle.query_tokens.specs.Limits.{max_integer}
 use Rattle.static_checks.specs.Brackets.{most_open}
 use Rattle.query_grammar.specs.Grammar.{of_list}

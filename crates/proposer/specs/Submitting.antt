@@ -1,7 +1,7 @@
 -- When a request is proposed.
 use Rattle.std.specs.Prelude.{◌≡◌, ◌<◌, ◌≤◌, ℕ, Bool, true, Some, length}
 use Rattle.ballots.specs.Terms.{Request}
-use Rattle.ballots.specs.Values.{positions}
+use Rattle.ballots.specs.Values.{positions, most_open}
 use Rattle.ballots.specs.declared.value.Value.TheVariants.{Request as Of}
 use Rattle.paxos.specs.Proposing.{has_free_place}
 use Rattle.proposer.specs.declared.draft.Change.{Change}
@@ -20,7 +20,7 @@ abbrev pub IsReady : Proposer → Change → Type 0
 IsReady x Nothing = Unit {0}
 IsReady x (Begin lead) = length lead.covers ≡ x.members
 IsReady x (Take news) = (l : Leading) × (x.lead ≡ Some l) × CanTake l news
-IsReady x (Propose value) = (l : Leading) × (x.lead ≡ Some l) × (length l.proposals < 16) × (l.next ≤ positions)
+IsReady x (Propose value) = (l : Leading) × (x.lead ≡ Some l) × (length l.proposals < most_open) × (l.next ≤ positions)
 
 -- The request found a place: it is proposed at the next position, and this is sent.
 pub record IsSubmitted (q : Request) (x : Proposer) (l : Leading) (change : Change) (s : Sends) : Type 0 where

@@ -2,7 +2,7 @@
 use Rattle.std.specs.Prelude.{◌≡◌, ◌≤◌, ◌+◌, ◌&&◌, ℕ, suc, nat_lt, if◌then◌else◌, List, [], ◌∷◌, ◌++◌, length}
 use Rattle.ballots.specs.declared.value.Pair.{Pair}
 use Rattle.ballots.specs.declared.value.Entry.{Entry}
-use Rattle.ballots.specs.Values.{positions, IsRising}
+use Rattle.ballots.specs.Values.{positions, IsRising, most_open}
 use Rattle.position_map.specs.Slots.{filled}
 use Rattle.paxos.specs.Proposing.{still_open}
 use Rattle.proposer.specs.declared.draft.News.{News}
@@ -29,7 +29,7 @@ pub record CanTake (l : Leading) (news : News) : Type 0 where
   pub places : HavePlaces news.learnt.items l.learnt
   pub member : news.member ≤ length l.covers
   pub next : 1 ≤ news.made.next
-  pub most : length (left_open l news) + length news.made.proposals.items ≤ 16
+  pub most : length (left_open l news) + length news.made.proposals.items ≤ most_open
 
 -- it took it in, closed proposals and went on to what proposing came to
 pub record HasTaken (old : Leading) (news : News) (new : Leading) : Type 0 where

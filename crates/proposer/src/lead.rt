@@ -6,7 +6,7 @@ ghost use Rattle.std.specs.Option.{option_copied};
 ghost use Rattle.std.specs.Vec.{vec_capacity};
 ghost use Rattle.ballots.specs.Ballot.{count};
 ghost use Rattle.ballots.specs.Messages.{up_to, window_of};
-ghost use Rattle.ballots.specs.Values.{is_numbered, positions, IsRising};
+ghost use Rattle.ballots.specs.Values.{is_numbered, positions, IsRising, most_open};
 ghost use Rattle.paxos.specs.Knowledge.{joins};
 ghost use Rattle.paxos.specs.Proposing.{has_free_place, has_open, has_place, still_open};
 ghost use Rattle.position_map.specs.Slots.{filled, value_at, HasSlot};
@@ -66,8 +66,9 @@ impl Model for Lead {
     ghost use Rattle.std.specs.Prelude.{◌≤◌, length};
     ghost use Rattle.std.specs.Vec.{vec_capacity};
     ghost use Rattle.proposer.specs.Inside.{IsWithin};
+    ghost use Rattle.ballots.specs.Values.{most_open};
 
-    ghost invariant = { λ l. (1 ≤ l.next) × (length l.proposals.items ≤ 16) × (16 ≤ vec_capacity l.proposals) × IsWithin l.reports × IsWithin l.learnt };
+    ghost invariant = { λ l. (1 ≤ l.next) × (length l.proposals.items ≤ most_open) × (most_open ≤ vec_capacity l.proposals) × IsWithin l.reports × IsWithin l.learnt };
 }
 
 impl Lead {
@@ -214,7 +215,7 @@ impl Lead {
     /// How many proposals are open once these positions are learnt.
     fn left_open(&self, learnt: &[u32]) -> usize
         ensures count { result ≡ length (still_open (λ p. is_in p learnt.now) self.now.proposals) }
-        ensures most { result ≤ 16 }
+        ensures most { result ≤ most_open }
     {
         let mut open_ones = 0;
         for proposal in &self.proposals {
@@ -265,7 +266,7 @@ impl Lead {
     /// Goes on to what proposing came to. It takes no memory.
     pub(super) fn advance(&mut self, made: Made)
         requires least { 1 ≤ made.next }
-        requires most { length self.old.proposals + length made.proposals.items ≤ 16 }
+        requires most { length self.old.proposals + length made.proposals.items ≤ most_open }
         ensures { self.new ≡ advanced made.next made.proposals.items self.old }
     {
         let Made {
@@ -281,7 +282,7 @@ impl Lead {
     #[tactic(auto, unfolding(ballots::specs::Values::positions))]
     /// Proposes a value at the next position. It takes no memory.
     pub(super) fn propose(&mut self, value: Value)
-        requires fewer { length self.old.proposals < 16 }
+        requires fewer { length self.old.proposals < most_open }
         requires most { self.old.next ≤ positions }
         ensures { self.new ≡ proposing value self.old }
     {

@@ -3,7 +3,7 @@
 ghost use Rattle.std.specs.Prelude.{◌≡◌, ◌≤◌, ◌<◌, ◌+◌, ℕ, nat_le, List, length, true, false, None, IsSome, IfOk};
 ghost use Rattle.std.specs.Option.{option_copied};
 ghost use Rattle.ballots.specs.Ballot.{count};
-ghost use Rattle.ballots.specs.Values.{positions, IsRising};
+ghost use Rattle.ballots.specs.Values.{positions, IsRising, most_open};
 ghost use Rattle.ballots.specs.declared.value.Pair.{Pair as PairTerm};
 ghost use Rattle.paxos.specs.Proposing.{Turn as TurnTerm, has_place, turn};
 ghost use Rattle.paxos.specs.Records.{vote_at};
@@ -81,9 +81,9 @@ impl<'a> View<'a> {
         from: u32,
     ) -> Result<Made, AllocError>
         requires least { 1 ≤ from }
-        requires most { waiting ≤ 16 }
+        requires most { waiting ≤ most_open }
         ensures next { IfOk result (λ made. 1 ≤ made.next) }
-        ensures most { IfOk result (λ made. waiting + length made.proposals.items ≤ 16) }
+        ensures most { IfOk result (λ made. waiting + length made.proposals.items ≤ most_open) }
         ensures gone { IfOk result (λ made. (ps : List PairTerm) → length ps ≡ waiting → HasGone members self.now ps from made) }
     {
         let mut proposals = Vec::new(alloc);

@@ -5,6 +5,7 @@ use Rattle.std.proofs.lemmas.Bool.Decides.{nat_tests}
 use Rattle.std.proofs.lemmas.List.{length-append, append_assoc, append-nil}
 use Rattle.std.specs.List.{list_all}
 use Rattle.node_table.proofs.Ups.{same-ids}
+use Rattle.data_model.specs.Limits.{most_bytes}
 use Rattle.fault_codes.specs.declared.code.Code.TheVariants.{XPST0003, XQST0090, PXQ0002}
 use Rattle.document_names.specs.Characters.{is_digit, is_name_start, is_name_character, is_xml_character}
 use Rattle.query_tokens.specs.Limits.{max_integer}
@@ -291,19 +292,19 @@ data IsQuote : ℕ → Type 0 where
   Single : IsQuote 39
 
 -- the content of a string, with a character more, is within the limit
-longer_read : (found : List ℕ) (c : ℕ) (content rest : List ℕ) → length (found ++ (encode_utf8 c ++ content)) ≤ lexing.most_bytes → lexing.longer found c rest ≡ Gives (found ++ encode_utf8 c) rest
+longer_read : (found : List ℕ) (c : ℕ) (content rest : List ℕ) → length (found ++ (encode_utf8 c ++ content)) ≤ most_bytes → lexing.longer found c rest ≡ Gives (found ++ encode_utf8 c) rest
 longer_read found c content rest le =
     let whole = length-append found (encode_utf8 c ++ content) in
     let part = length-append (encode_utf8 c) content in
     let front = length-append found (encode_utf8 c) in
-    ap (λ b. cond b (fails PXQ0002) (pure (found ++ encode_utf8 c)) rest) (le-ltb lexing.most_bytes (length (found ++ encode_utf8 c)) (omega (arith, whole, part, front, le)))
+    ap (λ b. cond b (fails PXQ0002) (pure (found ++ encode_utf8 c)) rest) (le-ltb most_bytes (length (found ++ encode_utf8 c)) (omega (arith, whole, part, front, le)))
 
 abbrev content_from : ℕ → ℕ → List ℕ → List ℕ → Read (List ℕ)
 content_from quote n found text = rounds (λ _ text. lexing.is_in_string quote text) (lexing.more_content quote) n found text
 
 -- one character of the content, and then the rest of it
 one_read : (quote n c : ℕ) (found content text rest : List ℕ) → lexing.is_in_string quote text ≡ true → lexing.content_character quote text ≡ Gives c rest
-    → length (found ++ (encode_utf8 c ++ content)) ≤ lexing.most_bytes → content_from quote (suc n) found text ≡ content_from quote n (found ++ encode_utf8 c) rest
+    → length (found ++ (encode_utf8 c ++ content)) ≤ most_bytes → content_from quote (suc n) found text ≡ content_from quote n (found ++ encode_utf8 c) rest
 one_read quote n c found content text rest goes read le =
     round_given (λ _ text. lexing.is_in_string quote text) (lexing.more_content quote) n found (found ++ encode_utf8 c) text rest goes
     (ap (λ r. on_read r (lexing.longer found)) read ∙ longer_read found c content rest le)
@@ -368,16 +369,16 @@ hexadecimal_read : (d : ℕ) (ds rest : List ℕ) → list_all lexing.is_hex_dig
 hexadecimal_read d ds rest all xml = closed_read 16 lexing.is_hex_digit d ds rest all refl xml
 
 -- one character, and then the rest of the content
-and_rest : (q n c : ℕ) (found content text rest after : List ℕ) → IsNext q c text rest → length (found ++ (encode_utf8 c ++ content)) ≤ lexing.most_bytes
-    → (length ((found ++ encode_utf8 c) ++ content) ≤ lexing.most_bytes → content_from q n (found ++ encode_utf8 c) rest ≡ Gives ((found ++ encode_utf8 c) ++ content) after)
+and_rest : (q n c : ℕ) (found content text rest after : List ℕ) → IsNext q c text rest → length (found ++ (encode_utf8 c ++ content)) ≤ most_bytes
+    → (length ((found ++ encode_utf8 c) ++ content) ≤ most_bytes → content_from q n (found ++ encode_utf8 c) rest ≡ Gives ((found ++ encode_utf8 c) ++ content) after)
     → content_from q (suc n) found text ≡ Gives (found ++ (encode_utf8 c ++ content)) after
 and_rest q n c found content text rest after next le more =
     let same = append_assoc found (encode_utf8 c) content in
-    one_read q n c found content text rest next.goes next.read le ∙ more (subst (λ xs. length xs ≤ lexing.most_bytes) (sym same) le) ∙ ap (λ xs. Gives xs after) same
+    one_read q n c found content text rest next.goes next.read le ∙ more (subst (λ xs. length xs ≤ most_bytes) (sym same) le) ∙ ap (λ xs. Gives xs after) same
 
 -- a reference by name, and then the rest of the content
-named_read : (q n : ℕ) (e : List ℕ × ℕ) → IsReference e → (found content cs after : List ℕ) → IsQuote q → length cs + 1 ≤ n → length (found ++ (encode_utf8 e.1 ++ content)) ≤ lexing.most_bytes
-    → ((m : ℕ) → length cs ≤ m → length ((found ++ encode_utf8 e.1) ++ content) ≤ lexing.most_bytes → content_from q m (found ++ encode_utf8 e.1) (cs ++ (q ∷ after)) ≡ Gives ((found ++ encode_utf8 e.1) ++ content) (q ∷ after))
+named_read : (q n : ℕ) (e : List ℕ × ℕ) → IsReference e → (found content cs after : List ℕ) → IsQuote q → length cs + 1 ≤ n → length (found ++ (encode_utf8 e.1 ++ content)) ≤ most_bytes
+    → ((m : ℕ) → length cs ≤ m → length ((found ++ encode_utf8 e.1) ++ content) ≤ most_bytes → content_from q m (found ++ encode_utf8 e.1) (cs ++ (q ∷ after)) ≡ Gives ((found ++ encode_utf8 e.1) ++ content) (q ∷ after))
     → content_from q n found ((e.0 ++ cs) ++ (q ∷ after)) ≡ Gives (found ++ (encode_utf8 e.1 ++ content)) (q ∷ after)
 named_read q zero e r found content cs after k le few more = absurd (omega (arith, le))
 named_read q (suc n) e r found content cs after k le few more =
@@ -386,7 +387,7 @@ named_read q (suc n) e r found content cs after k le few more =
     ∙ and_rest q n e.1 found content (38 ∷ r.tail ++ rest_of) rest_of (q ∷ after) (reference_next q e.1 (r.tail ++ rest_of) rest_of k (ap (λ xs. lexing.reference (xs ++ rest_of)) (sym r.is) ∙ r.read rest_of)) few
     (more n (omega (arith, le)))
 
-content_read : (q : ℕ) (content cs : List ℕ) → IsContent q content cs → IsQuote q → (n : ℕ) (found after : List ℕ) → length cs ≤ n → length (found ++ content) ≤ lexing.most_bytes
+content_read : (q : ℕ) (content cs : List ℕ) → IsContent q content cs → IsQuote q → (n : ℕ) (found after : List ℕ) → length cs ≤ n → length (found ++ content) ≤ most_bytes
     → lexing.goes_on (λ c. c == q) after ≡ false → content_from q n found (cs ++ (q ∷ after)) ≡ Gives (found ++ content) (q ∷ after)
 content_read q content cs spelling.Nothing k n found after le few stop =
     round_off (λ _ text. lexing.is_in_string q text) (lexing.more_content q) n found (q ∷ after) (ends_string q after k stop) ∙ ap (λ xs. Gives xs (q ∷ after)) (sym (append-nil found))
@@ -420,7 +421,7 @@ content_read q content cs (spelling.Hexadecimal d ds more es all xml rest) k (su
     ∙ and_rest q n c found more (38 ∷ 35 ∷ 120 ∷ (d ∷ ds) ++ (59 ∷ rest_of)) rest_of (q ∷ after) (reference_next q c (35 ∷ 120 ∷ (d ∷ ds) ++ (59 ∷ rest_of)) rest_of k (hexadecimal_read d ds rest_of all xml)) few
     (λ few. content_read q more es rest k n (found ++ encode_utf8 c) after (omega (arith, le, long)) few stop)
 
-string_read : (q : ℕ) (content cs after : List ℕ) → IsQuote q → IsContent q content cs → length content ≤ lexing.most_bytes → lexing.goes_on (λ c. c == q) after ≡ false
+string_read : (q : ℕ) (content cs after : List ℕ) → IsQuote q → IsContent q content cs → length content ≤ most_bytes → lexing.goes_on (λ c. c == q) after ≡ false
     → lexing.string q (q ∷ cs ++ (q ∷ after)) ≡ Gives (record { kind = kind.String; text = content; number = 0 }) after
 string_read q content cs after k c few stop =
     let long = length-append cs (q ∷ after) in

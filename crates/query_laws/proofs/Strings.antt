@@ -5,6 +5,7 @@ use Rattle.std.proofs.lemmas.List.Folds.{list_all-append}
 use Rattle.std.specs.Char.{encode_utf8}
 use Rattle.std.specs.List.{list_all}
 use Rattle.std.specs.Str.{encode_utf8_all}
+use Rattle.data_model.specs.Limits.{most_bytes}
 use Rattle.document_names.specs.Characters.{is_digit, is_xml_character}
 use Rattle.fault_codes.specs.declared.code.Code.{Code}
 use Rattle.fault_codes.specs.declared.code.Code.TheVariants.{XPST0003, XQST0090, PXQ0002}
@@ -126,7 +127,7 @@ one_more (d ∷ cs) c = append_assoc (encode_utf8 d) (encode_utf8_all cs) (encod
 all_and : (cs : List ℕ) (c : ℕ) → list_all is_xml_character cs ≡ true → IsXml c → list_all is_xml_character (cs ++ c ∷ []) ≡ true
 all_and cs c h g = list_all-append is_xml_character cs (c ∷ []) ∙ ap₂ (λ a b. a && (b && true)) h g
 
-longer_string : (content : List ℕ) (c : ℕ) → IsXmlString content → IsXml c → nat_lt lexing.most_bytes (length (content ++ encode_utf8 c)) ≡ false → IsXmlString (content ++ encode_utf8 c)
+longer_string : (content : List ℕ) (c : ℕ) → IsXmlString content → IsXml c → nat_lt most_bytes (length (content ++ encode_utf8 c)) ≡ false → IsXmlString (content ++ encode_utf8 c)
 longer_string content c s g h = record {
   characters = s.characters ++ c ∷ [];
   allowed = all_and s.characters c s.allowed g;
@@ -135,9 +136,9 @@ longer_string content c s g h = record {
 }
 
 makes_longer : (content : List ℕ) (c : ℕ) → IsXmlString content → IsXml c → Makes IsXmlString (lexing.longer content c)
-makes_longer content c s g = one (nat_lt lexing.most_bytes (length (content ++ encode_utf8 c))) refl
+makes_longer content c s g = one (nat_lt most_bytes (length (content ++ encode_utf8 c))) refl
   where
-    one : (t : Bool) → nat_lt lexing.most_bytes (length (content ++ encode_utf8 c)) ≡ t → Makes IsXmlString (cond t (fails PXQ0002) (pure (content ++ encode_utf8 c)))
+    one : (t : Bool) → nat_lt most_bytes (length (content ++ encode_utf8 c)) ≡ t → Makes IsXmlString (cond t (fails PXQ0002) (pure (content ++ encode_utf8 c)))
     one true h = makes_fails IsXmlString PXQ0002
     one false h = makes_pure IsXmlString _ (longer_string content c s g h)
 

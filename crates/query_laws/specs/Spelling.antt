@@ -7,7 +7,8 @@ use Rattle.document_names.specs.Characters.{is_digit, is_name_start, is_name_cha
 use Rattle.query_tokens.specs.declared.kind.Kind.{Kind}
 use Rattle.query_tokens.specs.declared.kind.Kind.TheVariants as kind
 use Rattle.query_tokens.specs.declared.token.Token.{Token}
-use Rattle.query_tokens.specs.Lexing.{decimal_of, entities, goes_on, is_hex_digit, is_space, mark_token, most_bytes, value_of}
+use Rattle.data_model.specs.Limits.{most_bytes}
+use Rattle.query_tokens.specs.Lexing.{decimal_of, entities, goes_on, is_hex_digit, is_space, mark_token, value_of}
 use Rattle.query_tokens.specs.Limits.{max_integer}
 use Rattle.query_tokens.specs.Reading.{begins}
 use Rattle.query_tokens.specs.Words.{kind_of, marks}

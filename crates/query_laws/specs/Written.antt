@@ -5,7 +5,7 @@ use Rattle.std.specs.Str.{encode_utf8_all}
 use Rattle.document_names.specs.Characters.{is_name, is_xml_character}
 use Rattle.query_tokens.specs.declared.kind.Kind.TheVariants as kind
 use Rattle.query_tokens.specs.declared.token.Token.{Token}
-use Rattle.query_tokens.specs.Lexing.{most_bytes}
+use Rattle.data_model.specs.Limits.{most_bytes}
 
 -- the UTF-8 of characters of XML 1.0, of as many bytes at most as a string has
 pub record IsXmlString (bytes : List ℕ) : Type 0 where

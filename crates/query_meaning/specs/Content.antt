@@ -11,7 +11,7 @@ use Rattle.fault_codes.specs.declared.code.Code.TheVariants.{XPTY0004, XQTY0024,
 use Rattle.values.specs.declared.atom.Atom.{Atom}
 use Rattle.values.specs.declared.atom.Item.{Item}
 use Rattle.values.specs.declared.atom.Item.TheVariants as item
-use Rattle.values.specs.Atoms.{most_bytes}
+use Rattle.data_model.specs.Limits.{most_bytes}
 use Rattle.query_meaning.specs.Running.{M, pure, ◌>>=◌, come_to, seen, each, new_nodes}
 use Rattle.query_meaning.specs.Strings.{spaced}
 

@@ -5,7 +5,7 @@ use Rattle.fault_codes.specs.declared.code.Code.{Code}
 use Rattle.fault_codes.specs.declared.code.Code.TheVariants.{XPTY0004, PXQ0002}
 use Rattle.values.specs.declared.atom.Atom.{Atom}
 use Rattle.values.specs.declared.atom.Atom.TheVariants.{String, Boolean, Untyped, Integer}
-use Rattle.values.specs.Atoms.{most_bytes}
+use Rattle.data_model.specs.Limits.{most_bytes}
 
 -- a text that isn't too long (our own limit)
 abbrev pub limited : List ℕ → Result (List ℕ) Code

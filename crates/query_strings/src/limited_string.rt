@@ -4,12 +4,10 @@ ghost use Rattle.std.specs.Prelude.{◌≡◌, [], ◌++◌, OnOk, OnErr, IfOk, 
 ghost use Rattle.query_meaning.specs.Strings.{limited};
 ghost use Rattle.evaluation.specs.Gives.{Fails};
 
+use data_model::limits::MOST_BYTES;
 use std::alloc::{AllocError, Global};
 use std::marker::Model;
 use values::{Code, Text, ValueFault};
-
-/// The bytes that a string has at most in an evaluation (our own limit).
-const MOST_BYTES: usize = 65_536;
 
 /// A text of at most 65,536 bytes, to which others are added at its end. Contracts see it as its bytes.
 #[derive(Drop)]
@@ -20,7 +18,7 @@ pub struct LimitedString {
 impl Model for LimitedString {
     ghost use Rattle.std.specs.Prelude.{ℕ, List, ◌≤◌, length, string_bytes};
     ghost use Rattle.std.specs.Coded.{coded_list, coded_ℕ};
-    ghost use Rattle.values.specs.Atoms.{most_bytes};
+    ghost use Rattle.data_model.specs.Limits.{most_bytes};
 
     ghost Value = { List ℕ };
 

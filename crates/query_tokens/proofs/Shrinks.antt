@@ -1,6 +1,7 @@
 -- Each token takes a character at least, so as many turns as the text has characters read it to its end.
 use Rattle.std.proofs.Common.{◌≡◌, ℕ, codes, zero, suc, ◌==◌, nat_lt, ◌||◌, ◌-◌, ◌<◌, ◌≤◌, Bool, true, false, cond, List, [], ◌∷◌, ◌++◌, length, drop, Option, Some, None, refl, sym, ap, ◌∙◌, arith}
 use Rattle.std.proofs.lemmas.List.{length-drop}
+use Rattle.data_model.specs.Limits.{most_bytes}
 use Rattle.document_names.specs.Characters.{is_digit, is_name_start, is_name_character, is_xml_character}
 use Rattle.fault_codes.specs.declared.code.Code.{Code}
 use Rattle.fault_codes.specs.declared.code.Code.TheVariants.{XPST0003, XQST0090, PXQ0002}
@@ -147,7 +148,7 @@ content_character_keeps quote =
 more_content_keeps : (quote : ℕ) (content : List ℕ) → Keeps (lexing.more_content quote content)
 more_content_keeps quote content =
     keeps_bind (content_character_keeps quote)
-    (λ c. keeps_either (nat_lt lexing.most_bytes (length (content ++ encode_utf8 c))) (keeps_fails PXQ0002) (keeps_pure (content ++ encode_utf8 c)))
+    (λ c. keeps_either (nat_lt most_bytes (length (content ++ encode_utf8 c))) (keeps_fails PXQ0002) (keeps_pure (content ++ encode_utf8 c)))
 
 rest_of_string_keeps : (quote : ℕ) → Keeps (lexing.contents quote >>= lexing.string_of quote)
 rest_of_string_keeps quote =

@@ -2,6 +2,7 @@
 use Rattle.std.specs.Prelude.{◌≡◌, All, ℕ, suc, ◌+◌, ◌-◌, ◌*◌, Bool, true, false, not, ◌&&◌, ◌||◌, ◌==◌, nat_le, nat_lt, if◌then◌else◌, List, [], ◌∷◌, ◌++◌, length, fold, codes, Option, Some, None}
 use Rattle.std.specs.Char.{encode_utf8}
 use Rattle.std.specs.Str.{bytes_eq}
+use Rattle.data_model.specs.Limits.{most_bytes}
 use Rattle.document_names.specs.Characters.{is_digit, is_name_start, is_name_character, is_xml_character}
 use Rattle.fault_codes.specs.declared.code.Code.TheVariants.{XPST0003, XQST0090, PXQ0002}
 use Rattle.query_tokens.specs.Limits.{max_integer}
@@ -143,10 +144,6 @@ content_character quote text =
 -- the string goes on: a quote that isn't doubled ends it
 abbrev pub is_in_string : (quote : ℕ) → List ℕ → Bool
 is_in_string quote text = is_left text && (not (goes_on (λ c. c == quote) text) || begins (quote ∷ quote ∷ []) text)
-
--- the bytes that a string has at most (our own)
-abbrev pub most_bytes : ℕ
-most_bytes = 65536
 
 -- one character more, if that isn't too long
 abbrev pub longer : List ℕ → ℕ → Reader (List ℕ)

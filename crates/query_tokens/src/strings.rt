@@ -10,11 +10,9 @@ use crate::kind::Kind;
 use crate::literal::IntegerLiteral;
 use crate::references::reference;
 use crate::token::Token;
+use data_model::limits::MOST_BYTES;
 use std::alloc::Global;
 use values::{Code, Text};
-
-/// The bytes that a string has at most.
-const MOST_BYTES: usize = 65536;
 
 // A quote that is doubled, a reference, or a character that stands for itself. One that isn't a character of XML 1.0 is XPST0003, as is
 // none; a reference has faults of its own (`reference`).

@@ -12,15 +12,12 @@ use Rattle.query_grammar.specs.declared.ast.Expr.{Expr}
 use Rattle.static_checks.specs.Categories.{judged, is_updating}
 use Rattle.static_checks.specs.Static.{parsed}
 use Rattle.query_meaning.specs.Meaning.{Outcome, evaluated}
+use Rattle.ballots.specs.Terms.{most_answer}
 use Rattle.ballots.specs.Replies.{Answered, text, fault}
-
--- the bytes that an answer's text has at most
-abbrev pub most_bytes : ℕ
-most_bytes = 32768
 
 -- texts joined by line feeds, where that is short enough
 abbrev pub printed : List (List ℕ) → Answered
-printed texts = if nat_lt most_bytes (length (join_with_byte 10 texts)) then fault PXQ0005 else text (join_with_byte 10 texts)
+printed texts = if nat_lt most_answer (length (join_with_byte 10 texts)) then fault PXQ0005 else text (join_with_byte 10 texts)
 
 -- the texts of the items that an evaluation over the forest gives, or its code
 abbrev pub of_outcome : ForestTerm → Result Outcome Code → Answered

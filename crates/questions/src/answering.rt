@@ -8,9 +8,11 @@ ghost use Rattle.values.specs.Limited.{added};
 ghost use Rattle.values.specs.Printing.{item_text};
 ghost use Rattle.static_checks.specs.Categories.{is_updating, judged};
 ghost use Rattle.ballots.specs.Replies.{answered};
-ghost use Rattle.questions.specs.Answers.{answer, most_bytes, of_expression, printed};
+ghost use Rattle.ballots.specs.Terms.{most_answer};
+ghost use Rattle.questions.specs.Answers.{answer, of_expression, printed};
 
 use ballots::Answer;
+use ballots::limits::MOST_ANSWER;
 use evaluator::evaluate;
 use fault_codes::Code;
 use parser::{Category, Expr, ParseFault, category, parse};
@@ -18,9 +20,6 @@ use shelves::Shelf;
 use std::alloc::{AllocError, Global};
 use trees::Forest;
 use values::{Item, LimitedText, ValueFault, push_item};
-
-/// The bytes that an answer's text has at most (our own limit).
-const MOST_BYTES: usize = 32_768;
 
 /// Memory was refused.
 #[derive(Clone, Copy, PartialEq, Eq, Debug)]
@@ -95,9 +94,9 @@ fn print_lines(
 ) -> Result<LimitedText, AllocError>
     requires first { IsThere (shelf_trees shelf.now) first.now }
     requires others { AreThere (shelf_trees shelf.now) others.now }
-    ensures { IfOk result (λ lines. lines ≡ added (record { most = most_bytes; text = Some [] }) (join_with_byte 10 (map (item_text (shelf_trees shelf.now)) (first.now ∷ others.now)))) }
+    ensures { IfOk result (λ lines. lines ≡ added (record { most = most_answer; text = Some [] }) (join_with_byte 10 (map (item_text (shelf_trees shelf.now)) (first.now ∷ others.now)))) }
 {
-    let mut lines = LimitedText::new(alloc, MOST_BYTES);
+    let mut lines = LimitedText::new(alloc, MOST_ANSWER);
     push_item(alloc, &mut lines, shelf, first)?;
     for item in others {
         if lines.is_too_long() {

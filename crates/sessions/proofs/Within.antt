@@ -4,7 +4,8 @@ use Rattle.std.proofs.lemmas.Bool.{ltb-false}
 use Rattle.trees.specs.Forest.{ForestTerm}
 use Rattle.ballots.specs.Replies.{Answered, text, fault}
 use Rattle.applications.specs.Limits.{IsWithin}
-use Rattle.questions.specs.Answers.{most_bytes, of_outcome, of_expression, of_parsed, answer}
+use Rattle.ballots.specs.Terms.{most_answer}
+use Rattle.questions.specs.Answers.{of_outcome, of_expression, of_parsed, answer}
 
 -- a fault where a test holds, and else what is within the limit
 or_fault : (t : Bool) (code : _) (a : Answered) → (t ≡ false → IsWithin a) → IsWithin (cond t (fault code) a)
@@ -12,7 +13,7 @@ or_fault true code a h = tt
 or_fault false code a h = h refl
 
 -- a text, or a fault where that is too long
-text_within : (code : _) (t : List ℕ) → IsWithin (cond (nat_lt most_bytes (length t)) (fault code) (text t))
+text_within : (code : _) (t : List ℕ) → IsWithin (cond (nat_lt most_answer (length t)) (fault code) (text t))
 text_within code t = or_fault _ _ (text t) (λ e. ltb-false _ _ e)
 
 outcome_within : (forest : ForestTerm) (r : _) → IsWithin (of_outcome forest r)

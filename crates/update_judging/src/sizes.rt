@@ -5,14 +5,12 @@ ghost use Rattle.tracked_drafts.proofs.Exits.{passes_at};
 ghost use Rattle.tracked_drafts.specs.Tests.{is_limited};
 ghost use Rattle.update_meaning.specs.Results.{all_nodes, is_small};
 
+use data_model::limits::MOST_BYTES;
 use tracked_drafts::TrackedDraft;
 use trees::NodeId;
 
 /// The most attributes and children of a node together (our own limit).
 const MOST_LISTED: usize = 10_000;
-
-/// The most bytes in a node's text (our own limit).
-const MOST_BYTES: usize = 65_536;
 
 /// Whether each node of the draft is within the limits of a node.
 pub(super) fn are_limited(draft: &TrackedDraft) -> bool

@@ -1,6 +1,7 @@
 -- Atomic values and items, atomization, and the effective boolean value.
 use Rattle.std.specs.Prelude.{ℕ, ℤ, unsigned_abs, Bool, true, false, not, ◌==◌, nat_lt, if◌then◌else◌, List, [], ◌∷◌, length, Option, Some, None, Result, Ok, Err}
 use Rattle.std.specs.Str.{bytes_eq}
+use Rattle.data_model.specs.Limits.{most_bytes}
 use Rattle.data_model.specs.Trees.{Trees, Place, find, value_of}
 use Rattle.data_model.specs.declared.node.Kind.{Kind}
 use Rattle.data_model.specs.declared.node.Kind.TheVariants as kind
@@ -21,10 +22,6 @@ abbrev pub ◌>>=◌ : {A B : Type 0} → Result A Code → (A → Result B Code
 abbrev pub or_fault : {A : Type 0} → Code → Option A → Result A Code
 or_fault code None = Err code
 or_fault code (Some a) = Ok a
-
--- the bytes that a string has at most in an evaluation (our own choice)
-abbrev pub most_bytes : ℕ
-most_bytes = 65536
 
 -- the typed value of a node of that kind, with that string value: documents, elements, attributes and texts are untyped, comments and
 -- processing instructions strings (Data Model, sections 6.1.2 to 6.7.2, with no schema)

@@ -10,13 +10,11 @@ ghost use Rattle.values.specs.Items.{IsThere, AreThere};
 
 use super::fault::ValueFault;
 use super::text::Text;
+use data_model::limits::MOST_BYTES;
 use fault_codes::Code;
 use shelves::Shelf;
 use std::alloc::Global;
 use trees::{Kind, NodeId};
-
-/// The bytes that a string has at most in an evaluation.
-const MAX_BYTES: usize = 65_536;
 
 /// An atomic value, of one of the four types that there are (XQuery 1.0 and XPath 2.0 Data Model, section 2.7).
 #[derive(Clone, Drop)]
@@ -72,7 +70,7 @@ fn typed_value(alloc: Global, shelf: &Shelf, id: NodeId) -> Result<Atom, ValueFa
     ensures atom { IfOk result (λ a. typed_at (find id (shelf_trees shelf.now)) ≡ Ok a) }
     ensures code { IfErr result (λ fault. (code : Code) → fault ≡ ValueFault.Code code → typed_at (find id (shelf_trees shelf.now)) ≡ Err code) }
 {
-    match shelf.string_value_within(alloc, id, MAX_BYTES)? {
+    match shelf.string_value_within(alloc, id, MOST_BYTES)? {
         Some(text) => Ok(typed(shelf.kind(id), Text::shared(alloc, text)?)),
         None => Err(Code::PXQ0002.into()),
     }

@@ -2,7 +2,7 @@ use Rattle.std.proofs.Common.{◌≡◌, ◌∷◌, ◌++◌, [], IfOk, IfErr, O
 use Rattle.data_model.specs.Tree.{all_of}
 use Rattle.data_model.specs.Trees.{Trees}
 use Rattle.pending.specs.Texts.{texts_within}
-use Rattle.values.specs.Atoms.{most_bytes}
+use Rattle.data_model.specs.Limits.{most_bytes}
 use Rattle.evaluation.specs.Gives.{Fails}
 use Rattle.copied_content.specs.Merging.{and_merged, within_bytes}
 use Rattle.copied_content.proofs.Merging.{front_within, joins, stays_apart}
