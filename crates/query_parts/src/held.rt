@@ -3,7 +3,7 @@
 //! Where that fails, what was read is dropped here, in functions over any type: the proof of a function that drops an expression itself
 //! is many times as dear.
 
-ghost use Rattle.std.specs.Prelude.{◌≡◌, Ok, IfOk, IfErr, Err};
+ghost use Rattle.std.specs.Prelude.{◌≡◌, IfOk, IfErr};
 ghost use Rattle.query_parts.specs.Gives.{Gives, GivesLast};
 ghost use Rattle.query_parts.specs.Held.{followed};
 ghost use Rattle.query_tokens.specs.declared.fault.ParseFault.TheVariants.{Memory};
@@ -21,16 +21,6 @@ pub fn followed<T: Drop>(read: T, tokens: &mut Tokens, kind: Kind) -> Result<T, 
 {
     eat(tokens, kind)?;
     Ok(read)
-}
-
-/// What was read and what was read after it.
-///
-/// Codes: that of the second; what was read first is dropped.
-pub fn pair<A: Drop, B: Drop>(first: A, second: Result<B, ParseFault>) -> Result<(A, B), ParseFault>
-    ensures ok { IfOk result (λ both. (both.0 ≡ first) × (second ≡ Ok both.1)) }
-    ensures err { IfErr result (λ fault. second ≡ Err fault) }
-{
-    Ok((first, second?))
 }
 
 /// A value in a box.

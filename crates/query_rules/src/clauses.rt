@@ -6,10 +6,10 @@ ghost use Rattle.query_grammar.specs.declared.ast.Clause.TheVariants as clause;
 ghost use Rattle.query_rules.specs.Stages as stage;
 
 use crate::pending::{Last, Pending, Progress, word};
+use held_values::beside;
 use query_grammar::{Binding, Clause, Expr, Quantifier, SortKey};
 use query_parts::Looseness;
 use query_parts::cursor::{at_level, eat, sees, variable};
-use query_parts::held::pair;
 use query_parts::lists::push;
 use query_tokens::{Kind, ParseFault, Tokens};
 use sqlite_items::{Boxed, Items};
@@ -216,7 +216,7 @@ pub(crate) fn past_key(
 ) -> Result<Progress, ParseFault>
     ensures { Gives (stage.past_direction found condition keys key tokens.old) result tokens.new }
 {
-    let (key, is_descending) = pair(key, direction(tokens))?;
+    let (key, is_descending) = beside(key, direction(tokens))?;
     push(alloc, &mut keys, SortKey { key, is_descending })?;
     if at_level(tokens, Looseness::Comma) {
         word(tokens, Kind::Comma, Pending::Key(found, condition, keys))

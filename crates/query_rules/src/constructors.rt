@@ -8,9 +8,10 @@ ghost use Rattle.query_grammar.specs.declared.ast.Expr.TheVariants as e;
 ghost use Rattle.query_tokens.specs.declared.kind.Kind.TheVariants as k;
 
 use crate::rules::Rules;
+use held_values::beside;
 use query_grammar::{Expr, Name};
 use query_parts::cursor::{REFUSED, eat, name, sees};
-use query_parts::held::{followed, pair};
+use query_parts::held::followed;
 use query_tokens::{Kind, ParseFault, Tokens};
 use sqlite_items::Boxed;
 use std::alloc::Global;
@@ -55,7 +56,7 @@ impl<F: Fn(Global, u8, &mut Tokens, usize) -> Result<Expr, ParseFault>> Rules<F>
     {
         eat(tokens, Kind::Element)?;
         let name = self.name_or_braces(tokens)?;
-        let (name, content) = pair(name, self.body(tokens))?;
+        let (name, content) = beside(name, self.body(tokens))?;
         Ok(Expr::Element(name, content))
     }
 
@@ -66,7 +67,7 @@ impl<F: Fn(Global, u8, &mut Tokens, usize) -> Result<Expr, ParseFault>> Rules<F>
     {
         eat(tokens, Kind::Attribute)?;
         let name = self.name_or_braces(tokens)?;
-        let (name, content) = pair(name, self.body(tokens))?;
+        let (name, content) = beside(name, self.body(tokens))?;
         Ok(Expr::Attribute(name, content))
     }
 
@@ -77,7 +78,7 @@ impl<F: Fn(Global, u8, &mut Tokens, usize) -> Result<Expr, ParseFault>> Rules<F>
     {
         eat(tokens, Kind::ProcessingInstruction)?;
         let name = self.name_or_braces(tokens)?;
-        let (name, content) = pair(name, self.body(tokens))?;
+        let (name, content) = beside(name, self.body(tokens))?;
         Ok(Expr::Instruction(name, content))
     }
 

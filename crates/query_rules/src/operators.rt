@@ -11,9 +11,9 @@ ghost use Rattle.query_grammar.specs.Reading as reading;
 ghost use Rattle.query_grammar.specs.Words as table;
 
 use crate::rules::Rules;
+use held_values::beside;
 use query_grammar::{Binary, Expr, Operation, Sign};
 use query_parts::cursor::{REFUSED, at_level, sign};
-use query_parts::held::pair;
 use query_parts::lists::push;
 use query_parts::words::sign_of;
 use query_parts::{Looseness, Precedence};
@@ -99,7 +99,7 @@ impl<F: Fn(Global, u8, &mut Tokens, usize) -> Result<Expr, ParseFault>> Rules<F>
         ensures { Gives (read.unary (read.single self.now.level self.now.depth) tokens.old) result tokens.new }
     {
         let found = signs(self.alloc, tokens)?;
-        let (found, x) = pair(found, self.path(tokens))?;
+        let (found, x) = beside(found, self.path(tokens))?;
         Ok(signed_of(self.alloc, found, x)?)
     }
 
@@ -164,7 +164,7 @@ impl<F: Fn(Global, u8, &mut Tokens, usize) -> Result<Expr, ParseFault>> Rules<F>
         ensures { Gives (part.binary (read.single self.now.level self.now.depth) precedence tokens.old) result tokens.new }
     {
         let first = self.operand(tokens, precedence)?;
-        let (first, others) = pair(first, self.operations(tokens, precedence))?;
+        let (first, others) = beside(first, self.operations(tokens, precedence))?;
         Ok(chain_of(self.alloc, first, others)?)
     }
 

@@ -10,10 +10,11 @@ ghost use Rattle.query_grammar.specs.Reader as read;
 
 use crate::primaries::sees_primary;
 use crate::rules::Rules;
+use held_values::beside;
 use query_grammar::Expr;
 use query_parts::Looseness;
 use query_parts::cursor::{at_level, eat};
-use query_parts::held::{followed, pair};
+use query_parts::held::followed;
 use query_parts::lists::{append, push};
 use query_parts::steps::{Step, axis_step, slash, step_of, steps_of};
 use query_tokens::{Kind, ParseFault, Tokens};
@@ -65,11 +66,11 @@ impl<F: Fn(Global, u8, &mut Tokens, usize) -> Result<Expr, ParseFault>> Rules<F>
     {
         if sees_primary(tokens) {
             let x = self.primary(tokens)?;
-            let (x, predicates) = pair(x, self.predicates(tokens))?;
+            let (x, predicates) = beside(x, self.predicates(tokens))?;
             Ok(Step::Primary(x, predicates))
         } else {
             let found = axis_step(tokens)?;
-            let (found, predicates) = pair(found, self.predicates(tokens))?;
+            let (found, predicates) = beside(found, self.predicates(tokens))?;
             Ok(Step::Axis(found, predicates))
         }
     }
@@ -109,7 +110,7 @@ impl<F: Fn(Global, u8, &mut Tokens, usize) -> Result<Expr, ParseFault>> Rules<F>
     {
         let first = self.step(tokens)?;
         let first = step_of(self.alloc, first)?;
-        let (first, others) = pair(first, self.segments(tokens))?;
+        let (first, others) = beside(first, self.segments(tokens))?;
         Ok(path_of(self.alloc, first, others)?)
     }
 }

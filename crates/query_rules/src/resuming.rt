@@ -6,8 +6,9 @@ ghost use Rattle.query_rules.specs.Stages as stage;
 use crate::clauses::{past_for, past_for_at, past_in, past_key, past_let, to_keys};
 use crate::pending::{Last, Pending, Progress, ended, word};
 use crate::updates::{past_copy, place_of};
+use held_values::beside;
 use query_grammar::Expr;
-use query_parts::held::{boxed, pair};
+use query_parts::held::boxed;
 use query_tokens::{Kind, ParseFault, Tokens};
 use std::alloc::Global;
 
@@ -15,7 +16,7 @@ fn past_source(alloc: Global, tokens: &mut Tokens, source: Expr) -> Result<Progr
     ensures { Gives (stage.past_source source tokens.old) result tokens.new }
 {
     let source = boxed(alloc, source)?;
-    let (source, place) = pair(source, place_of(tokens))?;
+    let (source, place) = beside(source, place_of(tokens))?;
     Ok(Progress::Waits(Pending::Last(Last::Insert(source, place))))
 }
 
@@ -34,7 +35,7 @@ pub(crate) fn resume(
         Pending::ForAt(found, variable, at) => past_for_at(alloc, tokens, found, variable, at, x),
         Pending::Let(found, variable) => past_let(alloc, tokens, found, variable, x),
         Pending::Where(found) => {
-            let (found, x) = pair(found, boxed(alloc, x))?;
+            let (found, x) = beside(found, boxed(alloc, x))?;
             to_keys(alloc, tokens, found, Some(x))
         }
         Pending::Key(found, condition, keys) => past_key(alloc, tokens, found, condition, keys, x),
@@ -44,11 +45,11 @@ pub(crate) fn resume(
         Pending::Copy(found, variable) => past_copy(alloc, tokens, found, variable, x),
         Pending::Insert => past_source(alloc, tokens, x),
         Pending::Last(last) => {
-            let (last, x) = pair(last, boxed(alloc, x))?;
+            let (last, x) = beside(last, boxed(alloc, x))?;
             Ok(Progress::Read(ended(last, x)))
         }
         Pending::Then(condition) => {
-            let (condition, x) = pair(condition, boxed(alloc, x))?;
+            let (condition, x) = beside(condition, boxed(alloc, x))?;
             word(tokens, Kind::Else, Pending::Last(Last::Else(condition, x)))
         }
         Pending::ReplaceNode => {
@@ -64,7 +65,7 @@ pub(crate) fn resume(
             word(tokens, Kind::As, Pending::Last(last))
         }
         Pending::Modify(found) => {
-            let (found, x) = pair(found, boxed(alloc, x))?;
+            let (found, x) = beside(found, boxed(alloc, x))?;
             word(tokens, Kind::Return, Pending::Last(Last::Copy(found, x)))
         }
     }

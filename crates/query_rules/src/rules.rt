@@ -7,10 +7,10 @@ ghost use Rattle.query_rules.specs.Parts as part;
 ghost use Rattle.query_grammar.specs.Grammar as grammar;
 ghost use Rattle.query_grammar.specs.Reader as read;
 
+use held_values::beside;
 use query_grammar::Expr;
 use query_parts::Looseness;
 use query_parts::cursor::{at_level, eat};
-use query_parts::held::pair;
 use query_parts::lists::{one, push};
 use query_tokens::{Kind, ParseFault, Tokens};
 use sqlite_items::Items;
@@ -91,7 +91,7 @@ impl<F: Fn(Global, u8, &mut Tokens, usize) -> Result<Expr, ParseFault>> Rules<F>
         ensures { Gives (read.list1 (read.single self.now.level self.now.depth) tokens.old) result tokens.new }
     {
         let first = self.single(tokens)?;
-        let (first, others) = pair(first, self.more_singles(tokens))?;
+        let (first, others) = beside(first, self.more_singles(tokens))?;
         Ok(with_first(self.alloc, first, others)?)
     }
 
