@@ -12,7 +12,7 @@ ghost use Rattle.acceptor.specs.Steps.{Took, Stopped, IsAsWas, on_prepare_writes
 
 use super::draft::{Draft, Write};
 use ballots::{Ballot, Vote, Window};
-use records::{Record, Records, RecordsFault};
+use records::{PlannedRecords, Record, Records, RecordsFault};
 use std::alloc::Global;
 use std::marker::Model;
 
@@ -205,11 +205,11 @@ impl<R: Records + Drop> Acceptor<R> {
         })
     }
 
-    /// What `on_accept` is about to write and to answer, with room for the vote. Nothing that shows has changed.
+    /// What `on_accept` is about to write and to answer.
     ///
     /// Faults: memory was refused; the acceptor has stopped.
     pub fn draft_accept(
-        &mut self,
+        &self,
         alloc: Global,
         position: u32,
         vote: &Vote,
@@ -217,13 +217,12 @@ impl<R: Records + Drop> Acceptor<R> {
         requires ballot { IsBallot vote.now.ballot }
         requires least { 1 ≤ position }
         requires most { position ≤ positions }
-        ensures answer { IfOk result (λ d. d.answer ≡ on_accept_answers self.old.kept vote.now) }
-        ensures write { IfOk result (λ d. d.write ≡ on_accept_writes self.old.kept position vote.now) }
-        ensures due { IfOk result (λ d. IsDue self.old.kept d.write) }
-        ensures same { self.new ≡ self.old }
-        ensures running { OnOk result (self.old.is_stopped ≡ false) }
-        ensures stopped { IsErrOf result RecordsFault.Store ↔ (self.old.is_stopped ≡ true) }
-        ensures quiet { writes (on_accept_writes self.old.kept position vote.now) ≡ false → self.old.is_stopped ≡ false → IsOk result }
+        ensures answer { IfOk result (λ d. d.answer ≡ on_accept_answers self.now.kept vote.now) }
+        ensures write { IfOk result (λ d. d.write ≡ on_accept_writes self.now.kept position vote.now) }
+        ensures due { IfOk result (λ d. IsDue self.now.kept d.write) }
+        ensures running { OnOk result (self.now.is_stopped ≡ false) }
+        ensures stopped { IsErrOf result RecordsFault.Store ↔ (self.now.is_stopped ≡ true) }
+        ensures quiet { writes (on_accept_writes self.now.kept position vote.now) ≡ false → self.now.is_stopped ≡ false → IsOk result }
     {
         if self.is_stopped {
             return Err(RecordsFault::Store);
@@ -243,9 +242,6 @@ impl<R: Records + Drop> Acceptor<R> {
         let Ok(copy) = vote.clone() else {
             return Err(RecordsFault::Memory);
         };
-        if self.kept.reserve(position).is_err() {
-            return Err(RecordsFault::Memory);
-        }
         Ok(Draft {
             answer: true,
             write: Write::Vote(position, copy),
@@ -254,7 +250,7 @@ impl<R: Records + Drop> Acceptor<R> {
 
     /// Makes what was drafted for this very acceptor, which has not changed since, and gives the answer.
     ///
-    /// It takes no memory but what its records take. Faults: as of `on_begin`.
+    /// Faults: as of `on_begin`.
     pub fn commit<A: Drop>(&mut self, alloc: Global, draft: Draft<A>) -> Result<A, RecordsFault>
         requires due { IsDue self.old.kept draft.write }
         ensures answer { IfOk result (λ a. a ≡ draft.answer) }
@@ -267,44 +263,27 @@ impl<R: Records + Drop> Acceptor<R> {
         ensures kept { R.is_kept self.new.records → R.is_kept self.old.records }
     {
         let Draft { answer, write } = draft;
-        match self.write(alloc, write, false) {
+        match self.write(alloc, write) {
             Ok(()) => Ok(answer),
             Err(fault) => Err(fault),
         }
     }
 
-    /// Makes the write of what was drafted for this very acceptor, which has not changed since. Its member stops in this write, so a
-    /// store that would fail by a plan makes it.
-    ///
-    /// It takes no memory but what its records take. Faults: as of `on_begin`.
-    pub fn cut<A: Drop>(&mut self, alloc: Global, draft: Draft<A>) -> Result<(), RecordsFault>
-        requires due { IsDue self.old.kept draft.write }
-        ensures took { OnOk result (Took self.old self.new draft.write) }
-        ensures memory { IsErrOf result RecordsFault.Memory → IsAsWas R.failed self.old self.new }
-        ensures store { IsErrOf result RecordsFault.Store → Stopped R.stands R.is_kept R.failed self.old self.new draft.write }
-        ensures stopped { self.old.is_stopped ≡ true → IsErrOf result RecordsFault.Store }
-        ensures quiet { writes draft.write ≡ false → (self.new ≡ self.old) × (self.old.is_stopped ≡ false → IsOk result) }
-        ensures went { self.old.is_stopped ≡ false → R.is_kept self.new.records → Went (R.stands self.new.records) (R.fates self.old.records) (R.fates self.new.records) true self.old.kept draft.write result }
-        ensures kept { R.is_kept self.new.records → R.is_kept self.old.records }
-    {
-        self.write(alloc, draft.write, true)
-    }
-
-    /// Makes a write. One that is cut is let pass.
-    fn write(&mut self, alloc: Global, write: Write, is_cut: bool) -> Result<(), RecordsFault>
+    /// Makes a write.
+    fn write(&mut self, alloc: Global, write: Write) -> Result<(), RecordsFault>
         requires due { IsDue self.old.kept (write_of write) }
         ensures took { OnOk result (Took self.old self.new (write_of write)) }
         ensures memory { IsErrOf result RecordsFault.Memory → IsAsWas R.failed self.old self.new }
         ensures store { IsErrOf result RecordsFault.Store → Stopped R.stands R.is_kept R.failed self.old self.new (write_of write) }
         ensures stopped { self.old.is_stopped ≡ true → IsErrOf result RecordsFault.Store }
         ensures quiet { writes (write_of write) ≡ false → (self.new ≡ self.old) × (self.old.is_stopped ≡ false → IsOk result) }
-        ensures went { self.old.is_stopped ≡ false → R.is_kept self.new.records → Went (R.stands self.new.records) (R.fates self.old.records) (R.fates self.new.records) is_cut self.old.kept (write_of write) result }
+        ensures went { self.old.is_stopped ≡ false → R.is_kept self.new.records → Went (R.stands self.new.records) (R.fates self.old.records) (R.fates self.new.records) false self.old.kept (write_of write) result }
         ensures kept { R.is_kept self.new.records → R.is_kept self.old.records }
     {
         if self.is_stopped {
             return Err(RecordsFault::Store);
         }
-        match make(alloc, &mut self.records, &mut self.kept, write, is_cut) {
+        match make(alloc, &mut self.records, &mut self.kept, write) {
             Ok(()) => Ok(()),
             Err(RecordsFault::Memory) => Err(RecordsFault::Memory),
             Err(RecordsFault::Store) => {
@@ -322,13 +301,41 @@ impl<R: Records + Drop> Acceptor<R> {
     }
 }
 
-/// Makes a write, and then the same change of the record. A write that is cut is let pass.
+impl<R: PlannedRecords + Drop> Acceptor<R> {
+    /// Makes the write of what was drafted for this very acceptor, which has not changed since. Its member stops in this write, so a
+    /// store that would fail by a plan makes it.
+    ///
+    /// Faults: as of `on_begin`.
+    pub fn cut<A: Drop>(&mut self, alloc: Global, draft: Draft<A>) -> Result<(), RecordsFault>
+        requires due { IsDue self.old.kept draft.write }
+        ensures took { OnOk result (Took self.old self.new draft.write) }
+        ensures memory { IsErrOf result RecordsFault.Memory → IsAsWas R.failed self.old self.new }
+        ensures store { IsErrOf result RecordsFault.Store → Stopped R.stands R.is_kept R.failed self.old self.new draft.write }
+        ensures stopped { self.old.is_stopped ≡ true → IsErrOf result RecordsFault.Store }
+        ensures quiet { writes draft.write ≡ false → (self.new ≡ self.old) × (self.old.is_stopped ≡ false → IsOk result) }
+        ensures went { self.old.is_stopped ≡ false → R.is_kept self.new.records → Went (R.stands self.new.records) (R.fates self.old.records) (R.fates self.new.records) true self.old.kept draft.write result }
+        ensures kept { R.is_kept self.new.records → R.is_kept self.old.records }
+    {
+        if self.is_stopped {
+            return Err(RecordsFault::Store);
+        }
+        match cut(alloc, &mut self.records, &mut self.kept, draft.write) {
+            Ok(()) => Ok(()),
+            Err(RecordsFault::Memory) => Err(RecordsFault::Memory),
+            Err(RecordsFault::Store) => {
+                self.is_stopped = true;
+                Err(RecordsFault::Store)
+            }
+        }
+    }
+}
+
+/// Makes a write, and then the same change of the record.
 fn make<R: Records>(
     alloc: Global,
     records: &mut R,
     kept: &mut Record,
     write: Write,
-    is_cut: bool,
 ) -> Result<(), RecordsFault>
     requires due { IsDue kept.old (write_of write) }
     requires stands { R.is_kept records.old → R.stands records.old kept.old kept.old }
@@ -336,7 +343,7 @@ fn make<R: Records>(
     ensures made { OnOk result (kept.new ≡ written (write_of write) kept.old) }
     ensures refused { OnErr result (kept.new ≡ kept.old) }
     ensures law { R.is_kept records.new → Puts (R.stands records.new) kept.old (written (write_of write) kept.old) result }
-    ensures went { R.is_kept records.new → Went (R.stands records.new) (R.fates records.old) (R.fates records.new) is_cut kept.old (write_of write) result }
+    ensures went { R.is_kept records.new → Went (R.stands records.new) (R.fates records.old) (R.fates records.new) false kept.old (write_of write) result }
     ensures kept { R.is_kept records.new → R.is_kept records.old }
     ensures counts { Counts (R.failed records.old) (R.failed records.new) result }
     ensures quiet { writes (write_of write) ≡ false → IsOk result × (records.new ≡ records.old) }
@@ -344,7 +351,33 @@ fn make<R: Records>(
 {
     match write {
         Write::Nothing => Ok(()),
-        Write::Promise(ballot) => kept.put_promise(alloc, records, ballot, is_cut),
-        Write::Vote(position, vote) => kept.put_vote(alloc, records, position, vote, is_cut),
+        Write::Promise(ballot) => kept.put_promise(alloc, records, ballot),
+        Write::Vote(position, vote) => kept.put_vote(alloc, records, position, vote),
+    }
+}
+
+/// Makes a write that does not fail by a plan, and then the same change of the record.
+fn cut<R: PlannedRecords>(
+    alloc: Global,
+    records: &mut R,
+    kept: &mut Record,
+    write: Write,
+) -> Result<(), RecordsFault>
+    requires due { IsDue kept.old (write_of write) }
+    requires stands { R.is_kept records.old → R.stands records.old kept.old kept.old }
+    requires passes { R.passes records.old ≡ false }
+    ensures made { OnOk result (kept.new ≡ written (write_of write) kept.old) }
+    ensures refused { OnErr result (kept.new ≡ kept.old) }
+    ensures law { R.is_kept records.new → Puts (R.stands records.new) kept.old (written (write_of write) kept.old) result }
+    ensures went { R.is_kept records.new → Went (R.stands records.new) (R.fates records.old) (R.fates records.new) true kept.old (write_of write) result }
+    ensures kept { R.is_kept records.new → R.is_kept records.old }
+    ensures counts { Counts (R.failed records.old) (R.failed records.new) result }
+    ensures quiet { writes (write_of write) ≡ false → IsOk result × (records.new ≡ records.old) }
+    ensures passes { R.passes records.new ≡ false }
+{
+    match write {
+        Write::Nothing => Ok(()),
+        Write::Promise(ballot) => kept.cut_promise(alloc, records, ballot),
+        Write::Vote(position, vote) => kept.cut_vote(alloc, records, position, vote),
     }
 }

@@ -7,6 +7,7 @@ use Rattle.ballots.specs.declared.ballot.Ballot.{Ballot}
 use Rattle.ballots.specs.declared.message.Message.{Message}
 use Rattle.ballots.specs.declared.message.Message.TheVariants as message
 use Rattle.ballots.specs.declared.value.Pair.{Pair}
+use Rattle.ballots.specs.Values.{most_entries}
 use Rattle.proposer.specs.declared.sends.Asked.{Asked}
 use Rattle.proposer.specs.Hearing.{IsUnchanged as IsSameProposer}
 use Rattle.member.specs.declared.outcome.Send.{Send}
@@ -128,8 +129,8 @@ accept_send b e = send_to target.All (message.Accept e.position (record { ballot
 
 -- a message of at most 8 entries, and none that says what is applied
 abbrev pub IsShort : Body → Type 0
-IsShort (Promises w) = length w.entries ≤ 8
-IsShort (Chosen pairs) = length pairs ≤ 8
+IsShort (Promises w) = length w.entries ≤ most_entries
+IsShort (Chosen pairs) = length pairs ≤ most_entries
 IsShort (Replies client number reply) = ⊥
 IsShort (Answers client number applied answer) = ⊥
 IsShort (Behind client number applied) = ⊥

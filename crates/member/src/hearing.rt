@@ -2,7 +2,7 @@
 
 ghost use Rattle.std.specs.Prelude.{◌≡◌, ◌≤◌, ◌⊎◌, ◌∷◌, [], true, length};
 ghost use Rattle.ballots.specs.Messages.{body_of, packet, window_of};
-ghost use Rattle.ballots.specs.Values.{positions};
+ghost use Rattle.ballots.specs.Values.{positions, most_entries};
 ghost use Rattle.paxos.specs.WellFormed.{ArePairs, AreVotes, IsBallotOf, IsBody, IsPosition, IsSender, IsWindow, last_position};
 ghost use Rattle.member.specs.Steps.{Hears, IsHeard, IsNoQuestion};
 
@@ -70,8 +70,8 @@ fn last_position(position: u32, entries: &[Entry]) -> u32
 /// Whether a window ends with the last position, or with the last of 8 votes.
 #[tactic(auto, unfolding(ballots::specs::Values::positions))]
 fn ends(window: &Window) -> bool
-    ensures sound { result ≡ true → (window.now.covered ≡ positions) ⊎ ((length window.now.entries.items ≡ 8) × (last_position 0 window.now.entries.items ≡ window.now.covered)) }
-    ensures complete { (window.now.covered ≡ positions) ⊎ ((length window.now.entries.items ≡ 8) × (last_position 0 window.now.entries.items ≡ window.now.covered)) → result ≡ true }
+    ensures sound { result ≡ true → (window.now.covered ≡ positions) ⊎ ((length window.now.entries.items ≡ most_entries) × (last_position 0 window.now.entries.items ≡ window.now.covered)) }
+    ensures complete { (window.now.covered ≡ positions) ⊎ ((length window.now.entries.items ≡ most_entries) × (last_position 0 window.now.entries.items ≡ window.now.covered)) → result ≡ true }
 {
     window.covered == POSITIONS
         || window.entries.len() == MOST_ENTRIES
@@ -117,8 +117,8 @@ fn are_pairs(least: u32, pairs: &[Pair]) -> bool
 
 /// Whether one message may tell the values.
 fn is_chosen(pairs: &[Pair]) -> bool
-    ensures sound { result ≡ true → ArePairs 1 pairs.now × (1 ≤ length pairs.now) × (length pairs.now ≤ 8) }
-    ensures complete { ArePairs 1 pairs.now × (1 ≤ length pairs.now) × (length pairs.now ≤ 8) → result ≡ true }
+    ensures sound { result ≡ true → ArePairs 1 pairs.now × (1 ≤ length pairs.now) × (length pairs.now ≤ most_entries) }
+    ensures complete { ArePairs 1 pairs.now × (1 ≤ length pairs.now) × (length pairs.now ≤ most_entries) → result ≡ true }
 {
     1 <= pairs.len() && pairs.len() <= MOST_ENTRIES && are_pairs(1, pairs)
 }

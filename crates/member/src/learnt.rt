@@ -1,18 +1,16 @@
 //! What a learner has learnt from a position on.
 
 ghost use Rattle.std.specs.Prelude.{◌≡◌, ◌≤◌, ℕ, suc, IfOk, take, is_some};
-ghost use Rattle.ballots.specs.Values.{positions, IsRising};
+ghost use Rattle.ballots.specs.Values.{positions, IsRising, most_entries};
 ghost use Rattle.learner.specs.Terms.{learnt_of};
 ghost use Rattle.paxos.specs.Knowledge.{value_at};
 ghost use Rattle.proposer.specs.Beginning.{is_in};
 ghost use Rattle.member.specs.Learnt.{IsFirst, pairs_from};
 
 use ballots::Pair;
+use ballots::limits::MOST_ENTRIES;
 use learner::Learner;
 use std::alloc::{AllocError, Global};
-
-/// The pairs that one message tells at most.
-const MOST_PAIRS: u32 = 8;
 
 /// The positions that are learnt from one on, rising.
 #[tactic(auto, unfolding(ballots::specs::Values::positions))]
@@ -42,11 +40,11 @@ pub(super) fn lowest_pairs(
     from: u32,
 ) -> Result<Vec<Pair>, AllocError>
     requires most { from ≤ positions }
-    ensures { IfOk result (λ v. v.items ≡ take 8 (pairs_from (learnt_of learner.now) from)) }
+    ensures { IfOk result (λ v. v.items ≡ take most_entries (pairs_from (learnt_of learner.now) from)) }
 {
     let mut pairs = Vec::new(alloc);
     let mut next = from;
-    for _turn in 0..MOST_PAIRS {
+    for _turn in 0..MOST_ENTRIES {
         let Some(pair) = next_pair(learner, next)? else {
             return Ok(pairs);
         };

@@ -14,7 +14,7 @@ ghost use Rattle.acceptor.specs.Steps.{IsAsWas, Stopped};
 ghost use Rattle.ballots.specs.Messages.{Accept, Accepted, CatchUp, Chosen, Prepare, Promise, Submit, body_of, packet, window_of};
 ghost use Rattle.paxos.specs.Application.{Application};
 ghost use Rattle.proposer.specs.Hearing.{IsWindow};
-ghost use Rattle.ballots.specs.Ballot.{below, last_round};
+ghost use Rattle.ballots.specs.Ballot.{below, last_round, most_members};
 ghost use Rattle.ballots.specs.Values.{positions};
 ghost use Rattle.learner.specs.Hearing.{AreAbove};
 ghost use Rattle.std.specs.List.{All};
@@ -35,7 +35,7 @@ use ballots::limits::{LAST_ROUND, POSITIONS};
 use ballots::{Ballot, Members, Message, Pair, Request, Value, Vote, Window};
 use learner::Learner;
 use proposer::{Draft as ProposerDraft, Proposer, ProposerFault};
-use records::{Records, RecordsFault};
+use records::{PlannedRecords, Records, RecordsFault};
 use std::alloc::Global;
 use std::marker::Model;
 
@@ -52,12 +52,13 @@ pub struct Member<R: Records + Drop> {
 impl<R: Records + Drop> Model for Member<R> {
     ghost use Rattle.std.specs.Prelude.{◌≡◌, ◌≤◌};
     ghost use Rattle.member.specs.Steps.{Member as MemberTerm};
+    ghost use Rattle.ballots.specs.Ballot.{most_members};
 
     ghost Value = { MemberTerm R };
 
     ghost view = { λ x. record { members = x.members; number = x.number; acceptor = x.acceptor; proposer = x.proposer; learner = x.learner } };
 
-    ghost invariant = { λ x. (1 ≤ x.number) × (x.number ≤ x.members) × (x.members ≤ 63) × (x.proposer.members ≡ x.members)
+    ghost invariant = { λ x. (1 ≤ x.number) × (x.number ≤ x.members) × (x.members ≤ most_members) × (x.proposer.members ≡ x.members)
         × (x.proposer.member ≡ x.number) × (x.learner.members ≡ x.members) };
 }
 
@@ -337,22 +338,21 @@ impl<R: Records + Drop> Member<R> {
     }
 
     /// What comes of an Accept from a member ("Paxos Made Simple", section 2.2): all hear that it is accepted; nothing below what was
-    /// promised. Nothing that shows has changed.
+    /// promised.
     ///
     /// Fault: memory was refused.
     fn draft_accept(
-        &mut self,
+        &self,
         alloc: Global,
         sender: u8,
         position: u32,
         vote: &Vote,
     ) -> Result<Draft, MemberFault>
-        requires heard { IsHeard self.old.members (Hears (packet sender (Accept position vote.now) self.old.number)) }
-        requires runs { self.old.acceptor.is_stopped ≡ false }
-        ensures drafted { IfOk result (λ d. IsDrafted (Hears (packet sender (Accept position vote.now) self.old.number)) self.new d) }
-        ensures ready { IfOk result (λ d. IsReady self.new d) }
+        requires heard { IsHeard self.now.members (Hears (packet sender (Accept position vote.now) self.now.number)) }
+        requires runs { self.now.acceptor.is_stopped ≡ false }
+        ensures drafted { IfOk result (λ d. IsDrafted (Hears (packet sender (Accept position vote.now) self.now.number)) self.now d) }
+        ensures ready { IfOk result (λ d. IsReady self.now d) }
         ensures short { IfOk result (λ d. AreShort d.sends.items) }
-        ensures same { self.new ≡ self.old }
         ensures fault { IfErr result (λ fault. fault ≡ MemberFault.Memory) }
     {
         let Ok(draft) = self.acceptor.draft_accept(alloc, position, vote) else {
@@ -546,7 +546,7 @@ impl<R: Records + Drop> Member<R> {
     /// Makes what was drafted for this very member, which has not changed since: first what the acceptor writes. It gives what is sent and
     /// told. Whatever step the draft plans is taken.
     ///
-    /// It takes no memory but what its records take. Faults: memory was refused, and nothing has changed; the store failed, and the
+    /// Faults: memory was refused, and nothing has changed; the store failed, and the
     /// acceptor has stopped.
     pub fn commit(&mut self, alloc: Global, draft: Draft) -> Result<Outcome, RecordsFault>
         requires ready { IsReady self.old draft }
@@ -574,7 +574,7 @@ impl<R: Records + Drop> Member<R> {
     /// Makes a change: first what the acceptor writes.
     fn make(&mut self, alloc: Global, change: Change) -> Result<(), RecordsFault>
         requires ready { MayBeMade self.old change }
-        ensures range { (1 ≤ self.old.number) × (self.old.number ≤ self.old.members) × (self.old.members ≤ 63) }
+        ensures range { (1 ≤ self.old.number) × (self.old.number ≤ self.old.members) × (self.old.members ≤ most_members) }
         ensures made { OnOk result (self.old.acceptor.is_stopped ≡ false → IsMade self.old change self.new) }
         ensures memory { IsErrOf result RecordsFault.Memory → IsAsWas R.failed self.old.acceptor self.new.acceptor }
         ensures store { IsErrOf result RecordsFault.Store → Stopped R.stands R.is_kept R.failed self.old.acceptor self.new.acceptor (write_in change) }
@@ -608,10 +608,20 @@ impl<R: Records + Drop> Member<R> {
         Ok(())
     }
 
+    /// The records, as they were left.
+    pub fn into_records(self) -> R
+        ensures records { result ≡ self.acceptor.records }
+        ensures stands { self.acceptor.is_stopped ≡ false → R.is_kept result → R.stands result self.acceptor.kept self.acceptor.kept }
+    {
+        self.acceptor.into_records()
+    }
+}
+
+impl<R: PlannedRecords + Drop> Member<R> {
     /// Makes the write of what was drafted for this very member, which has not changed since, and nothing else: a member that stops
     /// inside its write. What follows is `into_records`. A store that would fail in this write by a plan makes it.
     ///
-    /// It takes no memory but what its records take. Faults: as of `commit`.
+    /// Faults: as of `commit`.
     pub fn cut(&mut self, alloc: Global, draft: Draft) -> Result<(), RecordsFault>
         requires ready { IsReady self.old draft }
         ensures wrote { OnOk result (self.old.acceptor.is_stopped ≡ false → (self.new.acceptor.kept ≡ written (write_in draft.change) self.old.acceptor.kept) × (self.new.acceptor.is_stopped ≡ false)) }
@@ -646,14 +656,6 @@ impl<R: Records + Drop> Member<R> {
             Change::News(_, _) => Ok(()),
             Change::Submit(_) => Ok(()),
         }
-    }
-
-    /// The records, as they were left.
-    pub fn into_records(self) -> R
-        ensures records { result ≡ self.acceptor.records }
-        ensures stands { self.acceptor.is_stopped ≡ false → R.is_kept result → R.stands result self.acceptor.kept self.acceptor.kept }
-    {
-        self.acceptor.into_records()
     }
 }
 

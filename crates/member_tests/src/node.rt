@@ -6,7 +6,7 @@ ghost use Rattle.member.specs.Steps.{IsHeard, input_of};
 use super::words::number_of;
 use ballots::{Ballot, Members, Message};
 use member::{Draft, Input, Member, MemberFault, Outcome, Tick};
-use records::{Records, RecordsFault};
+use records::{PlannedRecords, Records, RecordsFault};
 use std::alloc::Global;
 use std::process::Abort;
 
@@ -178,6 +178,26 @@ impl<R: Records + Drop> Node<R> {
             .expect(rt, "memory is refused twice")
     }
 
+    // Its store fails in the write of a draft, unless memory is refused. What it shows is as it was.
+    pub(super) fn fail(self, rt: &impl Abort, alloc: Global, draft: Draft) -> Result<R, Node<R>>
+        requires ready { IsReady self.member draft }
+    {
+        let Node { mut member } = self;
+        let before = shown(&member);
+        let fault = member.commit(alloc, draft).err().expect(rt, "a fault");
+        assert!(rt; shown(&member) == before);
+        match fault {
+            RecordsFault::Memory => Err(Node { member }),
+            RecordsFault::Store => Ok(member.into_records()),
+        }
+    }
+
+    pub(super) fn into_records(self) -> R {
+        self.member.into_records()
+    }
+}
+
+impl<R: PlannedRecords + Drop> Node<R> {
     // It stops inside the write of a draft, and has promised this ballot then; unless memory is refused, and nothing has changed.
     pub(super) fn cut(
         self,
@@ -197,23 +217,5 @@ impl<R: Records + Drop> Node<R> {
             Err(RecordsFault::Memory) => Err(Node { member }),
             Err(RecordsFault::Store) => panic!(rt; "the store fails"),
         }
-    }
-
-    // Its store fails in the write of a draft, unless memory is refused. What it shows is as it was.
-    pub(super) fn fail(self, rt: &impl Abort, alloc: Global, draft: Draft) -> Result<R, Node<R>>
-        requires ready { IsReady self.member draft }
-    {
-        let Node { mut member } = self;
-        let before = shown(&member);
-        let fault = member.commit(alloc, draft).err().expect(rt, "a fault");
-        assert!(rt; shown(&member) == before);
-        match fault {
-            RecordsFault::Memory => Err(Node { member }),
-            RecordsFault::Store => Ok(member.into_records()),
-        }
-    }
-
-    pub(super) fn into_records(self) -> R {
-        self.member.into_records()
     }
 }

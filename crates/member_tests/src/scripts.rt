@@ -12,7 +12,7 @@ use super::same::say_the_same;
 use super::words::{Words, cut, message, number_of};
 use ballots::{Ballot, Pair};
 use member::{MemberFault, Send, Target};
-use records::{MemRecords, Records};
+use records::{MemRecords, PlannedRecords, Records};
 use std::alloc::Global;
 use std::process::Abort;
 
@@ -148,7 +148,7 @@ pub(super) fn play_in_memory(rt: &impl Abort, alloc: Global, place: (u8, u8), sc
 
 // An event comes to a member, which would send this, tells nothing, stops inside the write and has promised a ballot then; unless memory is
 // refused.
-fn try_cut<R: Records + Drop>(
+fn try_cut<R: PlannedRecords + Drop>(
     rt: &impl Abort,
     alloc: Global,
     mut node: Node<R>,
@@ -166,7 +166,7 @@ fn try_cut<R: Records + Drop>(
 }
 
 // An event comes to a member, which would send and tell this, stops inside the write and has promised a ballot then. Its records are left.
-pub(super) fn stop_in<R: Records + Drop>(
+pub(super) fn stop_in<R: PlannedRecords + Drop>(
     rt: &impl Abort,
     alloc: Global,
     node: Node<R>,

@@ -2,7 +2,7 @@
 
 use super::scripts::{fail, play, stop_in};
 use ballots::Ballot;
-use records::{MemRecords, Records, ScriptRecords};
+use records::{MemRecords, PlannedRecords, Records, ScriptRecords};
 use std::alloc::Global;
 use std::process::Abort;
 
@@ -21,7 +21,7 @@ fn expect_writes(rt: &impl Abort, records: &ScriptRecords, writes: u64, failures
 }
 
 // A member stops inside the write of what comes of an event, and has promised a ballot then. Opened again, it plays a script.
-fn stop<R: Records + Drop>(
+fn stop<R: PlannedRecords + Drop>(
     rt: &impl Abort,
     alloc: Global,
     records: R,

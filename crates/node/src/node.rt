@@ -1,6 +1,6 @@
 //! A node.
 
-ghost use Rattle.std.specs.Prelude.{◌≡◌, ◌≤◌, ◌⊎◌, ◌↔◌, ℕ, [], false, true, map, IfOk, IfErr, OnErr, OnOk, IsErrOf, None, Ok};
+ghost use Rattle.std.specs.Prelude.{◌≡◌, ◌≤◌, ◌⊎◌, ◌↔◌, ℕ, [], false, true, map, IfOk, IfErr, OnErr, OnOk, IsErrOf, None};
 ghost use Rattle.std.specs.Option.{option_copied};
 ghost use Rattle.acceptor.specs.Drafts.{IsRefused};
 ghost use Rattle.acceptor.specs.Steps.{IsAsWas, Stopped};
@@ -23,14 +23,15 @@ ghost use Rattle.records.specs.Law.{Went};
 use super::applying::apply_learnt;
 use super::draft::Draft;
 use super::fault::{NodeFault, OpenFault};
-use super::outbox::{Outbox, Reading, Sent};
+use super::outbox::{Outbox, Reading};
 use super::spelling::spell_all;
 use applications::Application;
 use ballots::{Ask, Message, Setup, Value};
+use held_values::beside;
 use member::{Draft as MemberDraft, Input, Member, Tick};
 use messages::{Packet, WireFault, decode};
-use records::{Records, RecordsFault};
-use std::alloc::{AllocError, Global};
+use records::{PlannedRecords, Records, RecordsFault};
+use std::alloc::Global;
 use std::marker::Model;
 
 /// A node: one of the members of a group, with the application that it replicates.
@@ -60,20 +61,6 @@ fn open_fault(fault: RecordsFault) -> OpenFault
     match fault {
         RecordsFault::Memory => OpenFault::Memory,
         RecordsFault::Store => OpenFault::Store,
-    }
-}
-
-/// Two values, if the second is there.
-fn together<T: Drop>(
-    first: T,
-    second: Result<Vec<Sent>, AllocError>,
-) -> Result<(T, Vec<Sent>), NodeFault>
-    ensures both { IfOk result (λ p. (p.0 ≡ first) × (second ≡ Ok p.1)) }
-    ensures fault { IfErr result (λ fault. fault ≡ NodeFault.Memory) }
-{
-    match second {
-        Ok(second) => Ok((first, second)),
-        Err(_) => Err(NodeFault::Memory),
     }
 }
 
@@ -175,7 +162,7 @@ impl<R: Records + Drop, A: Application + Drop> Node<R, A> {
     {
         let group = self.setup.group();
         let sent = spell_all(alloc, group, self.setup.member(), draft.sends());
-        let (member, sent) = together(draft, sent)?;
+        let (member, sent) = beside(draft, sent)?;
         Ok(Draft { member, sent })
     }
 
@@ -287,30 +274,6 @@ impl<R: Records + Drop, A: Application + Drop> Node<R, A> {
                     is_short,
                 })
             }
-            Err(RecordsFault::Memory) => Err(NodeFault::Memory),
-            Err(RecordsFault::Store) => Err(NodeFault::Store),
-        }
-    }
-
-    /// Makes just the write of what was drafted for this very node, which has not changed since: what a stop inside the write leaves, where the
-    /// write is kept. The node may only be stopped then.
-    ///
-    /// Faults: memory was refused, and nothing that shows has changed; the store failed, and the node has stopped.
-    pub fn cut(&mut self, alloc: Global, draft: Draft) -> Result<(), NodeFault>
-        requires ready { IsReady self.old.member draft.member }
-        ensures wrote { OnOk result (self.old.member.acceptor.is_stopped ≡ false
-            → (self.new.member.acceptor.kept ≡ written (write_in draft.member.change) self.old.member.acceptor.kept) × (self.new.member.acceptor.is_stopped ≡ false)) }
-        ensures memory { IsErrOf result NodeFault.Memory → IsAsWas R.failed self.old.member.acceptor self.new.member.acceptor
-            × ((u : Running) → RunsAs A.has_applied u self.old → RunsAs A.has_applied u self.new) }
-        ensures store { IsErrOf result NodeFault.Store → Stopped R.stands R.is_kept R.failed self.old.member.acceptor self.new.member.acceptor (write_in draft.member.change) }
-        ensures faults { IfErr result (λ fault. (fault ≡ NodeFault.Memory) ⊎ (fault ≡ NodeFault.Store)) }
-        ensures writes { IsErrOf result NodeFault.Store → self.old.member.acceptor.is_stopped ≡ false → writes (write_in draft.member.change) ≡ true }
-        ensures went { self.old.member.acceptor.is_stopped ≡ false → R.is_kept self.new.member.acceptor.records → Went (R.stands self.new.member.acceptor.records) (R.fates self.old.member.acceptor.records) (R.fates self.new.member.acceptor.records) true self.old.member.acceptor.kept (write_in draft.member.change) (of_records result) }
-        ensures kept { R.is_kept self.new.member.acceptor.records → R.is_kept self.old.member.acceptor.records }
-        ensures setup { self.new.setup ≡ self.old.setup }
-    {
-        match self.member.cut(alloc, draft.member) {
-            Ok(()) => Ok(()),
             Err(RecordsFault::Memory) => Err(NodeFault::Memory),
             Err(RecordsFault::Store) => Err(NodeFault::Store),
         }
@@ -456,5 +419,31 @@ impl<R: Records + Drop, A: Application + Drop> Node<R, A> {
         ensures stands { self.member.acceptor.is_stopped ≡ false → R.is_kept result.1 → R.stands result.1 self.member.acceptor.kept self.member.acceptor.kept }
     {
         (self.setup, self.member.into_records())
+    }
+}
+
+impl<R: PlannedRecords + Drop, A: Application + Drop> Node<R, A> {
+    /// Makes just the write of what was drafted for this very node, which has not changed since: what a stop inside the write leaves, where the
+    /// write is kept. The node may only be stopped then.
+    ///
+    /// Faults: memory was refused, and nothing that shows has changed; the store failed, and the node has stopped.
+    pub fn cut(&mut self, alloc: Global, draft: Draft) -> Result<(), NodeFault>
+        requires ready { IsReady self.old.member draft.member }
+        ensures wrote { OnOk result (self.old.member.acceptor.is_stopped ≡ false
+            → (self.new.member.acceptor.kept ≡ written (write_in draft.member.change) self.old.member.acceptor.kept) × (self.new.member.acceptor.is_stopped ≡ false)) }
+        ensures memory { IsErrOf result NodeFault.Memory → IsAsWas R.failed self.old.member.acceptor self.new.member.acceptor
+            × ((u : Running) → RunsAs A.has_applied u self.old → RunsAs A.has_applied u self.new) }
+        ensures store { IsErrOf result NodeFault.Store → Stopped R.stands R.is_kept R.failed self.old.member.acceptor self.new.member.acceptor (write_in draft.member.change) }
+        ensures faults { IfErr result (λ fault. (fault ≡ NodeFault.Memory) ⊎ (fault ≡ NodeFault.Store)) }
+        ensures writes { IsErrOf result NodeFault.Store → self.old.member.acceptor.is_stopped ≡ false → writes (write_in draft.member.change) ≡ true }
+        ensures went { self.old.member.acceptor.is_stopped ≡ false → R.is_kept self.new.member.acceptor.records → Went (R.stands self.new.member.acceptor.records) (R.fates self.old.member.acceptor.records) (R.fates self.new.member.acceptor.records) true self.old.member.acceptor.kept (write_in draft.member.change) (of_records result) }
+        ensures kept { R.is_kept self.new.member.acceptor.records → R.is_kept self.old.member.acceptor.records }
+        ensures setup { self.new.setup ≡ self.old.setup }
+    {
+        match self.member.cut(alloc, draft.member) {
+            Ok(()) => Ok(()),
+            Err(RecordsFault::Memory) => Err(NodeFault::Memory),
+            Err(RecordsFault::Store) => Err(NodeFault::Store),
+        }
     }
 }

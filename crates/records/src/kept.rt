@@ -1,6 +1,6 @@
 //! The record that an acceptor keeps over stops.
 
-ghost use Rattle.std.specs.Prelude.{◌≡◌, ◌≤◌, false, [], IfOk, OnErr, OnOk};
+ghost use Rattle.std.specs.Prelude.{◌≡◌, ◌≤◌, false, true, [], IfErr, IfOk, OnErr, OnOk};
 ghost use Rattle.ballots.specs.Ballot.{IsBallot, below, no_ballot};
 ghost use Rattle.ballots.specs.Values.{positions};
 ghost use Rattle.ballots.specs.Messages.{window_of};
@@ -9,7 +9,7 @@ ghost use Rattle.position_map.specs.Slots.{HasSlot, Rise, filled};
 ghost use Rattle.records.specs.Kept.{IsRising, entries_of};
 ghost use Rattle.records.specs.Law.{Counts, Goes, Puts};
 
-use super::records::{Records, RecordsFault};
+use super::records::{PlannedRecords, Records, RecordsFault};
 use ballots::limits::{MOST_ENTRIES, POSITIONS};
 use ballots::{Ballot, Entry, Vote, Window};
 use position_map::PositionMap;
@@ -109,20 +109,9 @@ impl Record {
         self.promise = ballot;
     }
 
-    /// Makes room for a vote at a position, so that the vote takes no memory there.
-    ///
-    /// The record stays the same. Room that was made before and not used is taken away. It fails where memory is refused.
-    pub fn reserve(&mut self, position: u32) -> Result<(), AllocError>
-        requires least { 1 ≤ position }
-        ensures same { self.new ≡ self.old }
-    {
-        self.votes.forget_rooms();
-        self.votes.reserve(position)
-    }
-
     /// Records a vote at a position, and its ballot as the promise.
     ///
-    /// It takes no memory where there is a vote, or where room was made last. Where memory is refused, nothing changes.
+    /// It fails where memory is refused, and then nothing has changed.
     pub fn set_vote(&mut self, position: u32, vote: Vote) -> Result<(), AllocError>
         requires least { 1 ≤ position }
         ensures voted { OnOk result (self.new ≡ written (NewVote position vote) self.old) }
@@ -134,13 +123,14 @@ impl Record {
         Ok(())
     }
 
-    /// Promises a ballot once records have acknowledged it. Where they refuse, the record stays the same. A write that is cut is let pass.
+    /// Promises a ballot once records have acknowledged it.
+    ///
+    /// Faults, which leave the record as it is: memory was refused; the store failed.
     pub fn put_promise<R: Records>(
         &mut self,
         alloc: Global,
         records: &mut R,
         ballot: Ballot,
-        is_cut: bool,
     ) -> Result<(), RecordsFault>
         requires ballot { IsBallot ballot }
         requires not_below { below ballot self.old.promise ≡ false }
@@ -149,30 +139,25 @@ impl Record {
         ensures made { OnOk result (self.new ≡ written (NewPromise ballot) self.old) }
         ensures refused { OnErr result (self.new ≡ self.old) }
         ensures law { R.is_kept records.new → Puts (R.stands records.new) self.old (written (NewPromise ballot) self.old) result }
-        ensures goes { R.is_kept records.new → Goes (R.stands records.new) (R.fates records.old) (R.fates records.new) is_cut self.old (written (NewPromise ballot) self.old) result }
+        ensures goes { R.is_kept records.new → Goes (R.stands records.new) (R.fates records.old) (R.fates records.new) false self.old (written (NewPromise ballot) self.old) result }
         ensures kept { R.is_kept records.new → R.is_kept records.old }
         ensures counts { Counts (R.failed records.old) (R.failed records.new) result }
         ensures passes { R.passes records.new ≡ false }
     {
-        if is_cut {
-            records.let_pass();
-        }
         records.put_promise(alloc, ballot)?;
         self.set_promise(ballot);
         Ok(())
     }
 
-    /// Records a vote, and its ballot as the promise, once records have acknowledged it. Where they refuse, the record stays the
-    /// same.
+    /// Records a vote, and its ballot as the promise, once records have acknowledged it.
     ///
-    /// It takes no memory of its own where there is a vote, or where room was made last. A write that is cut is let pass.
+    /// Faults: as of `put_promise`.
     pub fn put_vote<R: Records>(
         &mut self,
         alloc: Global,
         records: &mut R,
         position: u32,
         vote: Vote,
-        is_cut: bool,
     ) -> Result<(), RecordsFault>
         requires ballot { IsBallot vote.ballot }
         requires least { 1 ≤ position }
@@ -183,22 +168,94 @@ impl Record {
         ensures made { OnOk result (self.new ≡ written (NewVote position vote) self.old) }
         ensures refused { OnErr result (self.new ≡ self.old) }
         ensures law { R.is_kept records.new → Puts (R.stands records.new) self.old (written (NewVote position vote) self.old) result }
-        ensures goes { R.is_kept records.new → Goes (R.stands records.new) (R.fates records.old) (R.fates records.new) is_cut self.old (written (NewVote position vote) self.old) result }
+        ensures goes { R.is_kept records.new → Goes (R.stands records.new) (R.fates records.old) (R.fates records.new) false self.old (written (NewVote position vote) self.old) result }
         ensures kept { R.is_kept records.new → R.is_kept records.old }
         ensures counts { Counts (R.failed records.old) (R.failed records.new) result }
         ensures passes { R.passes records.new ≡ false }
     {
         // The room comes first, so that nothing fails once the records have acknowledged the vote.
-        if self.votes.reserve(position).is_err() {
-            return Err(RecordsFault::Memory);
-        }
-        if is_cut {
-            records.let_pass();
-        }
+        make_room(&mut self.votes, position)?;
         records.put_vote(alloc, vote.ballot, position, &vote.value)?;
         self.promise = vote.ballot;
         fill(&mut self.votes, position, vote);
         Ok(())
+    }
+
+    /// Promises a ballot as `put_promise` does, in a write that does not fail by a plan.
+    ///
+    /// Faults: as of `put_promise`.
+    pub fn cut_promise<R: PlannedRecords>(
+        &mut self,
+        alloc: Global,
+        records: &mut R,
+        ballot: Ballot,
+    ) -> Result<(), RecordsFault>
+        requires ballot { IsBallot ballot }
+        requires not_below { below ballot self.old.promise ≡ false }
+        requires stands { R.is_kept records.old → R.stands records.old self.old self.old }
+        requires passes { R.passes records.old ≡ false }
+        ensures made { OnOk result (self.new ≡ written (NewPromise ballot) self.old) }
+        ensures refused { OnErr result (self.new ≡ self.old) }
+        ensures law { R.is_kept records.new → Puts (R.stands records.new) self.old (written (NewPromise ballot) self.old) result }
+        ensures goes { R.is_kept records.new → Goes (R.stands records.new) (R.fates records.old) (R.fates records.new) true self.old (written (NewPromise ballot) self.old) result }
+        ensures kept { R.is_kept records.new → R.is_kept records.old }
+        ensures counts { Counts (R.failed records.old) (R.failed records.new) result }
+        ensures passes { R.passes records.new ≡ false }
+    {
+        records.let_pass();
+        records.put_promise(alloc, ballot)?;
+        self.set_promise(ballot);
+        Ok(())
+    }
+
+    /// Records a vote as `put_vote` does, in a write that does not fail by a plan.
+    ///
+    /// Faults: as of `put_promise`.
+    pub fn cut_vote<R: PlannedRecords>(
+        &mut self,
+        alloc: Global,
+        records: &mut R,
+        position: u32,
+        vote: Vote,
+    ) -> Result<(), RecordsFault>
+        requires ballot { IsBallot vote.ballot }
+        requires least { 1 ≤ position }
+        requires most { position ≤ positions }
+        requires not_below { below vote.ballot self.old.promise ≡ false }
+        requires stands { R.is_kept records.old → R.stands records.old self.old self.old }
+        requires passes { R.passes records.old ≡ false }
+        ensures made { OnOk result (self.new ≡ written (NewVote position vote) self.old) }
+        ensures refused { OnErr result (self.new ≡ self.old) }
+        ensures law { R.is_kept records.new → Puts (R.stands records.new) self.old (written (NewVote position vote) self.old) result }
+        ensures goes { R.is_kept records.new → Goes (R.stands records.new) (R.fates records.old) (R.fates records.new) true self.old (written (NewVote position vote) self.old) result }
+        ensures kept { R.is_kept records.new → R.is_kept records.old }
+        ensures counts { Counts (R.failed records.old) (R.failed records.new) result }
+        ensures passes { R.passes records.new ≡ false }
+    {
+        // The room comes first, so that nothing fails once the records have acknowledged the vote.
+        make_room(&mut self.votes, position)?;
+        records.let_pass();
+        records.put_vote(alloc, vote.ballot, position, &vote.value)?;
+        self.promise = vote.ballot;
+        fill(&mut self.votes, position, vote);
+        Ok(())
+    }
+}
+
+/// Makes room for a vote at a position, and takes away what room a refused write has left elsewhere. The votes stay the same.
+///
+/// It fails where memory is refused.
+fn make_room(votes: &mut PositionMap<Vote>, position: u32) -> Result<(), RecordsFault>
+    requires least { 1 ≤ position }
+    ensures room { OnOk result (HasSlot position votes.new) }
+    ensures same { filled votes.new ≡ filled votes.old }
+    ensures rise { Rise 0 votes.new }
+    ensures memory { IfErr result (λ fault. fault ≡ RecordsFault.Memory) }
+{
+    votes.forget_rooms();
+    match votes.reserve(position) {
+        Ok(()) => Ok(()),
+        Err(_) => Err(RecordsFault::Memory),
     }
 }
 

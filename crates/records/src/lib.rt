@@ -8,5 +8,5 @@ mod script;
 
 pub use kept::Record;
 pub use memory::MemRecords;
-pub use records::{Records, RecordsFault};
+pub use records::{PlannedRecords, Records, RecordsFault};
 pub use script::ScriptRecords;

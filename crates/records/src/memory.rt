@@ -5,7 +5,7 @@ ghost use Rattle.ballots.specs.Ballot.{no_ballot};
 ghost use Rattle.paxos.specs.Records.{NewVote, written};
 
 use super::kept::Record;
-use super::records::{Records, RecordsFault};
+use super::records::{PlannedRecords, Records, RecordsFault};
 use ballots::{Ballot, Value, Vote};
 use std::alloc::Global;
 use std::marker::Model;
@@ -71,11 +71,13 @@ impl Records for MemRecords {
         copy_vote(&mut self.kept, ballot, position, value)
     }
 
-    fn let_pass(&mut self) {}
-
     fn failures(&self) -> u64 {
         0
     }
+}
+
+impl PlannedRecords for MemRecords {
+    fn let_pass(&mut self) {}
 }
 
 /// Records a vote for a copy of a value. Where memory is refused, nothing changes.

@@ -84,16 +84,19 @@ pub trait Records {
         ensures counts { Counts (failed self.old) (failed self.new) result }
         ensures passes { passes self.new ≡ false };
 
-    /// Lets the next write pass, if it is one that fails by a plan: the member stops in it, and what is left of it is said elsewhere. It
-    /// ends with the next call. A store that has no plans does nothing.
-    fn let_pass(&mut self)
-        ensures crash { is_kept self.new → (a b : RecordTerm) → stands self.old a b → stands self.new a b }
-        ensures kept { is_kept self.new → is_kept self.old }
-        ensures failed { failed self.new ≡ failed self.old }
-        ensures fates { (k : ℕ) → fates self.new k ≡ fates self.old k }
-        ensures passes { (left : Bool) → fates self.old 0 ≡ Some (Some left) → passes self.new ≡ true };
-
     /// In how many calls the store answered an error other than want of memory; at 2^64 - 1 it stays.
     fn failures(&self) -> u64
         ensures { result ≡ failed self.now };
+}
+
+/// Records whose writes fail by a plan, if they fail: what a member that stops inside a write leaves can be told of them alone.
+pub trait PlannedRecords: Records {
+    /// Lets the next write pass, if it is one that fails by the plan: the member stops in it, and what is left of it is said elsewhere. It
+    /// ends with the next call. Records that never fail do nothing.
+    fn let_pass(&mut self)
+        ensures crash { Self.is_kept self.new → (a b : RecordTerm) → Self.stands self.old a b → Self.stands self.new a b }
+        ensures kept { Self.is_kept self.new → Self.is_kept self.old }
+        ensures failed { Self.failed self.new ≡ Self.failed self.old }
+        ensures fates { (k : ℕ) → Self.fates self.new k ≡ Self.fates self.old k }
+        ensures passes { (left : Bool) → Self.fates self.old 0 ≡ Some (Some left) → Self.passes self.new ≡ true };
 }

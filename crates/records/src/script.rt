@@ -10,7 +10,7 @@ ghost use Rattle.records.specs.Script.{Script, GoesBy, IsKept, Stands, fails_at,
 
 use super::kept::Record;
 use super::memory::copy_vote;
-use super::records::{Records, RecordsFault};
+use super::records::{PlannedRecords, Records, RecordsFault};
 use ballots::{Ballot, Value, Vote};
 use std::alloc::{AllocError, Global};
 use std::collections::BTreeMap;
@@ -194,11 +194,13 @@ impl Records for ScriptRecords {
         self.end_write(fate)
     }
 
-    fn let_pass(&mut self) {
-        self.passes = true;
-    }
-
     fn failures(&self) -> u64 {
         self.failures
+    }
+}
+
+impl PlannedRecords for ScriptRecords {
+    fn let_pass(&mut self) {
+        self.passes = true;
     }
 }

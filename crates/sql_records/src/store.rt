@@ -126,8 +126,6 @@ impl<S: Alter> Records for SqlRecords<S> {
         answer(&mut self.failures, done)
     }
 
-    fn let_pass(&mut self) {}
-
     fn failures(&self) -> u64 {
         self.failures
     }

@@ -16,7 +16,7 @@ use applications::Application;
 use ballots::Request;
 use events::{Event, Step};
 use member::Tick;
-use records::Records;
+use records::{PlannedRecords, Records};
 use std::alloc::{AllocError, Global};
 
 impl<R: Records + Drop, A: Application + Drop> State<R, A> {
@@ -87,6 +87,41 @@ impl<R: Records + Drop, A: Application + Drop> State<R, A> {
         self.stop(number);
     }
 
+    /// A member starts, if it is stopped and its store does not fail.
+    ///
+    /// It fails where memory is refused, and then nothing that shows has changed.
+    pub(super) fn start_at(&mut self, alloc: Global, number: u8) -> Result<(), AllocError>
+        requires held { IsHeld self.old }
+        requires least { 1 ≤ number }
+        requires most { number ≤ self.old.members }
+        ensures held { IsHeld self.new }
+        ensures happened { OnOk result (HasHappened R.stands R.is_kept R.failed R.fates A.has_applied (A.meaning self.old.names) (Start number) (shown self.old) (shown self.new)) }
+        ensures refused { OnErr result (IsUnmoved R.stands R.is_kept A.has_applied (shown self.old) (shown self.new)) }
+    {
+        self.start(alloc, number)
+    }
+
+    /// A client sends a request to a member.
+    ///
+    /// It fails where memory is refused, and then nothing that shows has changed.
+    pub(super) fn submit(
+        &mut self,
+        alloc: Global,
+        number: u8,
+        request: &Request,
+    ) -> Result<(), AllocError>
+        requires held { IsHeld self.old }
+        requires least { 1 ≤ number }
+        requires most { number ≤ self.old.members }
+        ensures held { IsHeld self.new }
+        ensures happened { OnOk result (HasHappened R.stands R.is_kept R.failed R.fates A.has_applied (A.meaning self.old.names) (Submits number request.now) (shown self.old) (shown self.new)) }
+        ensures refused { OnErr result (IsUnmoved R.stands R.is_kept A.has_applied (shown self.old) (shown self.new)) }
+    {
+        self.mail.submit(alloc, self.group, number, request)
+    }
+}
+
+impl<R: PlannedRecords + Drop, A: Application + Drop> State<R, A> {
     /// A member stops in the write of a Begin, which is kept.
     ///
     /// It fails where memory is refused, and then nothing that shows has changed.
@@ -172,39 +207,6 @@ impl<R: Records + Drop, A: Application + Drop> State<R, A> {
         }
         self.stop(delivery.target);
         Ok(())
-    }
-
-    /// A member starts, if it is stopped and its store does not fail.
-    ///
-    /// It fails where memory is refused, and then nothing that shows has changed.
-    pub(super) fn start_at(&mut self, alloc: Global, number: u8) -> Result<(), AllocError>
-        requires held { IsHeld self.old }
-        requires least { 1 ≤ number }
-        requires most { number ≤ self.old.members }
-        ensures held { IsHeld self.new }
-        ensures happened { OnOk result (HasHappened R.stands R.is_kept R.failed R.fates A.has_applied (A.meaning self.old.names) (Start number) (shown self.old) (shown self.new)) }
-        ensures refused { OnErr result (IsUnmoved R.stands R.is_kept A.has_applied (shown self.old) (shown self.new)) }
-    {
-        self.start(alloc, number)
-    }
-
-    /// A client sends a request to a member.
-    ///
-    /// It fails where memory is refused, and then nothing that shows has changed.
-    pub(super) fn submit(
-        &mut self,
-        alloc: Global,
-        number: u8,
-        request: &Request,
-    ) -> Result<(), AllocError>
-        requires held { IsHeld self.old }
-        requires least { 1 ≤ number }
-        requires most { number ≤ self.old.members }
-        ensures held { IsHeld self.new }
-        ensures happened { OnOk result (HasHappened R.stands R.is_kept R.failed R.fates A.has_applied (A.meaning self.old.names) (Submits number request.now) (shown self.old) (shown self.new)) }
-        ensures refused { OnErr result (IsUnmoved R.stands R.is_kept A.has_applied (shown self.old) (shown self.new)) }
-    {
-        self.mail.submit(alloc, self.group, number, request)
     }
 
     /// What an event does. The member that it names, if it names one, is one of the world's.

@@ -11,6 +11,7 @@ ghost use Rattle.events.specs.Events.{event_of, is_for};
 ghost use Rattle.world.specs.Reached.{Reached, ReachedSmoothly};
 ghost use Rattle.world.specs.Runs.{AllRun, AreUpToDate, HasDone, IsUnwritten, LeadsTo, OneIsBehind};
 ghost use Rattle.world.specs.Shown.{AreKept};
+ghost use Rattle.ballots.specs.Ballot.{most_members};
 
 use crate::fault::WorldFault;
 use crate::mail::Mail;
@@ -21,7 +22,7 @@ use ballots::{Members, Setup};
 use document_names::Names;
 use events::Event;
 use node::{Node, OpenFault};
-use records::{Records, RecordsFault};
+use records::{PlannedRecords, Records, RecordsFault};
 use std::alloc::Global;
 
 /// The number of a world's group.
@@ -78,7 +79,7 @@ fn place_all<R: Records + Drop, A: Application + Drop>(
     stores: Vec<R>,
 ) -> Result<Vec<Seat<R, A>>, RecordsFault>
     requires few { length stores.items ≤ members }
-    requires most { members ≤ 63 }
+    requires most { members ≤ most_members }
     requires unwritten { (r : R) → Has stores.items r → IsUnwritten R.stands R.is_kept r }
     ensures placed { IfOk result (λ seats. ArePlaced R.is_kept A.has_applied group members names.now seats.items) }
     ensures many { IfOk result (λ seats. length seats.items ≡ length stores.items) }
@@ -134,26 +135,6 @@ impl<R: Records + Drop, A: Application + Drop> State<R, A> {
         })
     }
 
-    /// All events happen in order. Each member that they name is one of the world's.
-    ///
-    /// It fails where memory is refused: with how many events have happened.
-    pub(super) fn run(&mut self, alloc: Global, events: &[Event]) -> Result<(), WorldFault>
-        requires held { IsHeld self.old }
-        requires named { list_all (is_for self.old.members) events.now ≡ true }
-        ensures held { IsHeld self.new }
-        ensures done { OnOk result (LeadsTo R.stands R.is_kept A.has_applied (A.meaning self.old.names) (shown self.old) (shown self.new) (map event_of events.now)) }
-        ensures refused { IfErr result (λ fault. HasDone R.stands R.is_kept A.has_applied (A.meaning self.old.names) (shown self.old) (shown self.new) (map event_of events.now) fault) }
-        ensures member { IsErrOf result WorldFault.Member → ⊥ }
-        ensures store { IsErrOf result WorldFault.Store → ⊥ }
-    {
-        for before in 0..events.len() {
-            let Ok(()) = self.happen(alloc, &events[before]) else {
-                return Err(WorldFault::Memory(before as u64));
-            };
-        }
-        Ok(())
-    }
-
     /// Whether each member runs.
     pub(super) fn all_run(&self) -> bool
         ensures { result ≡ list_all (λ s. is_some s.node) self.now.seats.items }
@@ -177,5 +158,27 @@ impl<R: Records + Drop, A: Application + Drop> State<R, A> {
             }
         }
         true
+    }
+}
+
+impl<R: PlannedRecords + Drop, A: Application + Drop> State<R, A> {
+    /// All events happen in order. Each member that they name is one of the world's.
+    ///
+    /// It fails where memory is refused: with how many events have happened.
+    pub(super) fn run(&mut self, alloc: Global, events: &[Event]) -> Result<(), WorldFault>
+        requires held { IsHeld self.old }
+        requires named { list_all (is_for self.old.members) events.now ≡ true }
+        ensures held { IsHeld self.new }
+        ensures done { OnOk result (LeadsTo R.stands R.is_kept A.has_applied (A.meaning self.old.names) (shown self.old) (shown self.new) (map event_of events.now)) }
+        ensures refused { IfErr result (λ fault. HasDone R.stands R.is_kept A.has_applied (A.meaning self.old.names) (shown self.old) (shown self.new) (map event_of events.now) fault) }
+        ensures member { IsErrOf result WorldFault.Member → ⊥ }
+        ensures store { IsErrOf result WorldFault.Store → ⊥ }
+    {
+        for before in 0..events.len() {
+            let Ok(()) = self.happen(alloc, &events[before]) else {
+                return Err(WorldFault::Memory(before as u64));
+            };
+        }
+        Ok(())
     }
 }

@@ -13,7 +13,7 @@ use applications::Application;
 use ballots::Setup;
 use member::Tick;
 use node::{Draft, Node, NodeFault, OpenFault, Outbox};
-use records::Records;
+use records::{PlannedRecords, Records};
 use std::alloc::{AllocError, Global};
 
 /// A node while it runs, or its setup and its records while it is stopped.
@@ -117,37 +117,6 @@ impl<R: Records + Drop, A: Application + Drop> Seat<R, A> {
         self.empty();
     }
 
-    /// Makes the write of what was drafted, and stops.
-    ///
-    /// It fails where memory is refused, and then nothing that shows has changed.
-    pub(super) fn stop_in(&mut self, alloc: Global, draft: Draft) -> Result<(), AllocError>
-        requires there { IsSome self.old.node }
-        requires ready { (x : NodeTerm R A) → self.old.node ≡ Some x → IsReady x.member draft.member × (x.member.acceptor.is_stopped ≡ false) }
-        ensures moved { OnOk result ((t : SetupTerm) (i : InputTerm) → IsSeat t self.old
-            → ((x : NodeTerm R A) → self.old.node ≡ Some x → IsDrafted A.has_applied (A.meaning t.names) i x draft)
-            → Moves R.stands R.is_kept A.has_applied IsAny (MayStopIn (Did R.failed R.fates true (store_in self.old) (store_in self.new)) (A.meaning t.names) t.members t.member i true) self.old self.new [] []) }
-        ensures refused { OnErr result (Moves R.stands R.is_kept A.has_applied IsAny MayStay self.old self.new [] []) }
-        ensures seat { (t : SetupTerm) → IsSeat t self.old → IsSeat t self.new }
-    {
-        let Some(node) = self.node.as_mut() else {
-            return Ok(());
-        };
-        match node.cut(alloc, draft) {
-            Ok(()) => {
-                self.empty();
-                Ok(())
-            }
-            Err(NodeFault::Store) => {
-                self.empty();
-                Ok(())
-            }
-            Err(NodeFault::Memory) => Err(AllocError),
-            // Nothing else comes of what was drafted.
-            Err(NodeFault::Wire(_) | NodeFault::Stranger | NodeFault::Stopped | NodeFault::Spent) =>
-                Err(AllocError),
-        }
-    }
-
     /// Starts a member from its records, where it is stopped and its store does not fail.
     ///
     /// It fails where memory is refused, and then the member is stopped as before.
@@ -202,6 +171,39 @@ impl<R: Records + Drop, A: Application + Drop> Seat<R, A> {
     {
         if let Some(node) = self.node.take() {
             self.left = Some(node.into_parts());
+        }
+    }
+}
+
+impl<R: PlannedRecords + Drop, A: Application + Drop> Seat<R, A> {
+    /// Makes the write of what was drafted, and stops.
+    ///
+    /// It fails where memory is refused, and then nothing that shows has changed.
+    pub(super) fn stop_in(&mut self, alloc: Global, draft: Draft) -> Result<(), AllocError>
+        requires there { IsSome self.old.node }
+        requires ready { (x : NodeTerm R A) → self.old.node ≡ Some x → IsReady x.member draft.member × (x.member.acceptor.is_stopped ≡ false) }
+        ensures moved { OnOk result ((t : SetupTerm) (i : InputTerm) → IsSeat t self.old
+            → ((x : NodeTerm R A) → self.old.node ≡ Some x → IsDrafted A.has_applied (A.meaning t.names) i x draft)
+            → Moves R.stands R.is_kept A.has_applied IsAny (MayStopIn (Did R.failed R.fates true (store_in self.old) (store_in self.new)) (A.meaning t.names) t.members t.member i true) self.old self.new [] []) }
+        ensures refused { OnErr result (Moves R.stands R.is_kept A.has_applied IsAny MayStay self.old self.new [] []) }
+        ensures seat { (t : SetupTerm) → IsSeat t self.old → IsSeat t self.new }
+    {
+        let Some(node) = self.node.as_mut() else {
+            return Ok(());
+        };
+        match node.cut(alloc, draft) {
+            Ok(()) => {
+                self.empty();
+                Ok(())
+            }
+            Err(NodeFault::Store) => {
+                self.empty();
+                Ok(())
+            }
+            Err(NodeFault::Memory) => Err(AllocError),
+            // Nothing else comes of what was drafted.
+            Err(NodeFault::Wire(_) | NodeFault::Stranger | NodeFault::Stopped | NodeFault::Spent) =>
+                Err(AllocError),
         }
     }
 }

@@ -1,6 +1,6 @@
 //! What a world holds, and how it is changed.
 
-ghost use Rattle.std.specs.Prelude.{◌≡◌, ◌+◌, ◌<◌, ◌≤◌, ◌++◌, ℕ, length, map, vec_capacity, vec_len, None, Some, Ok, Err, IfErr, IfOk, IfSome, IsSome, OnErr, OnOk, false, true};
+ghost use Rattle.std.specs.Prelude.{◌≡◌, ◌+◌, ◌<◌, ◌≤◌, ◌++◌, ℕ, length, map, vec_capacity, vec_len, None, Some, IfOk, IfSome, IsSome, OnErr, OnOk, false, true};
 ghost use Rattle.member.specs.Steps.{Input as InputTerm, Hears, ticked};
 ghost use Rattle.paxos.specs.Lists.{at};
 ghost use Rattle.paxos.specs.Sound.{Sound};
@@ -18,9 +18,10 @@ use crate::told::{Told, tell};
 use applications::Application;
 use ballots::Members;
 use document_names::Names;
+use held_values::beside;
 use member::Tick;
 use node::{Draft, Outbox};
-use records::Records;
+use records::{PlannedRecords, Records};
 use std::alloc::{AllocError, Global};
 
 /// How many members there are, of which group and over which documents; where each of them sits, all that was sent and all that was told.
@@ -32,17 +33,6 @@ pub(super) struct State<R: Records + Drop, A: Application + Drop> {
     pub(super) seats: Vec<Seat<R, A>>,
     pub(super) mail: Mail,
     pub(super) told: Vec<Told>,
-}
-
-/// What is held, and what was found beside it.
-///
-/// It fails where memory was refused to what should be found. Then what is held is dropped here, in a function over any type: the proof
-/// of a function that drops a draft itself is many times as dear.
-fn beside<A: Drop, B: Drop>(held: A, found: Result<B, AllocError>) -> Result<(A, B), AllocError>
-    ensures ok { IfOk result (λ both. (both.0 ≡ held) × (found ≡ Ok both.1)) }
-    ensures err { IfErr result (λ fault. found ≡ Err fault) }
-{
-    Ok((held, found?))
 }
 
 impl<R: Records + Drop, A: Application + Drop> State<R, A> {
@@ -150,6 +140,26 @@ impl<R: Records + Drop, A: Application + Drop> State<R, A> {
         self.seats[(number - 1) as usize].stop();
     }
 
+    /// Starts a member that is there, if it is stopped and its store does not fail.
+    ///
+    /// It fails where memory is refused, and then nothing that shows has changed.
+    pub(super) fn start(&mut self, alloc: Global, number: u8) -> Result<(), AllocError>
+        requires held { IsHeld self.old }
+        requires least { 1 ≤ number }
+        requires most { number ≤ self.old.members }
+        ensures held { IsHeld self.new }
+        ensures started { OnOk result ((s : SeatTerm R A) → at self.old.seats.items number ≡ Some s → s.node ≡ None
+            → Follows R.stands R.is_kept A.has_applied (Sound self.old.members) (Steps A.has_applied (shown self.old) s number (MayStart (Did R.failed R.fates false (store_at self.old.seats.items number) (store_at self.new.seats.items number)))) (shown self.old) (shown self.new)) }
+        ensures others { (j : ℕ) → (j ≡ number → ⊥) → store_at self.new.seats.items j ≡ store_at self.old.seats.items j }
+        ensures runs { (s : SeatTerm R A) → at self.old.seats.items number ≡ Some s → IsSome s.node → shown self.new ≡ shown self.old }
+        ensures same { (s : SeatTerm R A) → at self.old.seats.items number ≡ Some s → IsSome s.node → (m : ℕ) → store_at self.new.seats.items m ≡ store_at self.old.seats.items m }
+        ensures refused { OnErr result (IsUnmoved R.stands R.is_kept A.has_applied (shown self.old) (shown self.new)) }
+    {
+        self.seats[(number - 1) as usize].start(alloc)
+    }
+}
+
+impl<R: PlannedRecords + Drop, A: Application + Drop> State<R, A> {
     /// Makes the write of what was drafted for a member that runs, and stops the member.
     ///
     /// It fails where memory is refused, and then nothing that shows has changed.
@@ -170,23 +180,5 @@ impl<R: Records + Drop, A: Application + Drop> State<R, A> {
         ensures refused { OnErr result (IsUnmoved R.stands R.is_kept A.has_applied (shown self.old) (shown self.new)) }
     {
         self.seats[(number - 1) as usize].stop_in(alloc, draft)
-    }
-
-    /// Starts a member that is there, if it is stopped and its store does not fail.
-    ///
-    /// It fails where memory is refused, and then nothing that shows has changed.
-    pub(super) fn start(&mut self, alloc: Global, number: u8) -> Result<(), AllocError>
-        requires held { IsHeld self.old }
-        requires least { 1 ≤ number }
-        requires most { number ≤ self.old.members }
-        ensures held { IsHeld self.new }
-        ensures started { OnOk result ((s : SeatTerm R A) → at self.old.seats.items number ≡ Some s → s.node ≡ None
-            → Follows R.stands R.is_kept A.has_applied (Sound self.old.members) (Steps A.has_applied (shown self.old) s number (MayStart (Did R.failed R.fates false (store_at self.old.seats.items number) (store_at self.new.seats.items number)))) (shown self.old) (shown self.new)) }
-        ensures others { (j : ℕ) → (j ≡ number → ⊥) → store_at self.new.seats.items j ≡ store_at self.old.seats.items j }
-        ensures runs { (s : SeatTerm R A) → at self.old.seats.items number ≡ Some s → IsSome s.node → shown self.new ≡ shown self.old }
-        ensures same { (s : SeatTerm R A) → at self.old.seats.items number ≡ Some s → IsSome s.node → (m : ℕ) → store_at self.new.seats.items m ≡ store_at self.old.seats.items m }
-        ensures refused { OnErr result (IsUnmoved R.stands R.is_kept A.has_applied (shown self.old) (shown self.new)) }
-    {
-        self.seats[(number - 1) as usize].start(alloc)
     }
 }

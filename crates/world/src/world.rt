@@ -26,7 +26,7 @@ use ballots::{Members, Request};
 use document_names::Names;
 use events::Event;
 use node::Node;
-use records::{Records, RecordsFault};
+use records::{PlannedRecords, Records, RecordsFault};
 use std::alloc::{AllocError, Global};
 use std::marker::Model;
 
@@ -81,39 +81,6 @@ impl<R: Records + Drop, A: Application + Drop> World<R, A> {
         ensures seats { length self.now.seats ≡ self.now.members }
     {
         self.state.members
-    }
-
-    /// An event happens. The member that it names, if it names one, is one of the world's.
-    ///
-    /// Nothing happens by a delivery to a client, an unknown number, any event but a start and a request at a stopped member, the start
-    /// of a running one or where its store fails, and a ballot that cannot begin.
-    ///
-    /// Where the member writes, its store does what was known of it before, and fails only if its count of failures grows.
-    ///
-    /// It fails where memory is refused, and then nothing that shows has changed.
-    pub fn happen(&mut self, alloc: Global, event: &Event) -> Result<(), AllocError>
-        requires named { is_for self.old.members event.now ≡ true }
-        ensures happened { OnOk result (HasHappened R.stands R.is_kept R.failed R.fates A.has_applied (A.meaning self.old.names) (event_of event.now) self.old self.new) }
-        ensures refused { OnErr result (IsUnmoved R.stands R.is_kept A.has_applied self.old self.new) }
-    {
-        self.state.happen(alloc, event)
-    }
-
-    /// All events happen, in order, each as [`World::happen`] says. A store that fails stops its member, and a node to which memory is refused
-    /// applies later what it has learnt; the events go on.
-    ///
-    /// Faults: memory was refused, after that many events, and the next one has changed nothing; an event names no member that there is,
-    /// and none has happened. A store's failure is none of them.
-    pub fn run(&mut self, alloc: Global, events: &[Event]) -> Result<(), WorldFault>
-        ensures done { OnOk result (LeadsTo R.stands R.is_kept A.has_applied (A.meaning self.old.names) self.old self.new (map event_of events.now)) }
-        ensures refused { IfErr result (λ fault. HasDone R.stands R.is_kept A.has_applied (A.meaning self.old.names) self.old self.new (map event_of events.now) fault) }
-        ensures member { IsErrOf result WorldFault.Member ↔ (list_all (is_for self.old.members) events.now ≡ false) }
-        ensures store { IsErrOf result WorldFault.Store → ⊥ }
-    {
-        if !are_for(self.state.members, events) {
-            return Err(WorldFault::Member);
-        }
-        self.state.run(alloc, events)
     }
 
     /// Makes the straight run of a world in which nothing has happened yet, and answers its number of deliveries: n² + 3n + 1 for n
@@ -180,5 +147,40 @@ impl<R: Records + Drop, A: Application + Drop> World<R, A> {
         ensures one { result ≡ false → OneIsBehind A.has_applied self.now }
     {
         self.state.all_applied()
+    }
+}
+
+impl<R: PlannedRecords + Drop, A: Application + Drop> World<R, A> {
+    /// An event happens. The member that it names, if it names one, is one of the world's.
+    ///
+    /// Nothing happens by a delivery to a client, an unknown number, any event but a start and a request at a stopped member, the start
+    /// of a running one or where its store fails, and a ballot that cannot begin.
+    ///
+    /// Where the member writes, its store does what was known of it before, and fails only if its count of failures grows.
+    ///
+    /// It fails where memory is refused, and then nothing that shows has changed.
+    pub fn happen(&mut self, alloc: Global, event: &Event) -> Result<(), AllocError>
+        requires named { is_for self.old.members event.now ≡ true }
+        ensures happened { OnOk result (HasHappened R.stands R.is_kept R.failed R.fates A.has_applied (A.meaning self.old.names) (event_of event.now) self.old self.new) }
+        ensures refused { OnErr result (IsUnmoved R.stands R.is_kept A.has_applied self.old self.new) }
+    {
+        self.state.happen(alloc, event)
+    }
+
+    /// All events happen, in order, each as [`World::happen`] says. A store that fails stops its member, and a node to which memory is refused
+    /// applies later what it has learnt; the events go on.
+    ///
+    /// Faults: memory was refused, after that many events, and the next one has changed nothing; an event names no member that there is,
+    /// and none has happened. A store's failure is none of them.
+    pub fn run(&mut self, alloc: Global, events: &[Event]) -> Result<(), WorldFault>
+        ensures done { OnOk result (LeadsTo R.stands R.is_kept A.has_applied (A.meaning self.old.names) self.old self.new (map event_of events.now)) }
+        ensures refused { IfErr result (λ fault. HasDone R.stands R.is_kept A.has_applied (A.meaning self.old.names) self.old self.new (map event_of events.now) fault) }
+        ensures member { IsErrOf result WorldFault.Member ↔ (list_all (is_for self.old.members) events.now ≡ false) }
+        ensures store { IsErrOf result WorldFault.Store → ⊥ }
+    {
+        if !are_for(self.state.members, events) {
+            return Err(WorldFault::Member);
+        }
+        self.state.run(alloc, events)
     }
 }

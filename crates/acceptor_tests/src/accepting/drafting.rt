@@ -118,7 +118,6 @@ fn record(rt: &impl Abort, alloc: Global) -> Result<Record, AllocError> {
         round: 2,
         member: 1,
     });
-    record.reserve(4).or_else(|_| record.reserve(4))?;
     assert!(rt; !record.has_vote(4, &asked(alloc)?));
     record.set_vote(4, asked(alloc)?)?;
     Ok(record)
@@ -184,8 +183,6 @@ impl Records for Counting {
         self.writes = self.writes.saturating_add(1);
         Ok(())
     }
-
-    fn let_pass(&mut self) {}
 
     fn failures(&self) -> u64 {
         0

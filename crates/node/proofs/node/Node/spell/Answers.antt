@@ -11,5 +11,5 @@ returns-clause-reads g c = λ ranges k h is.
     let range : c.group-group.result < 2 ^ 32 = search rules in
     let group : x.setup.group < 2 ^ 32 = subst (λ (x : Node g.row.R.Denot g.row.A.Denot). x.setup.group < 2 ^ 32) c.self.view_is (subst (λ n. n < 2 ^ 32) c.group-group.ensures range) in
     let few : x.setup.members ≤ 63 = subst (λ (x : Node g.row.R.Denot g.row.A.Denot). x.setup.members ≤ 63) c.self.view_is c.self.invariant.2.2 in
-    let fields : AreAll HasFieldsInRange c.args.draft.sends.items = subst (λ (xs : List Send). AreAll HasFieldsInRange xs) c.sends.ensures (subst (λ r. OnOk r (AreAll HasFieldsInRange c.sends.result.now)) (c.in_ok-member.ensures.both).1 c.spell_all-sent.ensures.fields) in
+    let fields : AreAll HasFieldsInRange c.args.draft.sends.items = subst (λ (xs : List Send). AreAll HasFieldsInRange xs) c.sends.ensures (subst (λ r. OnOk r (AreAll HasFieldsInRange c.sends.result.now)) (c.in_ok-member.ensures.ok).1 c.spell_all-sent.ensures.fields) in
     draft_reads x.setup.group x.setup.members x.setup.member group few c.args.draft.sends.items fields ranges k h is
