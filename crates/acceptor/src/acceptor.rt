@@ -39,7 +39,9 @@ impl<R: Records + Drop> Model for Acceptor<R> {
 }
 
 impl<R: Records + Drop> Acceptor<R> {
-    /// Opens records: what they keep, the acceptor has promised and accepted. A refusal gives them back, as they were.
+    /// Opens records: what they keep, the acceptor has promised and accepted.
+    ///
+    /// Faults, which give the records back with what they keep: memory was refused; the store failed, which the records count.
     pub fn open(alloc: Global, mut records: R) -> Result<Acceptor<R>, (RecordsFault, R)>
         ensures running { IfOk result (λ a. a.is_stopped ≡ false) }
         ensures loaded { IfOk result (λ a. R.is_kept a.records → (x y : RecordTerm) → R.stands records x y → (a.kept ≡ x) ⊎ (a.kept ≡ y)) }

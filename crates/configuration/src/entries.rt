@@ -47,7 +47,7 @@ pub(super) fn has_entries_alone(table: &Table) -> bool
     true
 }
 
-/// The texts of an array, or none where an item is no text.
+/// The texts of an array, or none where an item is no text. It fails where memory is refused.
 pub(super) fn texts_of(alloc: Global, array: &Array) -> Result<Option<Vec<String>>, AllocError>
     ensures { IfOk result (λ texts. option_map (λ t. map string_bytes t.items) texts ≡ texts_of (array_view array.now)) }
 {
@@ -92,7 +92,7 @@ fn read_list(alloc: Global, document: &Value, key: &str) -> Result<Option<Vec<St
     }
 }
 
-/// The members' addresses.
+/// The members' addresses. It fails where memory is refused.
 pub(super) fn read_addresses(
     alloc: Global,
     document: &Value,
@@ -106,7 +106,7 @@ pub(super) fn read_addresses(
     }
 }
 
-/// The names of the documents.
+/// The names of the documents. It fails where memory is refused.
 pub(super) fn read_docs(alloc: Global, document: &Value) -> Result<Option<Names>, AllocError>
     ensures { IfOk result (λ names. names ≡ docs_of (view document.now)) }
 {
@@ -120,7 +120,7 @@ pub(super) fn read_docs(alloc: Global, document: &Value) -> Result<Option<Names>
     }
 }
 
-/// The records' file, if there is one.
+/// The records' file, if there is one. It fails where memory is refused.
 pub(super) fn read_records(
     alloc: Global,
     document: &Value,

@@ -71,7 +71,7 @@ impl Tallies {
         }
     }
 
-    /// Makes room for a vote at a position. Nothing but room changes.
+    /// Makes room for a vote at a position. Nothing but room changes. It fails where memory is refused.
     pub(super) fn reserve(
         &mut self,
         alloc: Global,

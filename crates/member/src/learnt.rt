@@ -13,6 +13,8 @@ use learner::Learner;
 use std::alloc::{AllocError, Global};
 
 /// The positions that are learnt from one on, rising.
+///
+/// It fails where memory is refused.
 #[tactic(auto, unfolding(ballots::specs::Values::positions))]
 pub(super) fn positions_from(
     alloc: Global,
@@ -33,6 +35,8 @@ pub(super) fn positions_from(
 }
 
 /// The lowest pairs that are learnt from a position on, at most 8.
+///
+/// It fails where memory is refused.
 #[tactic(auto, unfolding(ballots::specs::Values::positions))]
 pub(super) fn lowest_pairs(
     alloc: Global,

@@ -63,8 +63,9 @@ impl<R: Records + Drop> Model for Member<R> {
 }
 
 impl<R: Records + Drop> Member<R> {
-    /// Opens records as the member of that number: it has promised and accepted what they keep, and has heard nothing. A refusal gives
-    /// them back, as they were.
+    /// Opens records as the member of that number: it has promised and accepted what they keep, and has heard nothing.
+    ///
+    /// Faults, which give the records back with what they keep: memory was refused; the store failed, which the records count.
     pub fn open(
         alloc: Global,
         members: Members,

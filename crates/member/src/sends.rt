@@ -12,6 +12,8 @@ use proposer::Sends;
 use std::alloc::{AllocError, Global};
 
 /// The Prepares, then the Accepts; nothing where it doesn't lead.
+///
+/// It fails where memory is refused.
 pub(super) fn prepares_first(alloc: Global, said: &Option<Sends>) -> Result<Vec<Send>, AllocError>
     ensures sends { IfOk result (λ v. (n m : ℕ) → all_packets n m v.items ≡ prepares_first n m said.now) }
     ensures short { IfOk result (λ v. AreShort v.items) }
@@ -23,6 +25,8 @@ pub(super) fn prepares_first(alloc: Global, said: &Option<Sends>) -> Result<Vec<
 }
 
 /// The Prepares, then the Accepts.
+///
+/// It fails where memory is refused.
 pub(super) fn prepares_then_accepts(alloc: Global, said: &Sends) -> Result<Vec<Send>, AllocError>
     ensures sends { IfOk result (λ v. (n m : ℕ) → all_packets n m v.items ≡ prepares_first n m (Some said.now)) }
     ensures short { IfOk result (λ v. AreShort v.items) }
@@ -34,6 +38,8 @@ pub(super) fn prepares_then_accepts(alloc: Global, said: &Sends) -> Result<Vec<S
 }
 
 /// The Accepts, then the Prepares; nothing where it doesn't lead.
+///
+/// It fails where memory is refused.
 pub(super) fn accepts_first(alloc: Global, said: &Option<Sends>) -> Result<Vec<Send>, AllocError>
     ensures sends { IfOk result (λ v. (n m : ℕ) → all_packets n m v.items ≡ accepts_first n m said.now) }
     ensures short { IfOk result (λ v. AreShort v.items) }
@@ -97,6 +103,8 @@ pub(super) fn quiet(alloc: Global) -> Draft
 }
 
 /// A draft of one message.
+///
+/// It fails where memory is refused.
 pub(super) fn say(
     alloc: Global,
     to: Target,

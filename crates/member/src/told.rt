@@ -10,6 +10,8 @@ use learner::Learner;
 use std::alloc::{AllocError, Global};
 
 /// One value at each of some positions.
+///
+/// It fails where memory is refused.
 pub(super) fn told_at(
     alloc: Global,
     positions: &[u32],
@@ -28,6 +30,8 @@ pub(super) fn told_at(
 }
 
 /// The pairs at positions that are not learnt.
+///
+/// It fails where memory is refused.
 pub(super) fn told_among(
     alloc: Global,
     learner: &Learner,

@@ -214,6 +214,9 @@ fn split_answer(alloc: Global, bytes: &[u8]) -> Result<(Message, &[u8]), WireFau
 }
 
 /// The body of a message of a kind, 1 to 12, from a sender.
+///
+/// Fault: `Kind` where there is no such kind; else the first from the left, `Short`, `Number` or `NotUtf8`, each field being checked as
+/// soon as it is read; want of memory (`Memory`) may come in its place.
 pub(super) fn split_body(
     alloc: Global,
     bytes: &[u8],

@@ -13,6 +13,8 @@ use fault_codes::Code;
 use std::alloc::Global;
 
 /// So many bytes, and the bytes after them.
+///
+/// Fault: `Short` where there are fewer.
 pub(super) fn split(bytes: &[u8], count: usize) -> Result<(&[u8], &[u8]), WireFault>
     ensures value { IfOk result (λ p. bytes_read count bytes.now ≡ Gives p.0.now p.1.now) }
     ensures within { IfOk result (λ p. count ≤ length bytes.now) }
@@ -27,6 +29,8 @@ pub(super) fn split(bytes: &[u8], count: usize) -> Result<(&[u8], &[u8]), WireFa
 }
 
 /// The first byte, and the bytes after it.
+///
+/// Fault: `Short` where there is none.
 pub(super) fn split_u8(bytes: &[u8]) -> Result<(u8, &[u8]), WireFault>
     ensures value { IfOk result (λ p. number_read 1 bytes.now ≡ Gives p.0 p.1.now) }
     ensures fault { IfErr result (λ f. number_read 1 bytes.now ≡ Fails f) }
@@ -36,6 +40,8 @@ pub(super) fn split_u8(bytes: &[u8]) -> Result<(u8, &[u8]), WireFault>
 }
 
 /// The number in the first four bytes, and the bytes after them.
+///
+/// Fault: `Short` where there are fewer.
 pub(super) fn split_u32(bytes: &[u8]) -> Result<(u32, &[u8]), WireFault>
     ensures value { IfOk result (λ p. number_read 4 bytes.now ≡ Gives p.0 p.1.now) }
     ensures fault { IfErr result (λ f. number_read 4 bytes.now ≡ Fails f) }
@@ -45,6 +51,8 @@ pub(super) fn split_u32(bytes: &[u8]) -> Result<(u32, &[u8]), WireFault>
 }
 
 /// The number in the first two bytes, and the bytes after them.
+///
+/// Fault: `Short` where there are fewer.
 pub(super) fn split_u16(bytes: &[u8]) -> Result<(u16, &[u8]), WireFault>
     ensures value { IfOk result (λ p. number_read 2 bytes.now ≡ Gives p.0 p.1.now) }
     ensures fault { IfErr result (λ f. number_read 2 bytes.now ≡ Fails f) }
@@ -54,6 +62,8 @@ pub(super) fn split_u16(bytes: &[u8]) -> Result<(u16, &[u8]), WireFault>
 }
 
 /// The number in the first eight bytes, and the bytes after them.
+///
+/// Fault: `Short` where there are fewer.
 pub(super) fn split_u64(bytes: &[u8]) -> Result<(u64, &[u8]), WireFault>
     ensures value { IfOk result (λ p. number_read 8 bytes.now ≡ Gives p.0 p.1.now) }
     ensures fault { IfErr result (λ f. number_read 8 bytes.now ≡ Fails f) }
@@ -63,6 +73,8 @@ pub(super) fn split_u64(bytes: &[u8]) -> Result<(u64, &[u8]), WireFault>
 }
 
 /// The first byte, a number from `least` to `most`, and the bytes after it.
+///
+/// Faults: `Short` where there is none; `Number` where it is no such number.
 pub(super) fn split_small(bytes: &[u8], least: u8, most: u8) -> Result<(u8, &[u8]), WireFault>
     ensures value { IfOk result (λ p. between_read 1 least most bytes.now ≡ Gives p.0 p.1.now) }
     ensures between { IfOk result (λ p. (least ≤ p.0) × (p.0 ≤ most)) }
@@ -76,6 +88,8 @@ pub(super) fn split_small(bytes: &[u8], least: u8, most: u8) -> Result<(u8, &[u8
 }
 
 /// The position in the first four bytes, from `least` to `most`, and the bytes after them.
+///
+/// Faults: `Short` where there are fewer; `Number` where they are no such position.
 pub(super) fn split_position(bytes: &[u8], least: u32, most: u32) -> Result<(u32, &[u8]), WireFault>
     ensures value { IfOk result (λ p. position_read least most bytes.now ≡ Gives p.0 p.1.now) }
     ensures between { IfOk result (λ p. (least ≤ p.0) × (p.0 ≤ most)) }
@@ -89,6 +103,8 @@ pub(super) fn split_position(bytes: &[u8], least: u32, most: u32) -> Result<(u32
 }
 
 /// The ballot at the front of the bytes, and the bytes after it.
+///
+/// Fault: the first from the left: `Short` where the bytes end before; `Number` where the round or the member is out of range.
 #[tactic(auto, unfolding(ballots::specs::Ballot::last_round))]
 pub(super) fn split_ballot(bytes: &[u8]) -> Result<(Ballot, &[u8]), WireFault>
     ensures value { IfOk result (λ p. ballot_read bytes.now ≡ Gives p.0 p.1.now) }
@@ -103,6 +119,8 @@ pub(super) fn split_ballot(bytes: &[u8]) -> Result<(Ballot, &[u8]), WireFault>
 }
 
 /// The ballot at the front of the bytes, which has to be the sender's own, and the bytes after it.
+///
+/// Faults: those of `split_ballot`; `Number` where it is another's.
 pub(super) fn split_own_ballot(bytes: &[u8], sender: u8) -> Result<(Ballot, &[u8]), WireFault>
     ensures value { IfOk result (λ p. own_ballot_read sender bytes.now ≡ Gives p.0 p.1.now) }
     ensures fault { IfErr result (λ f. own_ballot_read sender bytes.now ≡ Fails f) }
@@ -115,6 +133,8 @@ pub(super) fn split_own_ballot(bytes: &[u8], sender: u8) -> Result<(Ballot, &[u8
 }
 
 /// The text at the front of the bytes, after its length, and the bytes after it.
+///
+/// Faults: `Short` where the bytes end before; `Number` where the length is above `most`; `NotUtf8` where it is no UTF-8.
 pub(super) fn split_text(bytes: &[u8], most: usize) -> Result<(&str, &[u8]), WireFault>
     ensures value { IfOk result (λ p. text_read most bytes.now ≡ Gives p.0.now p.1.now) }
     ensures most { IfOk result (λ p. length p.0.now ≤ most) }
@@ -134,6 +154,8 @@ pub(super) fn split_text(bytes: &[u8], most: usize) -> Result<(&str, &[u8]), Wir
 
 #[tactic(auto, using(crate::proofs::Readings::not_memory))]
 /// The value at the front of the bytes, and the bytes after it.
+///
+/// Fault: the first from the left, `Short`, `Number` or `NotUtf8`; want of memory (`Memory`) may come in its place.
 pub(super) fn split_value(alloc: Global, bytes: &[u8]) -> Result<(Value, &[u8]), WireFault>
     ensures value { IfOk result (λ p. a_value bytes.now ≡ Gives p.0 p.1.now) }
     ensures fault { IfErr result (λ f. f ≢ WireFault.Memory → a_value bytes.now ≡ Fails f) }
@@ -145,6 +167,8 @@ pub(super) fn split_value(alloc: Global, bytes: &[u8]) -> Result<(Value, &[u8]),
 }
 
 /// What came of a request or a question at the front of the bytes, its fault's code if it has one, and the bytes after it.
+///
+/// Faults: `Short` where there is no byte; `Number` where it is the number of no code.
 pub(super) fn split_outcome(bytes: &[u8]) -> Result<(Option<Code>, &[u8]), WireFault>
     ensures value { IfOk result (λ p. outcome_read bytes.now ≡ Gives p.0 p.1.now) }
     ensures fault { IfErr result (λ f. outcome_read bytes.now ≡ Fails f) }

@@ -38,6 +38,8 @@ fn split_entry(
 }
 
 /// So many votes at the front of the bytes, by rising position from `least` to `most`, and the bytes after them.
+///
+/// Fault: the first from the left, `Short`, `Number` or `NotUtf8`; want of memory (`Memory`) may come in its place.
 pub(super) fn split_entries(
     alloc: Global,
     bytes: &[u8],
@@ -78,6 +80,8 @@ fn split_pair(alloc: Global, bytes: &[u8], least: u32) -> Result<(Pair, &[u8]), 
 }
 
 /// So many values at the front of the bytes, by rising position from 1 on, and the bytes after them.
+///
+/// Fault: the first from the left, `Short`, `Number` or `NotUtf8`; want of memory (`Memory`) may come in its place.
 pub(super) fn split_pairs(
     alloc: Global,
     bytes: &[u8],

@@ -66,11 +66,12 @@ fn open_fault(fault: RecordsFault) -> OpenFault
 
 impl<R: Records + Drop, A: Application + Drop> Node<R, A> {
     /// Opens records as the member that the setup names, with the application before any value: it has promised and accepted what they keep, has
-    /// heard nothing, and has applied nothing. A refusal gives setup and records back, as they were.
+    /// heard nothing, and has applied nothing.
     ///
     /// The records are those of this member among as many: where they are not, nothing is known of what it does.
     ///
-    /// Faults: memory was refused (3); the store failed (4).
+    /// Faults, which give the setup back, and the records with what they keep: memory was refused (3); the store failed (4), which the records
+    /// count.
     pub fn open(
         alloc: Global,
         setup: Setup,

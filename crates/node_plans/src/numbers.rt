@@ -137,7 +137,7 @@ fn renumber(rows: &Rows, plan: &mut Plan, ids: &[NodeId]) -> Result<(), AllocErr
 }
 
 /// The first of so many numbers for nodes that come between two places among what a node lists, which is `ids`. Where too few are free, what
-/// the node lists gets other numbers.
+/// the node lists gets other numbers. Where memory is refused, the rows to be say what they said; the numbers that they carry rise.
 pub fn first_number(
     rows: &Rows,
     plan: &mut Plan,

@@ -46,7 +46,7 @@ fn read_label(rows: &Rows, alloc: Global, id: NodeId, levels: u64) -> Result<Lab
     Ok(label)
 }
 
-/// Those of some nodes that stand in the table, in their order, each with its label.
+/// Those of some nodes that stand in the table, in their order, each with its label. It fails where memory is refused.
 pub fn with_labels(
     rows: &Rows,
     alloc: Global,
@@ -69,7 +69,8 @@ pub fn with_labels(
     Ok(labelled)
 }
 
-/// The nodes of some labels in their order, without those that come right after themselves. They take the place of what `ids` has.
+/// The nodes of some labels in their order, without those that come right after themselves. They take the place of what `ids` has. Where
+/// memory is refused, the list is gone.
 pub fn nodes_of(labelled: &[Labelled], ids: Vec<NodeId>) -> Result<Vec<NodeId>, AllocError>
     ensures { IfOk result (λ v. v.items ≡ dedup eqb (map (λ x. x.node) labelled.now)) }
 {

@@ -9,7 +9,7 @@ use super::table::Rows;
 use data_model::{Content, NodeId, Tree};
 use std::alloc::{AllocError, Global};
 
-/// The trees of some nodes, each with what is below it, at most so many levels down.
+/// The trees of some nodes, each with what is below it, at most so many levels down. It fails where memory is refused.
 pub fn trees_of(
     rows: &Rows,
     alloc: Global,

@@ -9,7 +9,7 @@ use ballots::{Answer, Reply};
 use fault_codes::Code;
 use std::alloc::{AllocError, Global};
 
-/// `done P` or `fault CODE P`, with its line feed.
+/// `done P` or `fault CODE P`, with its line feed. It fails where memory is refused.
 pub(crate) fn reply_text(alloc: Global, reply: Reply) -> Result<String, AllocError>
     ensures { IfOk result (λ text. string_bytes text ≡ reply_text reply) }
 {
@@ -19,7 +19,7 @@ pub(crate) fn reply_text(alloc: Global, reply: Reply) -> Result<String, AllocErr
     }
 }
 
-/// `at P` and the lines of the answer after two spaces each, or `at P fault CODE`.
+/// `at P` and the lines of the answer after two spaces each, or `at P fault CODE`. It fails where memory is refused.
 pub(crate) fn answer_text(
     alloc: Global,
     position: u32,
@@ -39,7 +39,7 @@ pub(crate) fn answer_text(
     }
 }
 
-/// `behind P`, with its line feed.
+/// `behind P`, with its line feed. It fails where memory is refused.
 pub(crate) fn behind_text(alloc: Global, position: u32) -> Result<String, AllocError>
     ensures { IfOk result (λ text. string_bytes text ≡ behind_text position) }
 {

@@ -71,7 +71,7 @@ impl Targets {
     }
 }
 
-/// Whether two of the primitives are of this kind and have one target. Each target is looked up once.
+/// Whether two of the primitives are of this kind and have one target. Each target is looked up once. It fails where memory is refused.
 pub(super) fn has_two(
     alloc: Global,
     primitives: &[Primitive],

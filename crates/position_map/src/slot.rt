@@ -33,7 +33,7 @@ impl<V: Drop + Clone> Clone for Slot<V> {
     }
 }
 
-/// Makes an empty slot at a position that has none.
+/// Makes an empty slot at a position that has none. Where memory is refused, the slots hold what they held.
 pub(super) fn make_room<V: Drop>(
     slots: &mut BTreeMap<u32, Slot<V>>,
     position: u32,

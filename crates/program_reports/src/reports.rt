@@ -9,7 +9,8 @@ use std::alloc::Global;
 use std::io;
 use std::io::{Read, Write};
 
-/// Reports a file that cannot be read: status 1.
+/// Reports a file that cannot be read: status 1. Where memory is refused, it reports that: status 4. An `Err` says that `errors` could not
+/// be written.
 pub fn cannot_read<E: Write>(alloc: Global, file: &str, errors: &mut E) -> io::Result<u8>
     ensures { IfOk result (λ status. (known : Option (List ℕ)) →
         Ran (known, known) (E.contents errors.old, E.contents errors.new) (unreadable_run file.now) status) }
@@ -32,7 +33,8 @@ pub enum ReadFault {
     Failed,
 }
 
-/// Reads all that a reader gives.
+/// Reads all that a reader gives. Faults: `Memory` where memory is refused, here or to the reader; `Failed` where the reader fails
+/// otherwise. What was read is dropped then.
 pub fn read_all<R: Read>(alloc: Global, reader: &mut R) -> Result<Vec<u8>, ReadFault>
     ensures { IfOk result (λ bytes. IfSome (R.remaining reader.old) (λ known. bytes.items ≡ known)) }
 {
@@ -44,7 +46,7 @@ pub fn read_all<R: Read>(alloc: Global, reader: &mut R) -> Result<Vec<u8>, ReadF
     }
 }
 
-/// Reports a wrong line: status 1.
+/// Reports a wrong line: status 1. Where memory is refused, it reports that: status 4. An `Err` says that `errors` could not be written.
 pub fn wrong_line<E: Write>(alloc: Global, number: u64, errors: &mut E) -> io::Result<u8>
     ensures { IfOk result (λ status.
         ((status ≡ 1) × Appends (E.contents errors.old) (E.contents errors.new) (codes "paxq: line " ++ decimal number ++ line_feed))
@@ -59,7 +61,7 @@ pub fn wrong_line<E: Write>(alloc: Global, number: u64, errors: &mut E) -> io::R
     }
 }
 
-/// Reports that memory was refused: status 4.
+/// Reports that memory was refused: status 4. An `Err` says that `errors` could not be written.
 pub fn no_memory<E: Write>(errors: &mut E) -> io::Result<u8>
     ensures { IfOk result (λ status.
         (status ≡ 4) × Appends (E.contents errors.old) (E.contents errors.new) (codes "paxq: no memory" ++ line_feed)) }

@@ -73,6 +73,8 @@ impl Model for Lead {
 
 impl Lead {
     /// A leader of a ballot that begins at a position, where these positions from there on are learnt.
+    ///
+    /// It fails where memory is refused.
     pub(super) fn begin(
         alloc: Global,
         members: Members,
@@ -140,6 +142,8 @@ impl Lead {
 
     #[tactic(auto, unfolding(ballots::specs::Values::positions))]
     /// What it sends once it took in what a message told: a member that promised is asked on, and what was proposed goes to all.
+    ///
+    /// It fails where memory is refused.
     pub(super) fn sends_of(&self, alloc: Global, news: &News) -> Result<Sends, AllocError>
         ensures { IfOk result (λ s. IsSaid self.now news.now s) }
     {
@@ -297,6 +301,8 @@ impl Lead {
     }
 
     /// The Accept of a value at the next position.
+    ///
+    /// It fails where memory is refused.
     pub(super) fn accept_next(&self, alloc: Global, value: Value) -> Result<Sends, AllocError>
         ensures { IfOk result (λ s. IsAcceptOf value self.now s) }
     {
@@ -359,6 +365,8 @@ impl Lead {
     }
 
     /// All that it says again: its open proposals, and a Prepare to each member that is not covered to the end.
+    ///
+    /// It fails where memory is refused.
     pub(super) fn say_again(&self, alloc: Global, members: Members) -> Result<Sends, AllocError>
         ensures { IfOk result (λ s. IsAgain members self.now s) }
     {
@@ -528,6 +536,8 @@ fn reserve_positions(map: &mut PositionMap<()>, learnt: &[u32]) -> Result<(), Al
 }
 
 /// A copy of entries.
+///
+/// It fails where memory is refused.
 pub(super) fn copy_entries(entries: &Vec<Entry>) -> Result<Vec<Entry>, AllocError>
     ensures { IfOk result (λ v. v.items ≡ entries.now.items) }
 {

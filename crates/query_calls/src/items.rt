@@ -10,7 +10,7 @@ use evaluation::{Evaluation, Sequence};
 use std::alloc::Global;
 use values::{Item, ValueFault};
 
-/// `count` (Functions and Operators, section 15.4.1).
+/// `count` (Functions and Operators, section 15.4.1). It fails only where memory is refused.
 #[tactic(auto, unfolding(query_meaning::specs::Running::most_items))]
 pub fn count(run: &mut Evaluation, items: &Sequence) -> Result<Sequence, ValueFault>
     ensures { Gives (functions.count items.now) run.old result run.new }
@@ -19,7 +19,7 @@ pub fn count(run: &mut Evaluation, items: &Sequence) -> Result<Sequence, ValueFa
     integer_of(run, count as i64)
 }
 
-/// `empty` (Functions and Operators, section 15.1.4).
+/// `empty` (Functions and Operators, section 15.1.4). It fails only where memory is refused.
 pub fn empty(run: &mut Evaluation, items: &Sequence) -> Result<Sequence, ValueFault>
     ensures { Gives (functions.empty items.now) run.old result run.new }
 {
@@ -27,7 +27,7 @@ pub fn empty(run: &mut Evaluation, items: &Sequence) -> Result<Sequence, ValueFa
     boolean_of(run, is_none)
 }
 
-/// `exists` (Functions and Operators, section 15.1.5).
+/// `exists` (Functions and Operators, section 15.1.5). It fails only where memory is refused.
 pub fn exists(run: &mut Evaluation, items: &Sequence) -> Result<Sequence, ValueFault>
     ensures { Gives (functions.exists items.now) run.old result run.new }
 {
@@ -45,7 +45,7 @@ fn is_none(items: &[Item]) -> bool
     }
 }
 
-/// `reverse` (Functions and Operators, section 15.1.9).
+/// `reverse` (Functions and Operators, section 15.1.9). It fails only where memory is refused.
 pub fn reverse(run: &mut Evaluation, items: &Sequence) -> Result<Sequence, ValueFault>
     requires stand { Stand items.now run.old }
     ensures { Gives (functions.reversed items.now) run.old result run.new }

@@ -10,28 +10,28 @@ use evaluation::{Evaluation, Sequence};
 use std::alloc::Global;
 use values::{Atom, Item, Text, ValueFault};
 
-/// One boolean.
+/// One boolean. It fails only where memory is refused.
 pub(crate) fn boolean_of(run: &mut Evaluation, value: bool) -> Result<Sequence, ValueFault>
     ensures { Gives (functions.boolean value) run.old result run.new }
 {
     Ok(Sequence::one(run.alloc(), Item::Atomic(Atom::Boolean(value)))?)
 }
 
-/// One integer.
+/// One integer. It fails only where memory is refused.
 pub(crate) fn integer_of(run: &mut Evaluation, value: i64) -> Result<Sequence, ValueFault>
     ensures { Gives (functions.integer value) run.old result run.new }
 {
     Ok(Sequence::one(run.alloc(), Item::Atomic(Atom::Integer(value)))?)
 }
 
-/// One string.
+/// One string. It fails only where memory is refused.
 pub(crate) fn string_of(run: &mut Evaluation, text: Text) -> Result<Sequence, ValueFault>
     ensures { Gives (functions.string text) run.old result run.new }
 {
     Ok(Sequence::one(run.alloc(), Item::Atomic(Atom::String(text)))?)
 }
 
-/// Items, and one more.
+/// Items, and one more. It fails only where memory is refused.
 #[tactic(auto, unfolding(query_meaning::specs::Running::most_items))]
 pub(crate) fn and_item(alloc: Global, given: Sequence, item: Item) -> Result<Sequence, ValueFault>
     requires room { length given < most_items }
@@ -41,7 +41,7 @@ pub(crate) fn and_item(alloc: Global, given: Sequence, item: Item) -> Result<Seq
     given.joined(one)
 }
 
-/// The sequence of atomic values.
+/// The sequence of atomic values. It fails only where memory is refused.
 pub(crate) fn sequence_of(alloc: Global, values: Vec<Atom>) -> Result<Sequence, ValueFault>
     requires most { length values.items ≤ most_items }
     ensures { Says (Ok (functions.items_of values.items)) result }

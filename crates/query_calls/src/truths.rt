@@ -8,7 +8,7 @@ use crate::sequences::boolean_of;
 use evaluation::{Evaluation, Sequence};
 use values::{ValueFault, truth};
 
-/// `true()` and `false()` (Functions and Operators, sections 9.1.1 and 9.1.2).
+/// `true()` and `false()` (Functions and Operators, sections 9.1.1 and 9.1.2). It fails only where memory is refused.
 pub fn truth_value(run: &mut Evaluation, value: bool) -> Result<Sequence, ValueFault>
     ensures { Gives (functions.boolean value) run.old result run.new }
 {

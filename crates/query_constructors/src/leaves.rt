@@ -23,7 +23,7 @@ pub struct Constructors<F> {
 }
 
 impl<F: Fn(&mut Evaluation, &Expr, &Environment) -> Result<Sequence, ValueFault>> Constructors<F> {
-    /// The value of a part.
+    /// The value of a part. Codes: those of the part.
     pub fn value_of(
         &self,
         run: &mut Evaluation,

@@ -23,9 +23,9 @@ use values::{Atom, Item, Text, ValueFault};
 
 impl<F: Fn(&mut Evaluation, &Expr, &Environment) -> Result<Sequence, ValueFault>> Forms<F> {
     /// Clauses, `where`, `order by` and `return` (XQuery 1.0, section 3.8). Each item of a `for` clause takes a turn. Codes: that of the
-    /// first part that has one; PXQ0002 where no turn is left, at the tuple that brings the 10,001st item, or with `order by` at the
-    /// 10,001st tuple; XPTY0004 where a key is more than one value, or, before `return`, where two keys at one position are of
-    /// different types.
+    /// first part that has one; FORG0006 where `where` has no truth value; PXQ0002 where no turn is left, at the tuple that brings the
+    /// 10,001st item, with `order by` at the 10,001st tuple, or where a key's string is too long; XPTY0004 where a key is more than one
+    /// value, or, before `return`, where two keys at one position are of different types.
     pub fn flwor(
         &self,
         run: &mut Evaluation,
@@ -241,6 +241,7 @@ impl<F: Fn(&mut Evaluation, &Expr, &Environment) -> Result<Sequence, ValueFault>
         self.tuples(run, clauses, condition, body, &env.with(&variables), given)
     }
 
+    /// `where`: the effective boolean value of the test, and true where there is none. Codes: those of `holds`.
     pub(crate) fn tested(
         &self,
         run: &mut Evaluation,
@@ -314,7 +315,7 @@ pub(crate) fn and_item(
     Variables::and(run.alloc(), variable, items, others)
 }
 
-/// The same, and one more with the position that follows an index.
+/// The same, and one more with the position that follows an index. It fails where memory is refused.
 pub(crate) fn and_item_at(
     run: &Evaluation,
     variable: &Text,

@@ -23,7 +23,7 @@ pub struct Forms<F> {
 }
 
 impl<F: Fn(&mut Evaluation, &Expr, &Environment) -> Result<Sequence, ValueFault>> Forms<F> {
-    /// The value of a part.
+    /// The value of a part. Codes: those of the part.
     pub(crate) fn value_of(
         &self,
         run: &mut Evaluation,
@@ -37,7 +37,8 @@ impl<F: Fn(&mut Evaluation, &Expr, &Environment) -> Result<Sequence, ValueFault>
         (self.value_of)(run, x, env)
     }
 
-    /// The effective boolean value of a part (XQuery 1.0, section 2.4.3). The items of a variable are not copied.
+    /// The effective boolean value of a part (XQuery 1.0, section 2.4.3). The items of a variable are not copied. Codes: those of the part;
+    /// FORG0006 where the first of several items is an atomic value.
     pub(crate) fn holds(
         &self,
         run: &mut Evaluation,
@@ -55,7 +56,8 @@ impl<F: Fn(&mut Evaluation, &Expr, &Environment) -> Result<Sequence, ValueFault>
         Ok(truth(items.as_slice())?)
     }
 
-    /// `if (a) then b else c` (XQuery 1.0, section 3.10).
+    /// `if (a) then b else c` (XQuery 1.0, section 3.10). Codes: those of `a`; FORG0006 where the first of several items that it gives is
+    /// an atomic value; then those of the branch that is taken.
     pub fn conditional(
         &self,
         run: &mut Evaluation,
@@ -107,7 +109,7 @@ impl<F: Fn(&mut Evaluation, &Expr, &Environment) -> Result<Sequence, ValueFault>
         Ok(given)
     }
 
-    /// The items before, and then those of an expression.
+    /// The items before, and then those of an expression. Codes: those of the expression; PXQ0002 where there are more than 10,000 items.
     pub(crate) fn and_items(
         &self,
         run: &mut Evaluation,
@@ -137,7 +139,7 @@ pub fn number(
     Ok(Sequence::one(run.alloc(), Item::Atomic(Atom::Integer(value)))?)
 }
 
-/// A string (XQuery 1.0, section 3.1.1).
+/// A string (XQuery 1.0, section 3.1.1). It fails where memory is refused alone.
 pub fn string(run: &mut Evaluation, text: &Text, env: &Environment) -> Result<Sequence, ValueFault>
     ensures { Gives (meaning.string text.now env.now) run.old result run.new }
 {

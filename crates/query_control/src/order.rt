@@ -24,7 +24,10 @@ use std::alloc::AllocError;
 use values::{Atom, Code, Item, Text, ValueFault};
 
 impl<F: Fn(&mut Evaluation, &Expr, &Environment) -> Result<Sequence, ValueFault>> Forms<F> {
-    /// Clauses, `where`, `order by` and `return`: all tuples with their keys, then the sort, then `return` in sorted order.
+    /// Clauses, `where`, `order by` and `return`: all tuples with their keys, then the sort, then `return` in sorted order. Codes: that of
+    /// the first part that has one; PXQ0002 where no turn is left, where the string value of a key is too long, at the 10,001st tuple, or
+    /// at the one that brings the 10,001st item; FORG0006 where what `where` tests has no effective boolean value; XPTY0004 where a key is
+    /// more than one value, or, before `return`, where two keys at one position are of different types.
     pub(crate) fn ordered(
         &self,
         run: &mut Evaluation,

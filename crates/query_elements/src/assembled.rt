@@ -37,7 +37,9 @@ impl Parent {
     }
 }
 
-/// A new node with copied content: it takes its identity, then the content is copied, merged and judged.
+/// A new node with copied content: it takes its identity, then the content is copied, merged and judged. Codes: PXQ0003 where the
+/// evaluation would have made more than 100,000 nodes; PXQ0002 where a text is too long; those of `check_content` for an element, and those
+/// of `check_children` for a document.
 pub(crate) fn assembled(
     run: &mut Evaluation,
     parent: Parent,

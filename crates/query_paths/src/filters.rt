@@ -24,7 +24,7 @@ pub struct Paths<F> {
 }
 
 impl<F: Fn(&mut Evaluation, &Expr, &Environment) -> Result<Sequence, ValueFault>> Paths<F> {
-    /// The value of a part.
+    /// The value of a part. Codes: those of the part.
     pub(crate) fn value_of(
         &self,
         run: &mut Evaluation,
@@ -93,7 +93,8 @@ impl<F: Fn(&mut Evaluation, &Expr, &Environment) -> Result<Sequence, ValueFault>
         kept.into_sequence()
     }
 
-    /// The items, however many, that each predicate keeps.
+    /// The items, however many, that each predicate keeps. Codes: that of the first predicate that has one; FORG0006 where a predicate's
+    /// value is no single number and has no effective boolean value; PXQ0002 where no turn is left.
     pub(crate) fn filtered_by_all(
         &self,
         run: &mut Evaluation,

@@ -1,4 +1,5 @@
 //! FLWOR and quantified expressions (XQuery 1.0, sections 3.8 and 3.11), from one expression that they wait for to the next.
+//! Where a function here fails, what was read is dropped.
 
 ghost use Rattle.std.specs.Prelude.{true, false, [], ◌∷◌, ◌++◌};
 ghost use Rattle.query_parts.specs.Gives.{Gives};
@@ -57,7 +58,7 @@ fn to_return(
     word(tokens, Kind::Return, Pending::Last(last))
 }
 
-/// Goes on after the clauses and `where`.
+/// Goes on after the clauses and `where`. Codes: `Static(XPST0003)` where neither `order by` nor `return` comes next.
 pub(crate) fn to_keys(
     alloc: Global,
     tokens: &mut Tokens,
@@ -113,7 +114,7 @@ fn to_binding(
     }
 }
 
-/// Goes on to the first binding of a clause.
+/// Goes on to the first binding of a clause. Codes: `Static(XPST0003)` where no `for` or `let` comes next with its variable.
 pub(crate) fn to_clause(
     tokens: &mut Tokens,
     found: Items<Clause<Expr>>,
@@ -159,7 +160,8 @@ fn past_binding(
     }
 }
 
-/// Goes on after the source of `for $variable in`.
+/// Goes on after the source of `for $variable in`. Codes: `Static(XPST0003)` where none of another binding, another clause, `where`,
+/// `order by` and `return` comes next; `Memory` where memory is refused.
 pub(crate) fn past_for(
     alloc: Global,
     tokens: &mut Tokens,
@@ -174,7 +176,7 @@ pub(crate) fn past_for(
     past_binding(alloc, tokens, true, found)
 }
 
-/// Goes on after the source of `for $variable at $at in`.
+/// Goes on after the source of `for $variable at $at in`. Codes: those of `past_for`.
 pub(crate) fn past_for_at(
     alloc: Global,
     tokens: &mut Tokens,
@@ -190,7 +192,7 @@ pub(crate) fn past_for_at(
     past_binding(alloc, tokens, true, found)
 }
 
-/// Goes on after the source of `let $variable :=`.
+/// Goes on after the source of `let $variable :=`. Codes: those of `past_for`.
 pub(crate) fn past_let(
     alloc: Global,
     tokens: &mut Tokens,
@@ -205,7 +207,7 @@ pub(crate) fn past_let(
     past_binding(alloc, tokens, false, found)
 }
 
-/// Goes on after a key's expression.
+/// Goes on after a key's expression. Codes: `Static(XPST0003)` where no comma or `return` comes after its direction; want of memory.
 pub(crate) fn past_key(
     alloc: Global,
     tokens: &mut Tokens,
@@ -236,7 +238,8 @@ fn to_in(
     word(tokens, Kind::In, Pending::In(quantifier, found, name))
 }
 
-/// Goes on after a quantified expression's binding.
+/// Goes on after a quantified expression's binding. Codes: `Static(XPST0003)` where neither another binding nor `satisfies` comes next;
+/// `Memory` where memory is refused.
 pub(crate) fn past_in(
     alloc: Global,
     tokens: &mut Tokens,
@@ -257,7 +260,7 @@ pub(crate) fn past_in(
     }
 }
 
-/// Goes to the first binding of a quantified expression.
+/// Goes to the first binding of a quantified expression. Codes: `Static(XPST0003)` where no `some` or `every` comes next with its variable.
 pub(crate) fn to_quantified(alloc: Global, tokens: &mut Tokens) -> Result<Progress, ParseFault>
     ensures { Gives (stage.to_quantified tokens.old) result tokens.new }
 {

@@ -91,7 +91,7 @@ impl<F: Fn(Global, u8, &mut Tokens, usize) -> Result<Expr, ParseFault>> Rules<F>
         self.braces(tokens)
     }
 
-    /// Takes a constructor.
+    /// Takes a constructor. Codes: `Static(XPST0003)` where none comes next; `Memory` where memory is refused.
     #[tactic(auto, unfolding(query_grammar::specs::Reader::make))]
     pub(crate) fn constructor(&self, tokens: &mut Tokens) -> Result<Expr, ParseFault>
         requires { HasReader F.pre F.post self.now }

@@ -97,8 +97,9 @@ impl<F: Fn(Global, u8, &mut Tokens, usize) -> Result<Expr, ParseFault>> Rules<F>
         }
     }
 
-    /// Begins an expression that no comma parts, one deeper than those of `single`: reads it, or the front of a form that waits for
-    /// such an expression itself. Two tokens say which form it has.
+    /// Begins an expression that no comma parts, one deeper than those of `single`: reads it, or the front of a form that waits for such an
+    /// expression itself. Two tokens say which form it has. Codes: `Static(XPST0003)` where neither comes next; `Memory` where memory is
+    /// refused.
     #[tactic(auto, unfolding(crate::specs::Stages::begin))]
     pub(crate) fn begin(&self, tokens: &mut Tokens) -> Result<Progress, ParseFault>
         requires { HasReader F.pre F.post self.now }

@@ -152,7 +152,8 @@ impl<F: Fn(Global, u8, &mut Tokens, usize) -> Result<Expr, ParseFault>> Rules<F>
         Ok(found)
     }
 
-    /// Takes an expression of operators of this precedence and of tighter ones.
+    /// Takes an expression of operators of this precedence and of tighter ones. Codes: `Static(XPST0003)` where none comes next; `Memory`
+    /// where memory is refused.
     #[cycle(binary)]
     #[tactic(auto, using(crate::proofs::Turns::binary_is))]
     pub(crate) fn binary(
@@ -168,7 +169,7 @@ impl<F: Fn(Global, u8, &mut Tokens, usize) -> Result<Expr, ParseFault>> Rules<F>
         Ok(chain_of(self.alloc, first, others)?)
     }
 
-    /// Takes an expression of operators.
+    /// Takes an expression of operators. Codes: `Static(XPST0003)` where none comes next; `Memory` where memory is refused.
     #[tactic(auto, unfolding(query_grammar::specs::Reader::disjunction))]
     pub(crate) fn disjunction(&self, tokens: &mut Tokens) -> Result<Expr, ParseFault>
         requires { HasReader F.pre F.post self.now }

@@ -102,7 +102,7 @@ impl<F: Fn(Global, u8, &mut Tokens, usize) -> Result<Expr, ParseFault>> Rules<F>
         Ok(found)
     }
 
-    /// Takes a path.
+    /// Takes a path. Codes: `Static(XPST0003)` where none comes next; `Memory` where memory is refused.
     #[tactic(auto, unfolding(query_grammar::specs::Reader::path), using(crate::proofs::Turns::path_is))]
     pub(crate) fn path(&self, tokens: &mut Tokens) -> Result<Expr, ParseFault>
         requires { HasReader F.pre F.post self.now }

@@ -75,7 +75,8 @@ pub(crate) enum Progress {
     Waits(Pending),
 }
 
-/// Takes a word, after which this form waits.
+/// Takes a word, after which this form waits. Codes: `Static(XPST0003)` where the next token is of another kind, or there is none; the form
+/// is dropped.
 pub(crate) fn word(
     tokens: &mut Tokens,
     kind: Kind,

@@ -75,7 +75,8 @@ pub(crate) fn sees_primary(tokens: &Tokens) -> bool
 }
 
 impl<F: Fn(Global, u8, &mut Tokens, usize) -> Result<Expr, ParseFault>> Rules<F> {
-    /// Takes an expression, or nothing before the closing token.
+    /// Takes an expression, or nothing before the closing token. Codes: `Static(XPST0003)` where neither an expression nor that token comes
+    /// next; `Memory` where memory is refused.
     #[tactic(auto, unfolding(query_grammar::specs::Reader::content))]
     pub(crate) fn content(&self, tokens: &mut Tokens, closing: Kind) -> Result<Expr, ParseFault>
         requires { HasReader F.pre F.post self.now }
@@ -134,7 +135,7 @@ impl<F: Fn(Global, u8, &mut Tokens, usize) -> Result<Expr, ParseFault>> Rules<F>
         }
     }
 
-    /// Takes a primary expression.
+    /// Takes a primary expression. Codes: `Static(XPST0003)` where none comes next; `Memory` where memory is refused.
     #[tactic(auto, unfolding(query_grammar::specs::Reader::primary))]
     pub(crate) fn primary(&self, tokens: &mut Tokens) -> Result<Expr, ParseFault>
         requires { HasReader F.pre F.post self.now }

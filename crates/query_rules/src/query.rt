@@ -76,10 +76,9 @@ fn single(alloc: Global, level: u8, tokens: &mut Tokens, depth: usize) -> Result
     Err(REFUSED)
 }
 
-/// The expression that the tokens are spelt as at a level of the language; there is at most one (XQuery 1.0, appendix A.1, and
-/// XQuery Update Facility 1.0, appendix A.1). Below level 2 there is no `copy`.
-///
-/// Codes: `Static(XPST0003)` where they are spelt as none, and `Memory` where memory is refused. No other fault is answered.
+/// The expression that the tokens are spelt as at a level of the language; there is at most one (XQuery 1.0, appendix A.1, and XQuery
+/// Update Facility 1.0, appendix A.1). Below level 2 there is no `copy`. Codes: `Static(XPST0003)` where they are spelt as none, and
+/// `Memory` where memory is refused. No other fault is answered.
 pub fn read_query(alloc: Global, level: u8, tokens: Tokens) -> Result<Expr, ParseFault>
     ensures reads { IsParsed level tokens result }
     ensures spelt { IfOk result (λ x. IsQuery level tokens x) }

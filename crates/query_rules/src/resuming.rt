@@ -20,7 +20,8 @@ fn past_source(alloc: Global, tokens: &mut Tokens, source: Expr) -> Result<Progr
     Ok(Progress::Waits(Pending::Last(Last::Insert(source, place))))
 }
 
-/// Goes on with a form that has this expression.
+/// Goes on with a form that has this expression. Codes: `Static(XPST0003)` where the next tokens don't go on with the form; `Memory` where
+/// memory is refused; what was read is dropped.
 #[tactic(auto, unfolding(crate::specs::Stages::resume))]
 pub(crate) fn resume(
     alloc: Global,

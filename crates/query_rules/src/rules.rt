@@ -52,7 +52,8 @@ fn of_list(mut xs: Items<Expr>) -> Expr
 }
 
 impl<F: Fn(Global, u8, &mut Tokens, usize) -> Result<Expr, ParseFault>> Rules<F> {
-    /// Takes an expression that no comma parts.
+    /// Takes an expression that no comma parts. Codes: `Static(XPST0003)` where none comes next that nests no deeper than it may; `Memory`
+    /// where memory is refused.
     pub(crate) fn single(&self, tokens: &mut Tokens) -> Result<Expr, ParseFault>
         requires { HasReader F.pre F.post self.now }
         ensures { Gives (read.single self.now.level self.now.depth tokens.old) result tokens.new }
@@ -84,7 +85,8 @@ impl<F: Fn(Global, u8, &mut Tokens, usize) -> Result<Expr, ParseFault>> Rules<F>
         Ok(found)
     }
 
-    /// Takes expressions with commas between them, one at least.
+    /// Takes expressions with commas between them, one at least. Codes: `Static(XPST0003)` where none comes next; `Memory` where memory is
+    /// refused.
     #[tactic(auto, unfolding(query_grammar::specs::Reader::list1))]
     pub(crate) fn singles(&self, tokens: &mut Tokens) -> Result<Items<Expr>, ParseFault>
         requires { HasReader F.pre F.post self.now }
@@ -95,7 +97,7 @@ impl<F: Fn(Global, u8, &mut Tokens, usize) -> Result<Expr, ParseFault>> Rules<F>
         Ok(with_first(self.alloc, first, others)?)
     }
 
-    /// Takes an expression that commas may part.
+    /// Takes an expression that commas may part. Codes: `Static(XPST0003)` where none comes next; `Memory` where memory is refused.
     #[tactic(auto, unfolding(query_grammar::specs::Reader::exprs))]
     pub(crate) fn exprs(&self, tokens: &mut Tokens) -> Result<Expr, ParseFault>
         requires { HasReader F.pre F.post self.now }

@@ -43,7 +43,7 @@ fn node_or_nodes(tokens: &mut Tokens) -> Result<Token, ParseFault>
     }
 }
 
-/// Takes the place of an insertion.
+/// Takes the place of an insertion. Codes: `Static(XPST0003)` where the next tokens are none.
 #[tactic(auto, unfolding(query_grammar::specs::Reader::place_of))]
 pub(crate) fn place_of(tokens: &mut Tokens) -> Result<Place, ParseFault>
     ensures { Gives (stage.place_of tokens.old) result tokens.new }
@@ -62,7 +62,7 @@ pub(crate) fn place_of(tokens: &mut Tokens) -> Result<Place, ParseFault>
     }
 }
 
-/// Goes to the source of an insertion.
+/// Goes to the source of an insertion. Codes: `Static(XPST0003)` where neither `insert node` nor `insert nodes` comes next.
 pub(crate) fn to_insertion(tokens: &mut Tokens) -> Result<Progress, ParseFault>
     ensures { Gives (stage.to_insertion tokens.old) result tokens.new }
 {
@@ -71,7 +71,7 @@ pub(crate) fn to_insertion(tokens: &mut Tokens) -> Result<Progress, ParseFault>
     Ok(Progress::Waits(Pending::Insert))
 }
 
-/// Goes to the target of a deletion.
+/// Goes to the target of a deletion. Codes: `Static(XPST0003)` where neither `delete node` nor `delete nodes` comes next.
 pub(crate) fn to_deletion(tokens: &mut Tokens) -> Result<Progress, ParseFault>
     ensures { Gives (stage.to_deletion tokens.old) result tokens.new }
 {
@@ -80,7 +80,7 @@ pub(crate) fn to_deletion(tokens: &mut Tokens) -> Result<Progress, ParseFault>
     Ok(Progress::Waits(Pending::Last(Last::Delete)))
 }
 
-/// Goes to the target of a replacement.
+/// Goes to the target of a replacement. Codes: `Static(XPST0003)` where neither `replace node` nor `replace value of node` comes next.
 pub(crate) fn to_replacement(tokens: &mut Tokens) -> Result<Progress, ParseFault>
     ensures { Gives (stage.to_replacement tokens.old) result tokens.new }
 {
@@ -95,7 +95,7 @@ pub(crate) fn to_replacement(tokens: &mut Tokens) -> Result<Progress, ParseFault
     }
 }
 
-/// Goes to the target of a renaming.
+/// Goes to the target of a renaming. Codes: `Static(XPST0003)` where `rename node` doesn't come next.
 pub(crate) fn to_renaming(tokens: &mut Tokens) -> Result<Progress, ParseFault>
     ensures { Gives (stage.to_renaming tokens.old) result tokens.new }
 {
@@ -110,7 +110,8 @@ fn to_copy(tokens: &mut Tokens, found: Items<Binding<Expr>>) -> Result<Progress,
     word(tokens, Kind::Assign, Pending::Copy(found, name))
 }
 
-/// Goes on after a transform expression's binding.
+/// Goes on after a transform expression's binding. Codes: `Static(XPST0003)` where neither another binding nor `modify` comes next;
+/// `Memory` where memory is refused; what was read is dropped.
 pub(crate) fn past_copy(
     alloc: Global,
     tokens: &mut Tokens,
@@ -129,7 +130,8 @@ pub(crate) fn past_copy(
     }
 }
 
-/// Goes to the first binding of a transform expression, which is refused below level 2.
+/// Goes to the first binding of a transform expression, which is refused below level 2. Codes: `Static(XPST0003)` below level 2, and where
+/// `copy` doesn't come next with its variable.
 pub(crate) fn to_copying(
     alloc: Global,
     level: u8,

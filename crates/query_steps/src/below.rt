@@ -84,7 +84,8 @@ fn add_below(
     Ok(())
 }
 
-/// Adds what stands below a node but attributes, as far as it passes the test.
+/// Adds what stands below a node but attributes, as far as it passes the test. It fails where memory is refused; which nodes are listed
+/// then isn't said.
 pub(crate) fn add_descendants(
     shelf: &Shelf,
     axis: Axis,

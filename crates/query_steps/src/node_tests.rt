@@ -58,7 +58,7 @@ fn passes_at(shelf: &Shelf, axis: Axis, test: &NodeTest, node: NodeId) -> bool
     }
 }
 
-/// Adds a node where it passes the test.
+/// Adds a node where it passes the test. It fails where memory is refused; which nodes are listed then isn't said.
 pub(crate) fn add_passing(
     shelf: &Shelf,
     axis: Axis,

@@ -10,7 +10,7 @@ use crate::limited_string::LimitedString;
 use std::alloc::{AllocError, Global};
 use values::{Atom, Code, Text, ValueFault};
 
-/// An atomic value as a string (Functions and Operators, section 17.1.2).
+/// An atomic value as a string (Functions and Operators, section 17.1.2). It fails where memory is refused.
 pub fn printed(alloc: Global, value: &Atom) -> Result<Text, AllocError>
     ensures { IfOk result (λ t. t ≡ meaning.printed value.now) }
 {

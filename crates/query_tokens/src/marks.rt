@@ -89,7 +89,7 @@ fn mark_token(alloc: Global, kind: Kind) -> Token
     }
 }
 
-// The longest mark at the start of a text. Where there is none, it is XPST0003.
+/// The longest mark at the start of a text. Code: XPST0003 where there is none.
 pub(crate) fn mark(alloc: Global, text: &[char]) -> Result<(Token, &[char]), ParseFault>
     ensures { IsNext (lexing.marked (first_of marks text.now) text.now) (λ p. p.0) (λ p. p.1.now) result }
 {

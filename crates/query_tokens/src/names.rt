@@ -46,7 +46,7 @@ fn spelled(alloc: Global, name: &[char]) -> Result<String, AllocError>
     name.iter().copied().collect(alloc)
 }
 
-// The name or the word at the start of a text. The word `xmlns` is XPST0003; it fails where memory is refused, too.
+/// The name or the word at the start of a text. Code: XPST0003 at the word `xmlns`; it fails where memory is refused, too.
 pub(crate) fn name(alloc: Global, text: &[char]) -> Result<(Token, &[char]), ParseFault>
     ensures { IsNext (lexing.name text.now) (λ p. p.0) (λ p. p.1.now) result }
 {
@@ -89,7 +89,7 @@ fn begins_name(text: &[char]) -> bool
     }
 }
 
-// The number at the start of a text. One that a name follows at once or that is above the limit is XPST0003.
+/// The number at the start of a text. Code: XPST0003 where a name follows it at once or it is above the limit.
 pub(crate) fn number(alloc: Global, text: &[char]) -> Result<(Token, &[char]), ParseFault>
     ensures { IsNext (lexing.number text.now) (λ p. p.0) (λ p. p.1.now) result }
 {

@@ -117,8 +117,8 @@ fn entity(text: &[char]) -> Result<(char, &[char]), ParseFault>
     }
 }
 
-// The character that the reference at the start of a text stands for: one of the five by name, or one by its number. A reference to
-// no character of XML 1.0 is XQST0090, and any other `&` is XPST0003.
+/// The character that the reference at the start of a text stands for: one of the five by name, or one by its number. Codes: XQST0090 where
+/// the number is that of no character of XML 1.0; XPST0003 at any other `&`.
 pub(crate) fn reference(text: &[char]) -> Result<(char, &[char]), ParseFault>
     ensures { IsNext (lexing.reference text.now) (λ p. p.0) (λ p. p.1.now) result }
 {

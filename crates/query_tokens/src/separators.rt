@@ -87,8 +87,8 @@ fn is_separated(text: &[char]) -> bool
     }
 }
 
-// What follows the whitespace and the comments at the start of a text. A comment that isn't closed or that has a character which
-// isn't one of XML 1.0 is XPST0003.
+/// What follows the whitespace and the comments at the start of a text. Code: XPST0003 where a comment isn't closed or has a character
+/// which isn't one of XML 1.0.
 pub(crate) fn separators(text: &[char]) -> Result<&[char], ParseFault>
     ensures { IsNext (lexing.separators text.now) (λ _. tt) (λ rest. rest.now) result }
 {

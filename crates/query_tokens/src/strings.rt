@@ -70,7 +70,8 @@ fn contents(alloc: Global, quote: char, text: &[char]) -> Result<(String, &[char
     Ok((content, rest))
 }
 
-// The string at the start of a text, between two of these quotes. One that isn't closed is XPST0003; it fails as `contents` does, too.
+/// The string at the start of a text, between two of these quotes. Codes: XPST0003 where it isn't closed or has a character which isn't one
+/// of XML 1.0; those of `reference`; PXQ0002 where it is too long; it fails where memory is refused, too.
 pub(crate) fn string(
     alloc: Global,
     quote: char,

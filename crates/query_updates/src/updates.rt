@@ -20,7 +20,7 @@ pub struct Updates<F> {
 }
 
 impl<F: Fn(&mut Evaluation, &Expr, &Environment) -> Result<Sequence, ValueFault>> Updates<F> {
-    /// The value of a part.
+    /// The value of a part. Codes: those of the part.
     pub(crate) fn value_of(
         &self,
         run: &mut Evaluation,

@@ -84,7 +84,7 @@ pub trait Records {
         ensures counts { Counts (failed self.old) (failed self.new) result }
         ensures passes { passes self.new ≡ false };
 
-    /// In how many calls the store answered an error other than want of memory; at 2^64 - 1 it stays.
+    /// In how many calls the store has failed; at 2^64 - 1 it stays.
     fn failures(&self) -> u64
         ensures { result ≡ failed self.now };
 }

@@ -47,6 +47,8 @@ impl Model for State {
 
 impl State {
     /// The state before any value: an empty document for each name.
+    ///
+    /// It fails where memory is refused.
     pub fn new(alloc: Global, names: &Names) -> Result<State, NoMemory>
         ensures { IfOk result (Means names.now []) }
     {
@@ -141,6 +143,8 @@ impl State {
     }
 
     /// What a question of that text gives at a level of the language (1 or 2).
+    ///
+    /// It fails where memory is refused.
     pub fn answer(&self, alloc: Global, level: u8, text: &str) -> Result<Answer, NoMemory>
         ensures answered { IfOk result (λ a. answered a ≡ answer self.now.forest level text.now) }
         ensures means { IfOk result (λ a. (names : List (List ℕ)) (values : List ValueTerm) → Means names values self.now → answered a ≡ answer (store_of names values) level text.now) }

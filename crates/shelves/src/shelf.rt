@@ -201,6 +201,8 @@ impl<'a> Shelf<'a> {
     }
 
     /// The string value of a node (XQuery 1.0 and XPath 2.0 Data Model, section 5.13).
+    ///
+    /// It fails where memory is refused.
     pub fn string_value(&self, alloc: Global, id: NodeId) -> Result<String, AllocError>
         requires { IsSome (find id (shelf_trees self.now)) }
         ensures { IfOk result (λ s. string_bytes s ≡ string_value_of id (shelf_trees self.now)) }
@@ -210,7 +212,8 @@ impl<'a> Shelf<'a> {
 
     /// The string value of a node where it has at most `most` bytes, and `None` where it has more.
     ///
-    /// It never holds more of them: it stops before the text that would pass them.
+    /// It gathers no more than `Forest::string_value_within` does (no clause here says so). It fails where memory is refused, which says
+    /// nothing of the value.
     pub fn string_value_within(
         &self,
         alloc: Global,
@@ -224,6 +227,8 @@ impl<'a> Shelf<'a> {
     }
 
     /// The tree of a node as one of its own, with the same identities.
+    ///
+    /// It fails where memory is refused.
     pub fn tree(&self, alloc: Global, id: NodeId) -> Result<Tree, AllocError>
         requires { IsSome (find id (shelf_trees self.now)) }
         ensures { IfOk result (λ t. trees_of_tree t ≡ pick id (shelf_trees self.now)) }

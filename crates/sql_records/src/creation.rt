@@ -90,6 +90,9 @@ fn fill<S: Alter>(tx: &mut Transaction<'_, S>, setup: &Setup, docs: &str) -> Res
 }
 
 /// Makes the tables of a member with no promise, in one transaction.
+///
+/// Faults: `Memory` where memory is refused; `Store` where the store failed. Whatever happens, a crash leaves what it could leave before,
+/// or the tables with that record.
 pub(super) fn create<S: Alter>(
     alloc: Global,
     connection: &mut Connection<S>,

@@ -49,6 +49,10 @@ pub(super) fn fault_of(error: &Error) -> OpenFault
 }
 
 /// The record of this member that the tables hold.
+///
+/// Faults: `Memory` where memory is refused; `Store` where the store failed; `Other` where they hold another member's row; `Damaged` where
+/// they are other tables, or hold neither a record of this member nor another's row, or a transaction is under way. Whatever happens, a
+/// crash leaves nothing that it could not leave before.
 pub(super) fn load<S: Alter>(
     alloc: Global,
     connection: &mut Connection<S>,

@@ -16,7 +16,8 @@ use ballots::Ballot;
 use records::RecordsFault;
 use sqlite::{Alter, Connection, Error, ErrorCode, Statement, params};
 
-/// Reads the statement. Nothing is written by it, and where it succeeds the connection is open.
+/// Reads the statement. Nothing is written by it, and where it succeeds the connection is open. It fails with the error of the store, and
+/// then the record stands as before, too.
 pub(super) fn look<S: Alter>(connection: &mut Connection<S>) -> Result<Statement, Error>
     ensures holds { HasCleanDisk (state S.Store connection.new) → (o : Setup) (a b : Record) → Holds (state S.Store connection.old) o a b → Holds (state S.Store connection.new) o a b }
     ensures open { HasCleanDisk (state S.Store connection.new) → OnOk result (IsTrue (state S.Store connection.new).is_open × IsTrue (state S.Store connection.old).is_open) }
@@ -59,6 +60,9 @@ fn write<S: Alter>(
 }
 
 /// What a write that failed left. It is the old record only if the connection is still open.
+///
+/// It answers a fault, never an `Ok`: `Memory` only where memory was refused and the connection is still open, and then the old record
+/// stands; else `Store`, and then the old one or the new one does.
 pub(super) fn judge<S: Alter>(
     connection: &mut Connection<S>,
     error: &Error,
@@ -76,6 +80,8 @@ pub(super) fn judge<S: Alter>(
 }
 
 /// Acknowledges a promise.
+///
+/// Faults: `Memory`, and then the old record stands; `Store`, and then the old one or the new one does.
 pub(super) fn put_promise<S: Alter>(
     connection: &mut Connection<S>,
     ballot: Ballot,

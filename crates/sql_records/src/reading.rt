@@ -147,6 +147,9 @@ fn read_vote(alloc: Global, row: &Row, promise: Ballot, members: u32) -> Result<
 }
 
 /// Puts the vote that a row shows into a record. Its position has to be above the last one, and becomes the last.
+///
+/// Faults: `Memory` where memory is refused; `Damaged` where the row shows no vote under the promise, or one that is not above the last.
+/// What the record and the last position are then isn't said.
 pub(super) fn add_vote(
     alloc: Global,
     row: &Row,
@@ -172,6 +175,9 @@ pub(super) fn add_vote(
 }
 
 /// The promise in the row of this member.
+///
+/// Faults: `Memory` where memory is refused; `Other` where the row is another member's; `Damaged` where there is not just one row, or it is
+/// that of no member.
 pub(super) fn read_member(alloc: Global, rows: &[Row], setup: &Setup) -> Result<Ballot, OpenFault>
     ensures other { IsErrOf result OpenFault.Other → ShowsAnother setup.now rows.now }
     ensures not_store { IsErrOf result OpenFault.Store → ⊥ }

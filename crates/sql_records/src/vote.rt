@@ -91,6 +91,8 @@ fn run<S: Alter>(
 }
 
 /// Acknowledges a vote, and its ballot as the promise.
+///
+/// Faults: as of `put_promise`.
 pub(super) fn put_vote<S: Alter>(
     connection: &mut Connection<S>,
     ballot: Ballot,

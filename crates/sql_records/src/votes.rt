@@ -20,6 +20,9 @@ use sqlite::{Alter, Connection};
 use std::alloc::Global;
 
 /// The record of that promise and the votes that the table shows, whose positions rise. Beside the record it holds some rows at a time.
+///
+/// Faults: `Memory` where memory is refused; `Store` where the store failed; `Damaged` where the rows are not those of votes that may stand
+/// under that promise. Nothing has changed then, or what was under way was rolled back.
 pub(super) fn load_votes<S: Alter>(
     alloc: Global,
     connection: &mut Connection<S>,

@@ -104,6 +104,8 @@ impl Forest {
     }
 
     /// A forest with an empty document for each name, in their order, with the identities 1, 2 and so on.
+    ///
+    /// It fails where memory is refused.
     pub fn new(alloc: Global, names: &Names) -> Result<Forest, AllocError>
         ensures opening { IfOk result (λ f. f ≡ opening_forest names.now) }
         ensures next { IfOk result (λ f. f.next ≤ 65) }
@@ -228,6 +230,8 @@ impl Forest {
     }
 
     /// The string value of a node (XQuery 1.0 and XPath 2.0 Data Model, section 5.13).
+    ///
+    /// It fails where memory is refused.
     pub fn string_value(&self, alloc: Global, id: NodeId) -> Result<String, AllocError>
         requires { IsSome (find id self.now.trees) }
         ensures { IfOk result (λ s. string_bytes s ≡ string_value_of id self.now.trees) }
@@ -239,7 +243,8 @@ impl Forest {
 
     /// The string value of a node where it has at most `most` bytes, and `None` where it has more.
     ///
-    /// It never holds more of them: it stops before the text that would pass them.
+    /// It stops before the text that would pass them, so it gathers no more (clauses `most` of `node_table`'s `walk`; no clause here says
+    /// so). It fails where memory is refused, which says nothing of the value.
     pub fn string_value_within(
         &self,
         alloc: Global,
@@ -620,6 +625,8 @@ impl Forest {
     }
 
     /// Makes a copy of the tree of a node of this forest or of a lent one, with no parent, as `copy` does. The identities of this forest's nodes come after all of the lent one's.
+    ///
+    /// It gives the copy's root. Where memory is refused (`Memory`) or the next identity would pass 2^62 (`Limit`), all stays as it was.
     pub fn copy_from(
         &mut self,
         alloc: Global,
@@ -677,6 +684,8 @@ impl Forest {
     }
 
     /// The tree of a node as one of its own, with the same identities.
+    ///
+    /// It fails where memory is refused.
     pub fn tree(&self, alloc: Global, id: NodeId) -> Result<Tree, AllocError>
         requires { IsSome (find id self.now.trees) }
         ensures { IfOk result (λ t. trees_of_tree t ≡ pick id self.now.trees) }
@@ -714,6 +723,8 @@ impl Forest {
     }
 
     /// An equal forest of its own.
+    ///
+    /// It fails where memory is refused.
     pub fn duplicate(&self) -> Result<Forest, AllocError>
         ensures { IfOk result (λ f. f ≡ self.now) }
     {

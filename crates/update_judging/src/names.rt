@@ -10,7 +10,7 @@ use std::alloc::{AllocError, Global};
 use tracked_drafts::TrackedDraft;
 use trees::NodeId;
 
-/// Whether no element of the draft has two attributes of one name.
+/// Whether no element of the draft has two attributes of one name. It fails where memory is refused.
 pub(super) fn are_named(draft: &TrackedDraft, alloc: Global) -> Result<bool, AllocError>
     ensures { IfOk result (λ is_so. is_so ≡ has_distinct_attributes draft.now.draft.after) }
 {

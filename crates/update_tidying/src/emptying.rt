@@ -37,7 +37,7 @@ fn empty(draft: &mut TrackedDraft, alloc: Global, id: NodeId) -> Result<(), Allo
     }
 }
 
-/// Takes out empty texts, wherever nodes were touched.
+/// Takes out empty texts, wherever nodes were touched. Where memory is refused, the draft is left half tidied.
 pub(super) fn empty_all(draft: &mut TrackedDraft, alloc: Global) -> Result<(), AllocError>
     ensures filled { OnOk result (draft.new.draft ≡ record draft.old.draft { after = all_filled draft.old.draft.after }) }
     ensures same { draft.new.draft ≡ record draft.old.draft { after = draft.new.draft.after } }

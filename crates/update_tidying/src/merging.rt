@@ -75,7 +75,7 @@ fn merge(draft: &mut TrackedDraft, alloc: Global, id: NodeId) -> Result<(), Allo
     }
 }
 
-/// Merges adjacent texts, wherever nodes were touched.
+/// Merges adjacent texts, wherever nodes were touched. Where memory is refused, the draft is left half tidied.
 pub(super) fn merge_all(draft: &mut TrackedDraft, alloc: Global) -> Result<(), AllocError>
     ensures merged { OnOk result (draft.new.draft ≡ record draft.old.draft { after = all_merged draft.old.draft.after }) }
     ensures same { draft.new.draft ≡ record draft.old.draft { after = draft.new.draft.after } }
