@@ -3,5 +3,3 @@
 
 #[cfg(test)]
 mod accepting;
-#[cfg(test)]
-mod words;

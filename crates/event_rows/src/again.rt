@@ -6,7 +6,7 @@
 //! sent, what was told, and of each node what it has learnt. In the end a resend comes to each member, and then it is compared too how far each
 //! node has applied, and what it answers to `doc("db")`: so what a node to which memory was refused has not applied is made up for.
 
-use super::asking::{answered, shown};
+use super::asking::{MOST_TRIES, answered, shown};
 use applications::Application;
 use ballots::Value;
 use event_files::{Command, EventFile, EventFileFault, read_event_file};
@@ -17,9 +17,6 @@ use rows::RowFault;
 use std::alloc::Global;
 use std::slice;
 use world::{Told, World, WorldFault};
-
-/// How often an event comes at most.
-const MOST_TRIES: u32 = 100;
 
 /// A group, one that goes the same way, and the number up to which each message was delivered.
 #[derive(Drop)]

@@ -13,8 +13,8 @@ use rows::RowFault;
 use std::alloc::Global;
 use world::World;
 
-/// How often a question comes at most.
-const MOST_TRIES: u32 = 100;
+/// How often an event or a question comes at most, where memory is refused to it.
+pub(super) const MOST_TRIES: u32 = 100;
 
 /// The question about all of a document.
 const QUESTION: &str = "doc(\"db\")";

@@ -4,8 +4,9 @@
 
 use super::node::Node;
 use super::scripts::play_in_memory;
-use super::words::{cut, message};
+use super::words::message;
 use records::MemRecords;
+use rows::cut;
 use std::alloc::Global;
 use std::process::Abort;
 

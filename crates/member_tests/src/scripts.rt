@@ -9,10 +9,12 @@
 
 use super::node::{Event, Node};
 use super::same::say_the_same;
-use super::words::{Words, cut, message, number_of};
+use super::words::{message, number_of};
 use ballots::{Ballot, Pair};
 use member::{MemberFault, Send, Target};
 use records::{MemRecords, PlannedRecords, Records};
+use rows::cut;
+use script_words::Words;
 use std::alloc::Global;
 use std::process::Abort;
 
@@ -20,7 +22,7 @@ use std::process::Abort;
 fn read_message(rt: &impl Abort, alloc: Global, text: &str) -> Event {
     let mut words = Words { rest: text };
     assert!(rt; words.next() == "from", "{text}");
-    let sender = words.member(rt);
+    let sender = words.member().expect(rt, "a member");
     Event::Message(sender, message(rt, alloc, words.rest))
 }
 
@@ -39,7 +41,7 @@ fn read_target(rt: &impl Abort, words: &mut Words) -> Target {
         "all" => Target::All,
         "others" => Target::Others,
         "client" => Target::Client,
-        "to" => Target::One(words.member(rt)),
+        "to" => Target::One(words.member().expect(rt, "a member")),
         _ => panic!(rt; "no target"),
     }
 }
@@ -71,7 +73,8 @@ fn expect_tells(rt: &impl Abort, tells: &[Pair], text: &str) {
     let mut words = Words { rest: text };
     for pair in tells {
         assert!(rt;
-            pair.position == words.position(rt) && number_of(&pair.value) == words.number(rt)
+            pair.position == words.position().expect(rt, "a position")
+                && number_of(&pair.value) == words.number().expect(rt, "a number")
         );
     }
     assert!(rt; words.rest.is_empty(), "{text}");
@@ -110,8 +113,16 @@ fn expect_learnt<R: Records + Drop>(rt: &impl Abort, node: &Node<R>, text: &str)
 // Expects what a member shows.
 fn show<R: Records + Drop>(rt: &impl Abort, node: &Node<R>, text: &str) {
     let mut words = Words { rest: text };
-    assert_eq!(rt; node.promised(), words.ballot(rt), "{text}");
-    assert_eq!(rt; node.prefix(), words.position(rt), "{text}");
+    assert_eq!(rt;
+        node.promised(),
+        words.ballot().expect(rt, "a ballot"),
+        "{text}"
+    );
+    assert_eq!(rt;
+        node.prefix(),
+        words.position().expect(rt, "a position"),
+        "{text}"
+    );
     expect_learnt(rt, node, words.rest);
 }
 

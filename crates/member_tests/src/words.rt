@@ -1,7 +1,8 @@
-// Words of a line, and messages in words: a ballot is `ROUND,MEMBER`, a request stands there by its number.
+// Messages in words: a request stands there by its number.
 
-use ballots::{Answer, Ask, Ballot, Entry, Message, Pair, Reply, Request, Value, Vote, Window};
+use ballots::{Answer, Ask, Entry, Message, Pair, Reply, Request, Value, Vote, Window};
 use fault_codes::Code;
+use script_words::Words;
 use std::alloc::{AllocError, Global};
 use std::process::Abort;
 
@@ -12,57 +13,6 @@ const TEXT: &str = "insert node element a {} into doc(\"db\")";
 
 // How many votes or values a message of the tests has at the most.
 const MOST: usize = 9;
-
-// What stands before the first mark and after it: the whole text and nothing where there is none.
-pub(super) fn cut<'a>(text: &'a str, mark: &str) -> (&'a str, &'a str) {
-    match text.split_once(mark) {
-        Some(parts) => parts,
-        None => (text, ""),
-    }
-}
-
-// The words that are still to be read.
-#[derive(Drop)]
-pub(super) struct Words<'a> {
-    pub(super) rest: &'a str,
-}
-
-impl<'a> Words<'a> {
-    // The next word, empty where there is none.
-    pub(super) fn next(&mut self) -> &'a str {
-        let (word, rest) = cut(self.rest, " ");
-        self.rest = rest;
-        word
-    }
-
-    pub(super) fn number(&mut self, rt: &impl Abort) -> u64 {
-        number(rt, self.next())
-    }
-
-    pub(super) fn position(&mut self, rt: &impl Abort) -> u32 {
-        u32::try_from(self.number(rt)).ok().expect(rt, "a position")
-    }
-
-    pub(super) fn member(&mut self, rt: &impl Abort) -> u8 {
-        member(rt, self.number(rt))
-    }
-
-    pub(super) fn ballot(&mut self, rt: &impl Abort) -> Ballot {
-        let (round, owner) = cut(self.next(), ",");
-        Ballot {
-            round: number(rt, round),
-            member: member(rt, number(rt, owner)),
-        }
-    }
-}
-
-fn number(rt: &impl Abort, word: &str) -> u64 {
-    word.parse::<u64>().ok().expect(rt, "a number")
-}
-
-fn member(rt: &impl Abort, number: u64) -> u8 {
-    u8::try_from(number).ok().expect(rt, "a member")
-}
 
 // The request of a number.
 fn request(alloc: Global, number: u64) -> Result<Request, AllocError> {
@@ -96,8 +46,8 @@ pub(super) fn number_of(value: &Value) -> u64 {
 
 // A ballot, and the number of a request.
 fn read_vote(rt: &impl Abort, alloc: Global, words: &mut Words) -> Result<Vote, AllocError> {
-    let ballot = words.ballot(rt);
-    let value = Value::Request(request(alloc, words.number(rt))?);
+    let ballot = words.ballot().expect(rt, "a ballot");
+    let value = Value::Request(request(alloc, words.number().expect(rt, "a number"))?);
     Ok(Vote { ballot, value })
 }
 
@@ -108,7 +58,7 @@ fn read_votes(rt: &impl Abort, alloc: Global, words: &mut Words) -> Result<Vec<E
         if words.next() != "vote" {
             break;
         }
-        let position = words.position(rt);
+        let position = words.position().expect(rt, "a position");
         let vote = read_vote(rt, alloc, words)?;
         entries.push(Entry { position, vote })?;
     }
@@ -117,9 +67,9 @@ fn read_votes(rt: &impl Abort, alloc: Global, words: &mut Words) -> Result<Vec<E
 
 // A ballot, the first and the last position, and votes.
 fn read_window(rt: &impl Abort, alloc: Global, words: &mut Words) -> Result<Window, AllocError> {
-    let ballot = words.ballot(rt);
-    let from = words.position(rt);
-    let covered = words.position(rt);
+    let ballot = words.ballot().expect(rt, "a ballot");
+    let from = words.position().expect(rt, "a position");
+    let covered = words.position().expect(rt, "a position");
     Ok(Window {
         ballot,
         from,
@@ -135,7 +85,7 @@ fn read_pairs(rt: &impl Abort, alloc: Global, words: &mut Words) -> Result<Vec<P
         if words.rest.is_empty() {
             break;
         }
-        let position = words.position(rt);
+        let position = words.position().expect(rt, "a position");
         let value = Value::Request(request(alloc, u64::from(position))?);
         pairs.push(Pair { position, value })?;
     }
@@ -145,32 +95,35 @@ fn read_pairs(rt: &impl Abort, alloc: Global, words: &mut Words) -> Result<Vec<P
 // A message to a member or from a client.
 fn read_message(rt: &impl Abort, alloc: Global, words: &mut Words) -> Result<Message, AllocError> {
     match words.next() {
-        "prepare" => Ok(Message::Prepare(words.ballot(rt), words.position(rt))),
+        "prepare" => Ok(Message::Prepare(
+            words.ballot().expect(rt, "a ballot"),
+            words.position().expect(rt, "a position"),
+        )),
         "promise" => Ok(Message::Promise(read_window(rt, alloc, words)?)),
         "accept" => {
-            let position = words.position(rt);
+            let position = words.position().expect(rt, "a position");
             Ok(Message::Accept(position, read_vote(rt, alloc, words)?))
         }
         "accepted" => {
-            let position = words.position(rt);
+            let position = words.position().expect(rt, "a position");
             Ok(Message::Accepted(position, read_vote(rt, alloc, words)?))
         }
         "chosen" => Ok(Message::Chosen(read_pairs(rt, alloc, words)?)),
-        "catchup" => Ok(Message::CatchUp(words.position(rt))),
-        "submit" => Ok(Message::Submit(request(alloc, words.number(rt))?)),
-        "ask" => Ok(Message::Ask(question(alloc, words.number(rt))?)),
+        "catchup" => Ok(Message::CatchUp(words.position().expect(rt, "a position"))),
+        "submit" => Ok(Message::Submit(request(alloc, words.number().expect(rt, "a number"))?)),
+        "ask" => Ok(Message::Ask(question(alloc, words.number().expect(rt, "a number"))?)),
         kind => Ok(to_client(rt, kind, words)),
     }
 }
 
 // A message to a client, with its number.
 fn to_client(rt: &impl Abort, kind: &str, words: &mut Words) -> Message {
-    let number = words.number(rt);
+    let number = words.number().expect(rt, "a number");
     match kind {
         "reply" => Message::Reply(CLIENT, number, Reply::Done(1)),
         "answer" => Message::Answer(CLIENT, number, 1, Answer::Fault(Code::FODC0002)),
         "behind" => Message::Behind(CLIENT, number, 0),
-        "elsewhere" => Message::Elsewhere(CLIENT, number, words.member(rt)),
+        "elsewhere" => Message::Elsewhere(CLIENT, number, words.member().expect(rt, "a member")),
         _ => panic!(rt; "no message: {kind}"),
     }
 }

@@ -9,5 +9,3 @@ mod learning;
 mod mapping;
 #[cfg(test)]
 mod proposing;
-#[cfg(test)]
-mod words;

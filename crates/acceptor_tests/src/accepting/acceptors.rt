@@ -6,10 +6,12 @@ ghost use Rattle.std.specs.Prelude.{◌≡◌, ◌≤◌, true};
 ghost use Rattle.ballots.specs.Ballot.{IsBallot};
 ghost use Rattle.ballots.specs.Values.{positions};
 
-use crate::words::{Words, cut};
 use acceptor::Acceptor;
+use ballots::limits::POSITIONS;
 use ballots::{Ballot, Entry, Value, Vote, Window};
 use records::{Records, RecordsFault, ScriptRecords};
+use rows::cut;
+use script_words::Words;
 use std::alloc::Global;
 use std::process::Abort;
 
@@ -34,7 +36,7 @@ pub(super) fn is_ballot(ballot: Ballot) -> bool
 pub(super) fn is_position(position: u32) -> bool
     ensures { result ≡ true → (1 ≤ position) × (position ≤ positions) }
 {
-    1 <= position && position <= 1_000_000
+    1 <= position && position <= POSITIONS
 }
 
 // A vote for the no-op.
@@ -51,7 +53,7 @@ fn begin<R: Records + Drop>(
     acceptor: &mut Acceptor<R>,
     words: &mut Words,
 ) -> Result<Answer, RecordsFault> {
-    let ballot = words.ballot(rt);
+    let ballot = words.ballot().expect(rt, "a ballot");
     assert!(rt; is_ballot(ballot) && acceptor.promised().is_below(ballot));
     acceptor.on_begin(alloc, ballot)?;
     Ok(Answer::Begun)
@@ -63,8 +65,8 @@ fn prepare<R: Records + Drop>(
     acceptor: &mut Acceptor<R>,
     words: &mut Words,
 ) -> Result<Answer, RecordsFault> {
-    let ballot = words.ballot(rt);
-    let from = words.position(rt);
+    let ballot = words.ballot().expect(rt, "a ballot");
+    let from = words.position().expect(rt, "a position");
     assert!(rt; is_ballot(ballot));
     Ok(Answer::Promised(acceptor.on_prepare(alloc, ballot, from)?))
 }
@@ -75,8 +77,8 @@ fn accept<R: Records + Drop>(
     acceptor: &mut Acceptor<R>,
     words: &mut Words,
 ) -> Result<Answer, RecordsFault> {
-    let position = words.position(rt);
-    let ballot = words.ballot(rt);
+    let position = words.position().expect(rt, "a position");
+    let ballot = words.ballot().expect(rt, "a ballot");
     assert!(rt; is_ballot(ballot) && is_position(position));
     Ok(Answer::Accepted(acceptor.on_accept(alloc, position, &vote(ballot))?))
 }
@@ -117,8 +119,8 @@ fn take<R: Records + Drop>(
 fn expect_votes(rt: &impl Abort, entries: &[Entry], words: &mut Words) {
     for entry in entries {
         assert!(rt; words.next() == "vote");
-        assert_eq!(rt; entry.position, words.position(rt));
-        assert_eq!(rt; entry.vote.ballot, words.ballot(rt));
+        assert_eq!(rt; entry.position, words.position().expect(rt, "a position"));
+        assert_eq!(rt; entry.vote.ballot, words.ballot().expect(rt, "a ballot"));
     }
 }
 
@@ -126,9 +128,21 @@ fn expect_votes(rt: &impl Abort, entries: &[Entry], words: &mut Words) {
 fn expect_window(rt: &impl Abort, window: &Window, want: &str) {
     let mut words = Words { rest: want };
     assert!(rt; words.next() == "window", "{want}");
-    assert_eq!(rt; window.ballot, words.ballot(rt), "{want}");
-    assert_eq!(rt; window.from, words.position(rt), "{want}");
-    assert_eq!(rt; window.covered, words.position(rt), "{want}");
+    assert_eq!(rt;
+        window.ballot,
+        words.ballot().expect(rt, "a ballot"),
+        "{want}"
+    );
+    assert_eq!(rt;
+        window.from,
+        words.position().expect(rt, "a position"),
+        "{want}"
+    );
+    assert_eq!(rt;
+        window.covered,
+        words.position().expect(rt, "a position"),
+        "{want}"
+    );
     expect_votes(rt, &window.entries, &mut words);
     assert!(rt; words.rest.is_empty(), "{want}");
 }
@@ -163,7 +177,10 @@ fn play_line<R: Records + Drop>(
     line: &str,
 ) {
     match line.strip_prefix("promised ") {
-        Some(text) => assert_eq!(rt; acceptor.promised(), Words { rest: text }.ballot(rt)),
+        Some(text) => assert_eq!(rt;
+            acceptor.promised(),
+            Words { rest: text }.ballot().expect(rt, "a ballot")
+        ),
         None => play_call(rt, alloc, acceptor, line),
     }
 }

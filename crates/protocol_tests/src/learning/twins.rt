@@ -10,9 +10,11 @@ ghost use Rattle.std.specs.List.{All};
 ghost use Rattle.ballots.specs.Values.{positions};
 ghost use Rattle.learner.specs.Hearing.{AreAbove};
 
-use crate::words::{Words, cut};
+use ballots::limits::{MOST_MEMBERS, POSITIONS};
 use ballots::{Ballot, Members, Pair, Request, Value, Vote};
 use learner::{Heard, Learner};
+use rows::cut;
+use script_words::Words;
 use std::alloc::{AllocError, Global};
 use std::process::Abort;
 
@@ -55,7 +57,11 @@ pub(super) fn accepted(member: u8, position: u32, ballot: Ballot) -> Heard {
 }
 
 fn read_accepted(rt: &impl Abort, words: &mut Words) -> Heard {
-    accepted(words.member(rt), words.position(rt), words.ballot(rt))
+    accepted(
+        words.member().expect(rt, "a member"),
+        words.position().expect(rt, "a position"),
+        words.ballot().expect(rt, "a ballot"),
+    )
 }
 
 // The no-op at these positions.
@@ -65,7 +71,7 @@ fn read_no_ops(rt: &impl Abort, alloc: Global, words: &mut Words) -> Result<Vec<
         if words.rest.is_empty() {
             break;
         }
-        let position = words.position(rt);
+        let position = words.position().expect(rt, "a position");
         let value = Value::NoOp;
         pairs.push(Pair { position, value })?;
     }
@@ -89,7 +95,10 @@ fn read_heard(rt: &impl Abort, alloc: Global, text: &str) -> Result<Option<Heard
     match words.next() {
         "accepted" => Ok(Some(read_accepted(rt, &mut words))),
         "chosen" => Ok(Some(Heard::Chosen(read_no_ops(rt, alloc, &mut words)?))),
-        "request" => Ok(Some(Heard::Chosen(request_at(alloc, words.position(rt))?))),
+        "request" => Ok(Some(Heard::Chosen(request_at(
+            alloc,
+            words.position().expect(rt, "a position"),
+        )?))),
         _ => Ok(None),
     }
 }
@@ -99,7 +108,7 @@ fn read_heard(rt: &impl Abort, alloc: Global, text: &str) -> Result<Option<Heard
 fn is_acceptance(member: u8, position: u32) -> bool
     ensures { result ≡ true → (1 ≤ member) × (member ≤ 63) × (1 ≤ position) × (position ≤ positions) }
 {
-    1 <= member && member <= 63 && 1 <= position && position <= 1_000_000
+    1 <= member && member <= MOST_MEMBERS && 1 <= position && position <= POSITIONS
 }
 
 #[tactic(auto, unfolding(ballots::specs::Values::positions))]
@@ -112,7 +121,7 @@ fn are_rising(above: u32, pairs: &[Pair]) -> bool
         [] => true,
         [first, rest @ ..] => {
             above < first.position
-                && first.position <= 1_000_000
+                && first.position <= POSITIONS
                 && are_rising(first.position, rest)
         }
     }
@@ -228,10 +237,13 @@ impl Twins {
         let mut words = Words { rest: line };
         match words.next() {
             "open" => assert!(rt;
-                self.tried.open_tallies() as u64 == words.number(rt),
+                self.tried.open_tallies() as u64 == words.number().expect(rt, "a number"),
                 "{line}"
             ),
-            "prefix" => assert!(rt; self.tried.prefix() == words.position(rt), "{line}"),
+            "prefix" => assert!(rt;
+                self.tried.prefix() == words.position().expect(rt, "a position"),
+                "{line}"
+            ),
             "draft" => self.drop_draft(rt, alloc, &read_accepted(rt, &mut words)),
             word => self.show_at(rt, word, &mut words, line),
         }
@@ -239,8 +251,8 @@ impl Twins {
 
     // Expects what shows at a position.
     fn show_at(&self, rt: &impl Abort, word: &str, words: &mut Words, line: &str) {
-        let (next, number) = shown(&self.tried, words.position(rt));
-        let want = words.perhaps(rt);
+        let (next, number) = shown(&self.tried, words.position().expect(rt, "a position"));
+        let want = words.perhaps().expect(rt, "a number or none");
         match word {
             "next" => assert!(rt; next.map(u64::from) == want, "{line}"),
             "learnt" => assert!(rt; number == want, "{line}"),
@@ -260,7 +272,11 @@ impl Twins {
 fn expect(rt: &impl Abort, news: &[u32], want: &str) {
     let mut words = Words { rest: want };
     for position in news {
-        assert_eq!(rt; *position, words.position(rt), "{want}");
+        assert_eq!(rt;
+            *position,
+            words.position().expect(rt, "a position"),
+            "{want}"
+        );
     }
     assert!(rt; words.rest.is_empty(), "{want}");
 }

@@ -11,9 +11,11 @@ ghost use Rattle.ballots.specs.Messages.{window_of};
 ghost use Rattle.ballots.specs.Values.{positions, IsRising};
 ghost use Rattle.proposer.specs.Hearing.{AreBetween, IsWindow};
 
-use crate::words::{Words, cut};
+use ballots::limits::POSITIONS;
 use ballots::{Ballot, Entry, Members, Pair, Request, Value, Vote, Window};
 use proposer::{Asked, Proposer, ProposerFault, Sends};
+use rows::cut;
+use script_words::Words;
 use std::alloc::{AllocError, Global};
 use std::process::Abort;
 
@@ -21,9 +23,6 @@ use std::process::Abort;
 const CLIENT: u32 = 7;
 
 const TEXT: &str = "insert node element a {} into doc(\"db\")";
-
-// The last position.
-const POSITIONS: u32 = 1_000_000;
 
 // How many votes or positions a line has at the most.
 const MOST: usize = 8;
@@ -76,17 +75,17 @@ fn read_positions(
         if words.rest.is_empty() {
             break;
         }
-        positions.push(words.position(rt))?;
+        positions.push(words.position().expect(rt, "a position"))?;
     }
     Ok(positions)
 }
 
 // A position, a member whose ballot of round 1 it is, and the number of a request.
 fn read_entry(rt: &impl Abort, alloc: Global, words: &mut Words) -> Result<Entry, AllocError> {
-    let position = words.position(rt);
-    let member = words.member(rt);
+    let position = words.position().expect(rt, "a position");
+    let member = words.member().expect(rt, "a member");
     let ballot = Ballot { round: 1, member };
-    let value = Value::Request(request(alloc, words.number(rt))?);
+    let value = Value::Request(request(alloc, words.number().expect(rt, "a number"))?);
     let vote = Vote { ballot, value };
     Ok(Entry { position, vote })
 }
@@ -107,8 +106,8 @@ fn read_entries(
 }
 
 fn read_window(rt: &impl Abort, alloc: Global, words: &mut Words) -> Result<Window, AllocError> {
-    let from = words.position(rt);
-    let covered = words.position(rt);
+    let from = words.position().expect(rt, "a position");
+    let covered = words.position().expect(rt, "a position");
     Ok(Window {
         ballot: OWN,
         from,
@@ -118,13 +117,13 @@ fn read_window(rt: &impl Abort, alloc: Global, words: &mut Words) -> Result<Wind
 }
 
 fn read_begin(rt: &impl Abort, alloc: Global, words: &mut Words) -> Result<Call, AllocError> {
-    let promise = words.ballot(rt);
-    let from = words.position(rt);
+    let promise = words.ballot().expect(rt, "a ballot");
+    let from = words.position().expect(rt, "a position");
     Ok(Call::Begin(promise, from, read_positions(rt, alloc, words)?))
 }
 
 fn read_promise(rt: &impl Abort, alloc: Global, words: &mut Words) -> Result<Call, AllocError> {
-    let sender = words.member(rt);
+    let sender = words.member().expect(rt, "a member");
     Ok(Call::Promise(sender, read_window(rt, alloc, words)?))
 }
 
@@ -134,7 +133,7 @@ fn read_call(rt: &impl Abort, alloc: Global, text: &str) -> Result<Call, AllocEr
         "begin" => read_begin(rt, alloc, &mut words),
         "promise" => read_promise(rt, alloc, &mut words),
         "learned" => Ok(Call::Learned(read_positions(rt, alloc, &mut words)?)),
-        "submit" => Ok(Call::Submit(request(alloc, words.number(rt))?)),
+        "submit" => Ok(Call::Submit(request(alloc, words.number().expect(rt, "a number"))?)),
         "resend" => Ok(Call::Resend),
         _ => panic!(rt; "no call: {text}"),
     }
@@ -312,7 +311,7 @@ impl Twins {
     fn expect_leads(&self, rt: &impl Abort, text: &str) {
         let want = match text {
             "-" => None,
-            _ => Some(Words { rest: text }.ballot(rt)),
+            _ => Some(Words { rest: text }.ballot().expect(rt, "a ballot")),
         };
         assert_eq!(rt; self.tried.leads(), want);
     }
@@ -320,7 +319,7 @@ impl Twins {
     fn play_line(&mut self, rt: &impl Abort, alloc: Global, line: &str) {
         match cut(line, " ") {
             ("leads", text) => self.expect_leads(rt, text),
-            ("yield", text) => self.yield_to(Words { rest: text }.ballot(rt)),
+            ("yield", text) => self.yield_to(Words { rest: text }.ballot().expect(rt, "a ballot")),
             _ => self.play_call(rt, alloc, line),
         }
     }
@@ -347,16 +346,19 @@ fn fault_of(words: &str) -> Option<ProposerFault> {
 fn expect_prepares(rt: &impl Abort, prepares: &[Asked], words: &mut Words) {
     for prepare in prepares {
         assert!(rt; words.next() == "ask");
-        assert_eq!(rt; prepare.member, words.member(rt));
-        assert_eq!(rt; prepare.from, words.position(rt));
+        assert_eq!(rt; prepare.member, words.member().expect(rt, "a member"));
+        assert_eq!(rt; prepare.from, words.position().expect(rt, "a position"));
     }
 }
 
 fn expect_accepts(rt: &impl Abort, accepts: &[Pair], words: &mut Words) {
     for accept in accepts {
         assert!(rt; words.next() == "at");
-        assert_eq!(rt; accept.position, words.position(rt));
-        assert_eq!(rt; number_of(&accept.value), words.number(rt));
+        assert_eq!(rt; accept.position, words.position().expect(rt, "a position"));
+        assert_eq!(rt;
+            number_of(&accept.value),
+            words.number().expect(rt, "a number")
+        );
     }
 }
 
