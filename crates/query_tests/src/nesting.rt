@@ -66,25 +66,22 @@ fn repeated(alloc: Global, times: usize, before: &str, after: &str) -> Result<St
     Ok(text)
 }
 
-/// Whether the text is an expression; it may have faults that are sought in expressions alone.
-fn is_read(alloc: Global, text: &str) -> bool {
+/// Whether the text is an expression; it may have faults that are sought in expressions alone. It fails where memory is refused.
+fn is_read(alloc: Global, text: &str) -> Result<bool, AllocError> {
     match fault_of(alloc, 2, text) {
-        None => true,
-        Some(fault) => {
+        None => Ok(true),
+        Some(ParseFault::Memory) => Err(AllocError),
+        Some(fault) => Ok(
             fault == ParseFault::Static(Code::XPST0017)
-                || fault == ParseFault::Static(Code::XUST0001)
-        }
+                || fault == ParseFault::Static(Code::XUST0001),
+        ),
     }
-}
-
-fn is_refused(alloc: Global, text: &str) -> bool {
-    has_code(alloc, 2, text, Code::XPST0003)
 }
 
 fn whole_is_read(alloc: Global, link: Link) -> Result<bool, AllocError> {
     let times = LENGTH / (link.0.len() + link.1.len() + 1);
     let text = repeated(alloc, times, link.0, link.1)?;
-    Ok(is_read(alloc, &text))
+    is_read(alloc, &text)
 }
 
 // The last token of the text is left out: what follows the innermost expression, or else that expression.
@@ -94,7 +91,7 @@ fn part_is_refused(alloc: Global, link: Link) -> Result<bool, AllocError> {
     for _link in 0..times {
         text.push_str(link.0)?;
     }
-    Ok(is_refused(alloc, &text))
+    has_code(alloc, 2, &text, Code::XPST0003)
 }
 
 fn all_as_wanted(alloc: Global) -> Result<bool, AllocError> {
@@ -109,7 +106,7 @@ fn all_as_wanted(alloc: Global) -> Result<bool, AllocError> {
 fn all_brackets_are_read(alloc: Global, times: usize) -> Result<bool, AllocError> {
     for link in BRACKETS {
         let text = repeated(alloc, times, link.0, link.1)?;
-        if !is_read(alloc, &text) {
+        if !is_read(alloc, &text)? {
             return Ok(false);
         }
     }
@@ -120,10 +117,8 @@ fn all_brackets_are_read(alloc: Global, times: usize) -> Result<bool, AllocError
 fn brackets_nest(rt: HostRuntime) -> Result<(), AllocError> {
     let alloc = rt.alloc();
     assert!(rt; all_brackets_are_read(alloc, BRACKETS_DEEP)?);
-    let child = thread::spawn(&rt, move || {
-        all_brackets_are_read(alloc, BRACKETS_DEEP).unwrap_or(false)
-    })?;
-    assert!(rt; child.join(&rt));
+    let child = thread::spawn(&rt, move || all_brackets_are_read(alloc, BRACKETS_DEEP))?;
+    assert!(rt; child.join(&rt)?);
     Ok(())
 }
 
@@ -136,7 +131,7 @@ fn long_chains_take_no_stack(rt: HostRuntime) -> Result<(), AllocError> {
 #[test]
 fn nor_on_a_thread(rt: HostRuntime) -> Result<(), AllocError> {
     let alloc = rt.alloc();
-    let child = thread::spawn(&rt, move || all_as_wanted(alloc).unwrap_or(false))?;
-    assert!(rt; child.join(&rt));
+    let child = thread::spawn(&rt, move || all_as_wanted(alloc))?;
+    assert!(rt; child.join(&rt)?);
     Ok(())
 }

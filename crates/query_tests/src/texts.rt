@@ -16,8 +16,17 @@ fn parsed(alloc: Global, level: u8, text: &str) -> Result<Boxed<Expr>, ParseFaul
     Ok(Boxed::new(alloc, parse(alloc, level, text)?)?)
 }
 
-pub(crate) fn has_code(alloc: Global, level: u8, text: &str, code: Code) -> bool {
-    fault_of(alloc, level, text) == Some(ParseFault::Static(code))
+/// Whether a text has this code at a level of the language. It fails where memory is refused.
+pub(crate) fn has_code(
+    alloc: Global,
+    level: u8,
+    text: &str,
+    code: Code,
+) -> Result<bool, AllocError> {
+    match fault_of(alloc, level, text) {
+        Some(ParseFault::Memory) => Err(AllocError),
+        fault => Ok(fault == Some(ParseFault::Static(code))),
+    }
 }
 
 /// So many brackets around a text, or before it.
@@ -43,11 +52,11 @@ fn has_code_in_brackets(
     code: Code,
 ) -> Result<bool, AllocError> {
     let whole = in_brackets(alloc, count, text, false)?;
-    Ok(has_code(alloc, 1, &whole, code))
+    has_code(alloc, 1, &whole, code)
 }
 
 #[test]
-fn each_fault_has_its_code(rt: HostRuntime) {
+fn each_fault_has_its_code(rt: HostRuntime) -> Result<(), AllocError> {
     for (text, code) in [
         ("", Code::XPST0003),
         ("1 +", Code::XPST0003),
@@ -66,8 +75,9 @@ fn each_fault_has_its_code(rt: HostRuntime) {
         ("delete node (delete node .)", Code::XUST0001),
         ("if (delete node .) then 1 else 1", Code::XUST0001),
     ] {
-        assert!(rt; has_code(rt.alloc(), 1, text, code), "{text}");
+        assert!(rt; has_code(rt.alloc(), 1, text, code)?, "{text}");
     }
+    Ok(())
 }
 
 #[test]
@@ -84,7 +94,7 @@ fn the_first_pass_with_a_fault_gives_the_code(rt: HostRuntime) -> Result<(), All
         ("for $x at $x in $y return 1", Code::XQST0089),
         ("1 + (delete node $x)", Code::XPST0008),
     ] {
-        assert!(rt; has_code(rt.alloc(), 1, text, code), "{text}");
+        assert!(rt; has_code(rt.alloc(), 1, text, code)?, "{text}");
     }
     Ok(())
 }
@@ -102,7 +112,7 @@ fn two_hundred_brackets_may_be_open(rt: HostRuntime) -> Result<(), ParseFault> {
     let allowed = in_brackets(alloc, 200, "1", true)?;
     assert!(rt; is_one(parsed(alloc, 1, &allowed)?.get()));
     let refused = in_brackets(alloc, 201, "1", true)?;
-    assert!(rt; has_code(alloc, 1, &refused, Code::PXQ0001));
+    assert!(rt; has_code(alloc, 1, &refused, Code::PXQ0001)?);
     Ok(())
 }
 
@@ -155,7 +165,7 @@ fn words_are_names_too(rt: HostRuntime) {
 }
 
 #[test]
-fn variables_are_bound_where_clauses_say(rt: HostRuntime) {
+fn variables_are_bound_where_clauses_say(rt: HostRuntime) -> Result<(), AllocError> {
     for text in [
         "for $x at $i in (1, 2) where $i order by $x return ($x, $i)",
         "for $x in 1, $y in $x let $z := $y return $z",
@@ -177,19 +187,17 @@ fn variables_are_bound_where_clauses_say(rt: HostRuntime) {
         "copy $x := 1, $y := $x modify () return 1",
         "(copy $x := 1 modify () return 1), $x",
     ] {
-        assert!(rt; has_code(rt.alloc(), 2, text, Code::XPST0008), "{text}");
+        assert!(rt; has_code(rt.alloc(), 2, text, Code::XPST0008)?, "{text}");
     }
+    Ok(())
 }
 
-fn category_of(alloc: Global, text: &str) -> Option<Category> {
-    match parsed(alloc, 2, text) {
-        Ok(x) => Some(category(x.get())),
-        Err(_) => None,
-    }
+fn category_of(alloc: Global, text: &str) -> Result<Category, ParseFault> {
+    Ok(category(parsed(alloc, 2, text)?.get()))
 }
 
 #[test]
-fn expressions_have_categories(rt: HostRuntime) {
+fn expressions_have_categories(rt: HostRuntime) -> Result<(), ParseFault> {
     for (text, expected) in [
         ("()", Category::Vacuous),
         ("1", Category::Simple),
@@ -204,6 +212,7 @@ fn expressions_have_categories(rt: HostRuntime) {
             Category::Updating,
         ),
     ] {
-        assert_eq!(rt; category_of(rt.alloc(), text), Some(expected), "{text}");
+        assert_eq!(rt; category_of(rt.alloc(), text)?, expected, "{text}");
     }
+    Ok(())
 }

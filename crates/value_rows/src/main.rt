@@ -24,9 +24,9 @@ struct ValueRows;
 impl Answers for ValueRows {
     fn answer(&mut self, alloc: Global, row: &str) -> Result<String, RowFault> {
         let mut words = Words::new(row);
-        let result = result_of(alloc, &mut words);
+        let result = result_of(alloc, &mut words)?;
         if words.is_empty() {
-            result
+            Ok(result)
         } else {
             Err(RowFault::NotARow)
         }
