@@ -143,13 +143,16 @@ def replaced(path, text, old, new, functions):
     """A file's text with the one place changed that an edit means."""
     if text.count(old) == 1:
         return text.replace(old, new)
-    lines = text.split("\n")
+    lines, found = text.split("\n"), functions_of(text)
     names = {part for name in functions for part in name.split("::")}
-    rows = [row for it in functions_of(text) if it.name in names for row in range(it.first, it.last + 1) if lines[row].count(old) == 1]
-    if len(rows) != 1:
-        raise BadEdit(f"an 'old:' text stands in {path} {text.count(old)} times, and {len(rows)} times in what it changes")
-    lines[rows[0]] = lines[rows[0]].replace(old, new)
-    return "\n".join(lines)
+    # a method of an impl of a trait has another path there than the prover writes
+    by_path = [it for it in found if any(name.endswith(f"::{it.path}") for name in functions)]
+    for meant in (by_path, [it for it in found if it.name in names]):
+        rows = [row for it in meant for row in range(it.first, it.last + 1) if lines[row].count(old) == 1]
+        if len(rows) == 1:
+            lines[rows[0]] = lines[rows[0]].replace(old, new)
+            return "\n".join(lines)
+    raise BadEdit(f"an 'old:' text stands in {path} {text.count(old)} times, and {len(rows)} times in what it changes")
 
 
 def changed_texts(folder, text, functions):
