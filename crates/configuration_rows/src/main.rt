@@ -1,7 +1,9 @@
-//! `configuration_rows FILE`: prints what the text of each row configures, or its fault.
+//! `configuration_rows FILE`: prints what the text of each row configures, or its fault, and what words of the command line ask for.
 //!
-//! A row is a text between two backticks, in which `\n` ends a line.
+//! A row is a text between two backticks, in which `\n` ends a line; or `words TEXT ..`, words of the command line of `paxq`.
 #![tactic(auto)]
+
+mod commands;
 
 use configuration::{Config, ConfigFault, read_config};
 use rows::{Answers, RowFault, Words, run_table};
@@ -16,22 +18,31 @@ fn main(rt: HostRuntime) -> ExitCode {
     }
 }
 
-/// The rows on configurations.
+/// The rows on configurations and command lines.
 #[derive(Drop)]
 struct ConfigurationRows;
 
 impl Answers for ConfigurationRows {
     fn answer(&mut self, alloc: Global, row: &str) -> Result<String, RowFault> {
         let mut words = Words::new(row);
-        let text = words.text(alloc)?;
-        if !words.is_empty() {
-            return Err(RowFault::NotARow);
+        let mut ahead = words;
+        match ahead.plain() {
+            Ok("words") => commands::asked(alloc, &mut ahead),
+            _ => configured(alloc, &mut words),
         }
-        match read_config(alloc, &text) {
-            Ok(config) => Ok(shown(alloc, &config)?),
-            Err(ConfigFault::Wrong) => Ok(String::from_str(alloc, "fault 2")?),
-            Err(ConfigFault::Memory) => Err(RowFault::Memory),
-        }
+    }
+}
+
+/// What a text configures.
+fn configured(alloc: Global, words: &mut Words<'_>) -> Result<String, RowFault> {
+    let text = words.text(alloc)?;
+    if !words.is_empty() {
+        return Err(RowFault::NotARow);
+    }
+    match read_config(alloc, &text) {
+        Ok(config) => Ok(shown(alloc, &config)?),
+        Err(ConfigFault::Wrong) => Ok(String::from_str(alloc, "fault 2")?),
+        Err(ConfigFault::Memory) => Err(RowFault::Memory),
     }
 }
 

@@ -11,6 +11,7 @@ use applications::Application;
 use ballots::Value;
 use event_files::{Command, EventFile, EventFileFault, read_event_file};
 use events::{Event, Tick};
+use held_values::beside;
 use node::Node;
 use records::MemRecords;
 use rows::RowFault;
@@ -48,17 +49,27 @@ fn opened<A: Application + Drop>(
 
 /// What an event file says happens to both groups.
 fn play<A: Application + Drop>(alloc: Global, file: &EventFile) -> Result<String, RowFault> {
+    let (world, second) = beside(opened::<A>(alloc, file)?, opened::<A>(alloc, file))?;
     let mut pair = Pair::<A> {
-        world: opened(alloc, file)?,
-        second: opened(alloc, file)?,
+        world,
+        second,
         delivered: 0,
     };
+    play_to(alloc, &mut pair, file)
+}
+
+/// The same, of two groups to which nothing has happened.
+fn play_to<A: Application + Drop>(
+    alloc: Global,
+    pair: &mut Pair<A>,
+    file: &EventFile,
+) -> Result<String, RowFault> {
     for command in file.commands.iter() {
-        if !take(alloc, &mut pair, command)? {
+        if !take(alloc, pair, command)? {
             return Ok(String::from_str(alloc, "changed")?);
         }
     }
-    if !resend(alloc, &mut pair)? || !have_come_alike(alloc, &pair)? {
+    if !resend(alloc, pair)? || !have_come_alike(alloc, pair)? {
         return Ok(String::from_str(alloc, "not alike")?);
     }
     shown(alloc, &pair.world)

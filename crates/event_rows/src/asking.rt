@@ -44,6 +44,16 @@ fn answers<A: Application + Drop>(
     requires { All (IsCommandOf file.group.members) file.commands.items }
 {
     let world = play::<A>(alloc, file)?;
+    all_answers(alloc, floor, text, &world)
+}
+
+/// The answers of all members of a group.
+fn all_answers<R: Records + Drop, A: Application + Drop>(
+    alloc: Global,
+    floor: u32,
+    text: &str,
+    world: &World<R, A>,
+) -> Result<String, RowFault> {
     let mut out = String::new(alloc);
     for before in 0..world.members().count() {
         if before > 0 {

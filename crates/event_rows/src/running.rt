@@ -34,10 +34,19 @@ pub(super) fn straight<A: Application + Drop>(
 ) -> Result<String, RowFault> {
     let names = read_names(alloc, "db").map_err(|_| RowFault::Memory)?;
     let mut world = opened::<A>(alloc, members, &names)?;
+    straight_in(alloc, &mut world, member)
+}
+
+/// The same, in a group to which nothing has happened.
+fn straight_in<A: Application + Drop>(
+    alloc: Global,
+    world: &mut World<MemRecords, A>,
+    member: u64,
+) -> Result<String, RowFault> {
     let member = u8::try_from(member).ok().ok_or(RowFault::NotARow)?;
     let request = Request::new(alloc, 7, 1, 1, INSERT).map_err(|_| RowFault::Memory)?;
     let made = world.straight(alloc, member, request);
-    let shown = shown(alloc, &world)?;
+    let shown = shown(alloc, world)?;
     match made {
         Ok(deliveries) => Ok(format!(in alloc; "{deliveries} deliveries | {shown}")?),
         Err(fault) => fault_text(alloc, fault, &shown),
@@ -63,10 +72,20 @@ fn run_file<A: Application + Drop>(
     members: u64,
     file: EventFile,
 ) -> Result<String, RowFault> {
-    let mut world = opened::<A>(alloc, members, &file.group.names)?;
+    let names = file.group.names;
     let events = events_of(alloc, file.commands)?;
-    let ran = world.run(alloc, &events);
-    let shown = shown(alloc, &world)?;
+    let mut world = opened::<A>(alloc, members, &names)?;
+    run_all(alloc, &mut world, &events)
+}
+
+/// What comes of events to a group.
+fn run_all<A: Application + Drop>(
+    alloc: Global,
+    world: &mut World<MemRecords, A>,
+    events: &[Event],
+) -> Result<String, RowFault> {
+    let ran = world.run(alloc, events);
+    let shown = shown(alloc, world)?;
     match ran {
         Ok(()) if world.all_applied() => Ok(shown),
         Ok(()) => Err(RowFault::Memory),

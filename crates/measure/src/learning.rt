@@ -13,12 +13,19 @@ const BALLOT: Ballot = Ballot {
     member: 1,
 };
 
-#[tactic(auto, unfolding(ballots::specs::Values::positions))]
 /// The prefix of a learner of three members that heard two of them accept a value at each position up to this one.
 pub fn learnt(alloc: Global, count: u32) -> Option<u32>
     requires { count ≤ positions }
 {
     let mut learner = Learner::new(alloc, Members::new(3)?);
+    learn_up_to(alloc, &mut learner, count)
+}
+
+#[tactic(auto, unfolding(ballots::specs::Values::positions))]
+/// The same of a learner that has heard nothing.
+fn learn_up_to(alloc: Global, learner: &mut Learner, count: u32) -> Option<u32>
+    requires { count ≤ positions }
+{
     let vote = Vote {
         ballot: BALLOT,
         value: Value::NoOp,

@@ -40,14 +40,29 @@ fn opening(alloc: Global) -> Option<Forest> {
 /// A document with elements that have a text each, so many nodes beside the document.
 pub fn made(alloc: Global, count: u32) -> Option<Forest> {
     let mut forest = opening(alloc)?;
+    fill(alloc, &mut forest, count)?;
+    Some(forest)
+}
+
+/// Makes elements that have a text each, children of the document: so many nodes.
+fn fill(alloc: Global, forest: &mut Forest, count: u32) -> Option<()> {
     for _ in 0..count / 2 {
         let document = forest.document("db")?;
-        let element = put(alloc, &mut forest, document, usize::MAX, Kind::Element)?;
+        let element = put(alloc, forest, document, usize::MAX, Kind::Element)?;
         if forest.has(element) {
-            put(alloc, &mut forest, element, usize::MAX, Kind::Text)?;
+            put(alloc, forest, element, usize::MAX, Kind::Text)?;
         }
     }
-    Some(forest)
+    Some(())
+}
+
+/// Makes so many elements, children of the document.
+fn put_siblings(alloc: Global, forest: &mut Forest, count: u32) -> Option<()> {
+    for _ in 0..count {
+        let document = forest.document("db")?;
+        put(alloc, forest, document, usize::MAX, Kind::Element)?;
+    }
+    Some(())
 }
 
 /// Makes an element or a text, a child of another node before which `index` children stand, or all where there are fewer.
@@ -83,17 +98,19 @@ fn put(
 /// How many elements were put in the middle of so many siblings and taken out again; or else only made, with no parent.
 pub fn put_between(alloc: Global, siblings: u32, are_put: bool) -> Option<u32> {
     let mut forest = opening(alloc)?;
-    for _ in 0..siblings {
-        let document = forest.document("db")?;
-        put(alloc, &mut forest, document, usize::MAX, Kind::Element)?;
-    }
+    put_in(alloc, &mut forest, siblings, are_put)
+}
+
+/// The same in a forest of one empty document.
+fn put_in(alloc: Global, forest: &mut Forest, siblings: u32, are_put: bool) -> Option<u32> {
+    put_siblings(alloc, forest, siblings)?;
     let middle = siblings as usize / 2;
     for _ in 0..PUTS {
         let document = forest.document("db")?;
         let node = if are_put {
-            put(alloc, &mut forest, document, middle, Kind::Element)?
+            put(alloc, forest, document, middle, Kind::Element)?
         } else {
-            make(alloc, &mut forest)?
+            make(alloc, forest)?
         };
         if forest.has(node) && forest.parent(node).is_some() {
             forest.take_out(node);
@@ -112,30 +129,49 @@ fn make(alloc: Global, forest: &mut Forest) -> Option<NodeId> {
 /// How many of so many siblings, one after the other and again from the first, come before the last one; or else only whether each stands there.
 pub fn siblings_compared(alloc: Global, siblings: u32, are_compared: bool) -> Option<u32> {
     let mut forest = opening(alloc)?;
-    for _ in 0..siblings {
-        let document = forest.document("db")?;
-        put(alloc, &mut forest, document, usize::MAX, Kind::Element)?;
-    }
-    compare_children(&forest, forest.document("db")?, are_compared)
+    compare_in(alloc, &mut forest, siblings, are_compared)
+}
+
+/// The same in a forest of one empty document.
+fn compare_in(
+    alloc: Global,
+    forest: &mut Forest,
+    siblings: u32,
+    are_compared: bool,
+) -> Option<u32> {
+    put_siblings(alloc, forest, siblings)?;
+    compare_children(forest, forest.document("db")?, are_compared)
 }
 
 /// The same of so many siblings as far down as a tree may be.
 pub fn deep_compared(alloc: Global, siblings: u32, are_compared: bool) -> Option<u32> {
     let mut forest = opening(alloc)?;
+    compare_deep(alloc, &mut forest, siblings, are_compared)
+}
+
+/// The same in a forest of one empty document.
+fn compare_deep(
+    alloc: Global,
+    forest: &mut Forest,
+    siblings: u32,
+    are_compared: bool,
+) -> Option<u32> {
     let mut parent = forest.document("db")?;
     for _ in 1..LEVELS {
-        if !forest.has(parent) {
-            return None;
-        }
-        parent = put(alloc, &mut forest, parent, usize::MAX, Kind::Element)?;
+        parent = put_last(alloc, forest, parent)?;
     }
     for _ in 0..siblings {
-        if !forest.has(parent) {
-            return None;
-        }
-        put(alloc, &mut forest, parent, usize::MAX, Kind::Element)?;
+        put_last(alloc, forest, parent)?;
     }
-    compare_children(&forest, parent, are_compared)
+    compare_children(forest, parent, are_compared)
+}
+
+/// Makes an element, the last child of another node.
+fn put_last(alloc: Global, forest: &mut Forest, parent: NodeId) -> Option<NodeId> {
+    if !forest.has(parent) {
+        return None;
+    }
+    put(alloc, forest, parent, usize::MAX, Kind::Element)
 }
 
 /// How many children of a node come before its last one, one after the other and again from the first.
@@ -161,6 +197,21 @@ fn compare_children(forest: &Forest, parent: NodeId, are_compared: bool) -> Opti
 /// How many nodes of a document were put in order some times, the last one first; or else only copied.
 pub fn ordered(alloc: Global, count: u32, are_ordered: bool) -> Option<u32> {
     let forest = made(alloc, count)?;
+    order_in(alloc, &forest, are_ordered)
+}
+
+/// The same in a forest that is made.
+fn order_in(alloc: Global, forest: &Forest, are_ordered: bool) -> Option<u32> {
+    let nodes = apart(alloc, forest)?;
+    let mut total: u32 = 0;
+    for _ in 0..TURNS {
+        total = total.saturating_add(order_once(alloc, forest, &nodes, are_ordered)?);
+    }
+    Some(total)
+}
+
+/// One child of the document in some, the last one first.
+fn apart(alloc: Global, forest: &Forest) -> Option<Vec<NodeId>> {
     let document = forest.document("db")?;
     if !forest.has(document) {
         return None;
@@ -172,29 +223,34 @@ pub fn ordered(alloc: Global, count: u32, are_ordered: bool) -> Option<u32> {
         }
     }
     nodes.reverse();
-    let mut total: u32 = 0;
-    for _ in 0..TURNS {
-        let mut copy = Vec::new(alloc);
-        copy.extend_from_slice(&nodes).ok()?;
-        let copy = if are_ordered {
-            forest.document_order(alloc, copy).ok()?
-        } else {
-            copy
-        };
-        total = total.saturating_add(u32::try_from(copy.len()).ok()?);
-    }
-    Some(total)
+    Some(nodes)
+}
+
+/// How many nodes were put in order, or else only copied.
+fn order_once(alloc: Global, forest: &Forest, nodes: &[NodeId], are_ordered: bool) -> Option<u32> {
+    let mut copy = Vec::new(alloc);
+    copy.extend_from_slice(nodes).ok()?;
+    let copy = if are_ordered {
+        forest.document_order(alloc, copy).ok()?
+    } else {
+        copy
+    };
+    u32::try_from(copy.len()).ok()
 }
 
 /// How many bytes the printed document has.
 pub fn printed(alloc: Global, count: u32) -> Option<u32> {
     let forest = made(alloc, count)?;
-    let shelf = Shelf::new(alloc, &forest);
+    print_on(alloc, &Shelf::new(alloc, &forest))
+}
+
+/// The same on a shelf.
+fn print_on(alloc: Global, shelf: &Shelf) -> Option<u32> {
     let document = shelf.document("db")?;
     if !shelf.has(document) {
         return None;
     }
-    u32::try_from(text_of(alloc, &shelf, document)?.len()).ok()
+    u32::try_from(text_of(alloc, shelf, document)?.len()).ok()
 }
 
 /// The printed text of a node.
@@ -209,7 +265,11 @@ fn text_of(alloc: Global, shelf: &Shelf, id: NodeId) -> Option<String>
 /// How many of the document's elements have another text than they have.
 pub fn compared(alloc: Global, count: u32) -> Option<u32> {
     let forest = made(alloc, count)?;
-    let shelf = Shelf::new(alloc, &forest);
+    compare_on(alloc, &Shelf::new(alloc, &forest))
+}
+
+/// The same on a shelf.
+fn compare_on(alloc: Global, shelf: &Shelf) -> Option<u32> {
     let other = [Atom::String(Text::new(String::from_str(alloc, "other").ok()?))];
     let mut turns = 1_000_000;
     let mut equal: u32 = 0;
@@ -219,7 +279,7 @@ pub fn compared(alloc: Global, count: u32) -> Option<u32> {
     }
     for id in shelf.children(document) {
         if shelf.has(*id) {
-            let atoms = typed_value(alloc, &shelf, *id)?;
+            let atoms = typed_value(alloc, shelf, *id)?;
             if compare_general(alloc, Comparison::Equal, &atoms, &other, &mut turns).ok()? {
                 equal = equal.saturating_add(1);
             }

@@ -17,11 +17,18 @@ pub fn proposed(alloc: Global, count: u32) -> Option<u32>
     requires { count ≤ positions }
 {
     let mut proposer = leader(alloc)?;
+    propose_up_to(alloc, &mut proposer, count)
+}
+
+/// The same of a leader that has proposed nothing.
+fn propose_up_to(alloc: Global, proposer: &mut Proposer, count: u32) -> Option<u32>
+    requires { count ≤ positions }
+{
     for position in 1..=count {
-        if propose(alloc, &mut proposer, position)? != position {
+        if propose(alloc, proposer, position)? != position {
             return None;
         }
-        learn(alloc, &mut proposer, position)?;
+        learn(alloc, proposer, position)?;
     }
     Some(count)
 }

@@ -1,12 +1,11 @@
 //! `paxq`: reads the command line and runs what it asks for.
 #![tactic(auto)]
 
-mod words;
-
 ghost use Rattle.std.specs.Prelude.{◌≡◌, ◌≢◌};
 ghost use Rattle.std.specs.IoError.{error_kind};
 ghost use Rattle.std.specs.declared.io.ErrorKind.TheVariants.{OutOfMemory};
 
+use command_line::{Form, WordsFault, read_words};
 use paxq_run::run_script;
 use paxq_sim::run_events;
 use program_reports::cannot_read;
@@ -14,7 +13,6 @@ use sessions::State;
 use std::io::{BufWriter, Write};
 use std::process::ExitCode;
 use std::{fs, io};
-use words::{Form, WordsFault};
 
 /// Runs the form that the command line asks for, and ends with its exit status: 0 done, 1 a file that
 /// cannot be read or is wrong, 2 words of no form, 3 no answer, 4 want of memory.
@@ -34,7 +32,7 @@ fn run_words(rt: &HostRuntime) -> io::Result<u8> {
         [_, words @ ..] => words,
         [] => &[],
     };
-    match words::read_words(rt.alloc(), words) {
+    match read_words(rt.alloc(), words) {
         Ok(Form::Run { script }) => run_file(rt, script.as_str()),
         Ok(Form::Sim { events }) => sim_file(rt, events.as_str()),
         Err(fault) => {

@@ -50,22 +50,42 @@ pub fn ask(alloc: Global, words: &mut Words<'_>) -> Result<String, RowFault> {
 /// `KIND NAME TEXT ask TEXT`: what it gives where the context item is a node of that kind, name and text.
 pub fn ask_at(alloc: Global, words: &mut Words<'_>) -> Result<String, RowFault> {
     let kind = kind_of(words.plain()?)?;
-    let name = words.text(alloc)?;
-    let text = words.text(alloc)?;
-    if words.plain()? != "ask" || kind == Kind::Document {
+    if kind == Kind::Document {
         return Err(RowFault::NotARow);
     }
-    let asked_text = words.text(alloc)?;
     let mut lent = Forest::empty(alloc, NodeId::new(NODE));
-    let node = match lent.make(alloc, kind, name, text) {
-        Ok(node) => Item::Node(node),
-        Err(MakeFault::Memory) => return Err(RowFault::Memory),
-        Err(MakeFault::Limit) => return Err(RowFault::NotARow),
-    };
-    let mut run = begun(alloc, &lent)?;
-    let variables = Variables::new();
-    let env = Environment::new(&variables).with_focus(&node, 1, 1);
-    asked(alloc, &mut run, &asked_text, &env)
+    ask_below(alloc, &mut lent, kind, words)
+}
+
+/// `NAME TEXT ask TEXT`: the same where the node is made in a forest.
+fn ask_below(
+    alloc: Global,
+    lent: &mut Forest,
+    kind: Kind,
+    words: &mut Words<'_>,
+) -> Result<String, RowFault> {
+    let node = made(alloc, lent, kind, words)?;
+    if words.plain()? != "ask" || !lent.has(node) {
+        return Err(RowFault::NotARow);
+    }
+    let text = words.text(alloc)?;
+    asked_from(alloc, lent, node, &text)
+}
+
+/// `NAME TEXT`: makes a node of that kind, name and text.
+fn made(
+    alloc: Global,
+    lent: &mut Forest,
+    kind: Kind,
+    words: &mut Words<'_>,
+) -> Result<NodeId, RowFault> {
+    let name = words.text(alloc)?;
+    let text = words.text(alloc)?;
+    match lent.make(alloc, kind, name, text) {
+        Ok(node) => Ok(node),
+        Err(MakeFault::Memory) => Err(RowFault::Memory),
+        Err(MakeFault::Limit) => Err(RowFault::NotARow),
+    }
 }
 
 /// `[from NODE] ask TEXT`: what it gives over a forest of the nodes that a text describes, with that node as the context item.

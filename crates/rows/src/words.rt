@@ -152,14 +152,20 @@ fn push_part(text: &mut String, part: &str, is_escaped: bool) -> Result<(), RowF
 /// The character that the beginning of a part names after a `\`, and the rest of the part.
 fn escaped(part: &str) -> Option<(char, &str)> {
     if let Some(rest) = part.strip_prefix("u{") {
-        let (digits, rest) = rest.split_once("}")?;
-        let code_point = u32::from_str_radix(digits, 16).ok()?;
-        return Some((char::from_u32(code_point)?, rest));
+        return numbered(rest);
     }
-    for (letter, character) in [("n", '\n'), ("r", '\r'), ("t", '\t')] {
-        if let Some(rest) = part.strip_prefix(letter) {
-            return Some((character, rest));
-        }
-    }
-    None
+    let character = match part.chars().next()? {
+        'n' => '\n',
+        'r' => '\r',
+        't' => '\t',
+        _ => return None,
+    };
+    Some((character, part.get(1..)?))
+}
+
+/// The character of a number in hexadecimal digits, which a `}` ends, and what stands after that.
+fn numbered(part: &str) -> Option<(char, &str)> {
+    let (digits, rest) = part.split_once("}")?;
+    let code_point = u32::from_str_radix(digits, 16).ok()?;
+    Some((char::from_u32(code_point)?, rest))
 }

@@ -7,6 +7,7 @@
 
 use super::states;
 use ballots::{Reply, Value};
+use held_values::beside;
 use rows::{RowFault, Words};
 use sessions::State;
 use std::alloc::Global;
@@ -26,17 +27,23 @@ struct Pair {
 
 /// `again CALL ..`: what the calls give.
 pub(super) fn again(alloc: Global, words: &mut Words<'_>) -> Result<String, RowFault> {
+    let (state, second) = beside(states::opened(alloc)?, states::opened(alloc))?;
     let mut pair = Pair {
-        state: states::opened(alloc)?,
-        second: states::opened(alloc)?,
+        state,
+        second,
         numbers: Vec::new(alloc),
     };
+    all_called(alloc, &mut pair, words)
+}
+
+/// Takes the calls, and gives what they gave.
+fn all_called(alloc: Global, pair: &mut Pair, words: &mut Words<'_>) -> Result<String, RowFault> {
     let mut out = String::new(alloc);
     for _ in 0..MOST_CALLS {
         if words.is_empty() {
             return Ok(out);
         }
-        let given = called(alloc, &mut pair, words)?;
+        let given = called(alloc, pair, words)?;
         states::push_given(&mut out, &given)?;
     }
     Err(RowFault::NotARow)

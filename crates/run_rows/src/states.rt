@@ -22,12 +22,17 @@ const INSERT_A: &str = "insert node element a {} into doc(\"db\")";
 /// `state CALL ..`: what the calls give.
 pub(super) fn state(alloc: Global, words: &mut Words<'_>) -> Result<String, RowFault> {
     let mut state = opened(alloc)?;
+    all_called(alloc, &mut state, words)
+}
+
+/// Takes the calls, and gives what they gave.
+fn all_called(alloc: Global, state: &mut State, words: &mut Words<'_>) -> Result<String, RowFault> {
     let mut out = String::new(alloc);
     for _ in 0..MOST_CALLS {
         if words.is_empty() {
             return Ok(out);
         }
-        let given = called(alloc, &mut state, words)?;
+        let given = called(alloc, state, words)?;
         push_given(&mut out, &given)?;
     }
     Err(RowFault::NotARow)

@@ -76,10 +76,18 @@ fn shown(
 
 /// Appends all nodes of an equal forest, and how many there are.
 fn push_duplicate(alloc: Global, out: &mut Pieces, forest: &Forest) -> Result<(), RowFault> {
-    let equal = forest.duplicate()?;
-    let shelf = Shelf::new(alloc, &equal);
-    push_nodes(alloc, out, &shelf)?;
-    out.look(totals(alloc, &shelf)?.as_str())?;
+    push_forest(alloc, out, &forest.duplicate()?)
+}
+
+/// Appends all nodes of a forest, and how many there are.
+fn push_forest(alloc: Global, out: &mut Pieces, forest: &Forest) -> Result<(), RowFault> {
+    push_shelf(alloc, out, &Shelf::new(alloc, forest))
+}
+
+/// Appends all nodes on a shelf, and how many there are.
+fn push_shelf(alloc: Global, out: &mut Pieces, shelf: &Shelf<'_>) -> Result<(), RowFault> {
+    push_nodes(alloc, out, shelf)?;
+    out.look(totals(alloc, shelf)?.as_str())?;
     Ok(())
 }
 

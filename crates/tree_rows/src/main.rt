@@ -59,18 +59,51 @@ fn empty(alloc: Global, next: u64) -> Result<Forest, RowFault> {
 
 /// Takes the steps and the looks that the words name, and gives what they print.
 fn seen(alloc: Global, forest: Forest, words: Words<'_>) -> Result<String, RowFault> {
-    let mut words = words;
     let mut forest = forest;
     let mut out = Pieces::new(alloc);
-    forests::take_steps(alloc, &mut forest, &mut words, &mut out)?;
-    let mut shelf = Shelf::new(alloc, &forest);
-    own::take_steps(alloc, &mut shelf, &mut words, &mut out)?;
-    take_looks(alloc, &forest, &shelf, &mut words, &mut out)?;
-    take_own(alloc, shelf, &mut words, &mut out)?;
-    if !words.is_empty() {
-        return Err(RowFault::NotARow);
-    }
+    see(alloc, &mut forest, words, &mut out)?;
     Ok(out.into_text())
+}
+
+/// Takes the steps on a forest, and then all that is done with a shelf of it.
+fn see(
+    alloc: Global,
+    forest: &mut Forest,
+    words: Words<'_>,
+    out: &mut Pieces,
+) -> Result<(), RowFault> {
+    let mut words = words;
+    forests::take_steps(alloc, forest, &mut words, out)?;
+    see_shelf(alloc, forest, &mut words, out)?;
+    if words.is_empty() {
+        Ok(())
+    } else {
+        Err(RowFault::NotARow)
+    }
+}
+
+/// Takes the steps and the looks that are left of the words, on a shelf of a forest.
+fn see_shelf(
+    alloc: Global,
+    forest: &Forest,
+    words: &mut Words<'_>,
+    out: &mut Pieces,
+) -> Result<(), RowFault> {
+    let mut shelf = Shelf::new(alloc, forest);
+    take_on_shelf(alloc, forest, &mut shelf, words, out)?;
+    take_own(alloc, shelf, words, out)
+}
+
+/// Takes steps on a shelf, and then looks at it and its forest.
+fn take_on_shelf(
+    alloc: Global,
+    forest: &Forest,
+    shelf: &mut Shelf<'_>,
+    words: &mut Words<'_>,
+    out: &mut Pieces,
+) -> Result<(), RowFault> {
+    own::take_steps(alloc, shelf, words, out)?;
+    take_looks(alloc, forest, shelf, words, out)
 }
 
 /// Takes the word `own`, if it is the next one: how many own nodes a shelf leaves.

@@ -1,8 +1,8 @@
 use Rattle.std.proofs.Common.{rules, ap, ap₂, codes, true, ◌≡◌, ◌∙◌}
 use Rattle.std.proofs.lemmas.Result.{IfOk-weaker}
 use Rattle.clap.specs.Words.{App, app_of, new_app, rule_of, with_rule}
-use Rattle.paxq.specs.Words.{file_rule}
-use Rattle.paxq.proofs.words.subcommand.Goals as goal
+use Rattle.command_line.specs.Words.{file_rule}
+use Rattle.command_line.proofs.words.subcommand.Goals as goal
 
 pub returns-clause-shape : goal.returns-clause-shape
 returns-clause-shape c =

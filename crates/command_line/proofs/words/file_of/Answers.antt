@@ -7,9 +7,9 @@ use Rattle.clap.specs.Words.{Row, Text, first_of, found_of, rows_of, subcommand_
 use Rattle.clap.specs.declared.parser.matches.SubCommand.{SubCommand}
 use Rattle.clap.specs.declared.parser.matches.ArgMatches.TheViews.{out-ArgMatches, out-SubCommand}
 use Rattle.clap.proofs.WalkLemmas.{first_value-rows}
-use Rattle.paxq.specs.Words.{file_in}
-use Rattle.paxq.proofs.Refusals.{some≢none}
-use Rattle.paxq.proofs.words.file_of.Goals as goal
+use Rattle.command_line.specs.Words.{file_in}
+use Rattle.command_line.proofs.Refusals.{some≢none}
+use Rattle.command_line.proofs.words.file_of.Goals as goal
 
 -- the file of the subcommand of that name, by its rows
 file_of_form : {Z : Type 0} (form : Text) (o : Option (Box SubCommand Z)) (rows : List Row) → option_map (λ b. (out-SubCommand (box_value b)).name.now) o ≡ Some form

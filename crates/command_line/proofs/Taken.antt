@@ -10,8 +10,8 @@ use Rattle.clap.specs.Simple.{Shape, built, built_leaf, inherited, names_of, sub
 use Rattle.clap.specs.Walk.{Held, Names, Row, Step, Text, Walk, arg_by_index, idle, long_or_other, nothing_held, subcommand_met, value, walk, walk_from, walked}
 use Rattle.clap.proofs.WalkLemmas.{walk_stopped}
 use Rattle.clap.proofs.OnLiterals.{clap_on_literals}
-use Rattle.paxq.specs.Words.{IsFormOf, file_in, form_shape, is_option, paxq_app}
-use Rattle.paxq.proofs.Refusals.{HasNoOptions, IsFault, IsFault-first, IsFault-then, IsPlainWord, dashes, held, no_fault, option_refused, plain_word_is, refused_or_plain, some≢none}
+use Rattle.command_line.specs.Words.{IsFormOf, file_in, form_shape, is_option, paxq_app}
+use Rattle.command_line.proofs.Refusals.{HasNoOptions, IsFault, IsFault-first, IsFault-then, IsPlainWord, dashes, held, no_fault, option_refused, plain_word_is, refused_or_plain, some≢none}
 
 -- ---- one word
 

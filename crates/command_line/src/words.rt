@@ -1,11 +1,11 @@
-//! The words of the command line, read by `clap`.
+//! The words, read by `clap`.
 
 ghost use Rattle.std.specs.Prelude.{◌≡◌, ◌≢◌, ◌↔◌, IfOk, IsErrOf, List, OnOk, [], ℕ, codes, map, option_map};
 ghost use Rattle.std.specs.List.{list_any};
 ghost use Rattle.std.specs.Str.{IsUtf8, bytes_eq};
 ghost use Rattle.std.specs.String.{string_bytes};
 ghost use Rattle.clap.specs.Words.{app_of, fault_of, kind_of, subcommand_of, subcommand_rows_of};
-ghost use Rattle.paxq.specs.Words.{IsForm, IsFormOf, IsLocal, file_in, form_shape, paxq_app};
+ghost use Rattle.command_line.specs.Words.{IsForm, IsFormOf, IsLocal, file_in, form_shape, paxq_app};
 
 use clap::error::ErrorKind;
 use clap::{Arg, ArgMatches, Command, Error};
@@ -140,6 +140,3 @@ fn refusal(error: &Error) -> WordsFault
         _ => WordsFault::Usage,
     }
 }
-
-#[cfg(test)]
-mod tests;

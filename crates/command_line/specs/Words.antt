@@ -6,8 +6,8 @@ use Rattle.clap.specs.Words.{App, Row, Rule, Shape, Text, first_of, new_app, new
 use Rattle.clap.specs.Simple.{on_top}
 use Rattle.clap.specs.declared.builder.command.Command.{Command}
 use Rattle.clap.specs.declared.builder.command.Command.TheViews.{out-Command}
-use Rattle.paxq.specs.declared.words.Form.{Form}
-use Rattle.paxq.specs.declared.words.Form.TheVariants.{Run, Sim}
+use Rattle.command_line.specs.declared.words.Form.{Form}
+use Rattle.command_line.specs.declared.words.Form.TheVariants.{Run, Sim}
 
 -- the word begins with `-` (45), and is more than that
 abbrev pub is_option : List ℕ → Bool

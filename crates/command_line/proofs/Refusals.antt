@@ -9,7 +9,7 @@ use Rattle.clap.specs.Lexer.{long_of, long_of_rest, name_and_value, short_of, sh
 use Rattle.clap.specs.Kinds.{Kinds, or_else}
 use Rattle.clap.specs.Faults.{bundle_fault, bundle_step_fault, flag_word_fault, flags_fault, long_fault, short_fault}
 use Rattle.clap.specs.Walk.{Held, Row, Rule, Text, Waiting, arg_by_long, arg_by_short, bundle_met, bundle_step, long_or_other, plain, plain_word}
-use Rattle.paxq.specs.Words.{is_option}
+use Rattle.command_line.specs.Words.{is_option}
 
 -- ---- kinds of error
 

@@ -6,10 +6,10 @@ use Rattle.std.specs.String.{string_bytes}
 use Rattle.std.specs.Option.{IsSome, unwrap_or}
 use Rattle.clap.specs.Words.{Text}
 use Rattle.clap.proofs.WalkLemmas.{list_any-map}
-use Rattle.paxq.specs.Words.{file_in}
-use Rattle.paxq.proofs.Refusals.{dashes, some≢none}
-use Rattle.paxq.proofs.Taken.{IsTaken, form_has_no_dashes, form_is_taken, taken_as, taken_asks, taken_is_form, taken_other}
-use Rattle.paxq.proofs.words.read_words.Goals as goal
+use Rattle.command_line.specs.Words.{file_in}
+use Rattle.command_line.proofs.Refusals.{dashes, some≢none}
+use Rattle.command_line.proofs.Taken.{IsTaken, form_has_no_dashes, form_is_taken, taken_as, taken_asks, taken_is_form, taken_other}
+use Rattle.command_line.proofs.words.read_words.Goals as goal
 
 -- a text behind a reference is there
 is_some_behind : (o : Option (Bor Text)) (x : Text) → option_map (λ s. s.now) o ≡ Some x → IsSome o

@@ -3,8 +3,8 @@ use Rattle.std.proofs.lemmas.Result.{IfOk-weaker}
 use Rattle.clap.specs.Words.{App, app_of, new_app, rule_of, with_rule, with_subcommand}
 use Rattle.clap.specs.declared.builder.command.Command.TheViews.{out-Command as fields_of}
 use Rattle.clap.specs.Simple.{app_of_fields, on_top}
-use Rattle.paxq.specs.Words.{form_shape, with_settings}
-use Rattle.paxq.proofs.words.command.Goals as goal
+use Rattle.command_line.specs.Words.{form_shape, with_settings}
+use Rattle.command_line.proofs.words.command.Goals as goal
 
 pub returns : goal.returns
 returns c =

@@ -3,8 +3,8 @@ use Rattle.std.specs.String.{string_bytes}
 use Rattle.clap.specs.Words.{App, HasKind, Kinds, app_of, fault_of, is_simple, is_simple_and_free, kind_of, subcommand_of}
 use Rattle.clap.specs.declared.error.Error.{Error}
 use Rattle.clap.specs.declared.error.kind.ErrorKind.TheVariants.{OutOfMemory}
-use Rattle.paxq.specs.Words.{paxq_app}
-use Rattle.paxq.proofs.words.parse.Goals as goal
+use Rattle.command_line.specs.Words.{paxq_app}
+use Rattle.command_line.proofs.words.parse.Goals as goal
 
 -- where no kind of refusal is left, memory was refused
 only_memory : (kinds : Kinds) (e : Error) → kinds ≡ [] → HasKind kinds e → kind_of e ≡ OutOfMemory
