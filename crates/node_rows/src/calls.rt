@@ -25,12 +25,21 @@ struct Played {
 /// What the calls after a group, a member and a number of members give.
 pub(super) fn called(alloc: Global, words: &mut Words<'_>) -> Result<String, RowFault> {
     let mut played = opened(alloc, words)?;
+    all_called(alloc, &mut played, words)
+}
+
+/// What the calls of a node give.
+fn all_called(
+    alloc: Global,
+    played: &mut Played,
+    words: &mut Words<'_>,
+) -> Result<String, RowFault> {
     let mut out = String::new(alloc);
     for _ in 0..MOST_CALLS {
         if words.is_empty() {
             return Ok(out);
         }
-        push_called(alloc, &mut played, words, &mut out)?;
+        push_called(alloc, played, words, &mut out)?;
     }
     Err(RowFault::NotARow)
 }

@@ -5,6 +5,7 @@ use ballots::Answer;
 use questions::answer;
 use rows::{RowFault, Words};
 use std::alloc::{AllocError, Global};
+use trees::Forest;
 
 /// Texts of more bytes are shown by their length.
 const LONGEST_SHOWN: usize = 200;
@@ -16,6 +17,11 @@ const MOST_NEXT: u64 = 1 << 61;
 /// lines, with ` / ` between two of them, or its code.
 pub fn answer_in(alloc: Global, nodes: &str, words: &mut Words<'_>) -> Result<String, RowFault> {
     let forest = grown(alloc, Words::new(nodes))?;
+    answer_over(alloc, &forest, words)
+}
+
+/// The same over a forest.
+fn answer_over(alloc: Global, forest: &Forest, words: &mut Words<'_>) -> Result<String, RowFault> {
     let Ok(level) = u8::try_from(words.number()?) else {
         return Err(RowFault::NotARow);
     };
@@ -23,7 +29,7 @@ pub fn answer_in(alloc: Global, nodes: &str, words: &mut Words<'_>) -> Result<St
     if forest.next().number() > MOST_NEXT {
         return Err(RowFault::NotARow);
     }
-    match answer(alloc, &forest, level, &question) {
+    match answer(alloc, forest, level, &question) {
         Ok(Answer::Text(text)) => Ok(shown(alloc, &text)?),
         Ok(Answer::Fault(code)) => Ok(format!(in alloc; "{code}")?),
         Err(_) => Err(RowFault::Memory),

@@ -40,11 +40,7 @@ fn begun(alloc: Global, lent: &Forest) -> Result<Evaluation<'_>, RowFault>
 
 /// `TEXT`: what an expression gives without a context item.
 pub fn ask(alloc: Global, words: &mut Words<'_>) -> Result<String, RowFault> {
-    let text = words.text(alloc)?;
-    let lent = Forest::empty(alloc, NodeId::new(NODE));
-    let mut run = begun(alloc, &lent)?;
-    let variables = Variables::new();
-    asked(alloc, &mut run, &text, &Environment::new(&variables))
+    ask_over(alloc, &Forest::empty(alloc, NodeId::new(NODE)), words)
 }
 
 /// `KIND NAME TEXT ask TEXT`: what it gives where the context item is a node of that kind, name and text.
@@ -91,9 +87,14 @@ fn made(
 /// `[from NODE] ask TEXT`: what it gives over a forest of the nodes that a text describes, with that node as the context item.
 pub fn ask_in(alloc: Global, nodes: &str, words: &mut Words<'_>) -> Result<String, RowFault> {
     let lent = grown(alloc, Words::new(nodes))?;
+    ask_in_forest(alloc, &lent, words)
+}
+
+/// The same over a forest.
+fn ask_in_forest(alloc: Global, lent: &Forest, words: &mut Words<'_>) -> Result<String, RowFault> {
     match words.plain()? {
-        "ask" => ask_over(alloc, &lent, words),
-        "from" => ask_from(alloc, &lent, words),
+        "ask" => ask_over(alloc, lent, words),
+        "from" => ask_from(alloc, lent, words),
         _ => Err(RowFault::NotARow),
     }
 }
@@ -101,9 +102,14 @@ pub fn ask_in(alloc: Global, nodes: &str, words: &mut Words<'_>) -> Result<Strin
 /// `list TEXT`: the update primitives that an expression gives over a forest of the nodes that a text describes.
 pub fn list_in(alloc: Global, nodes: &str, words: &mut Words<'_>) -> Result<String, RowFault> {
     let lent = grown(alloc, Words::new(nodes))?;
+    list_over(alloc, &lent, words)
+}
+
+/// The same over a forest.
+fn list_over(alloc: Global, lent: &Forest, words: &mut Words<'_>) -> Result<String, RowFault> {
     let text = words.text(alloc)?;
     match parse(alloc, LEVEL, &text) {
-        Ok(x) => listed(alloc, &x, &lent),
+        Ok(x) => listed(alloc, &x, lent),
         Err(ParseFault::Memory) => Err(RowFault::Memory),
         Err(ParseFault::Static(code)) => Ok(code_text(alloc, code)?),
     }

@@ -14,13 +14,19 @@ const MOST_NODES: u32 = 200_000;
 /// The forest of the nodes that the words describe: `PARENT KIND NAME TEXT` for each, or `PARENT times N KIND NAME TEXT` for N equal ones,
 /// which come last among the children or attributes of their parent. Faults: `Memory`; `NotARow` where a parent isn't there, or a kind is none or that of documents.
 pub(super) fn grown(alloc: Global, words: Words<'_>) -> Result<Forest, RowFault> {
-    let mut words = words;
     let mut forest = opening(alloc)?;
+    put_all(alloc, &mut forest, words)?;
+    Ok(forest)
+}
+
+/// Puts the nodes that the words describe.
+fn put_all(alloc: Global, forest: &mut Forest, words: Words<'_>) -> Result<(), RowFault> {
+    let mut words = words;
     for _ in 0..MOST_NODES {
         if words.is_empty() {
-            return Ok(forest);
+            return Ok(());
         }
-        put_next(alloc, &mut forest, &mut words)?;
+        put_next(alloc, forest, &mut words)?;
     }
     Err(RowFault::NotARow)
 }

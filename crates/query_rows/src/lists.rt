@@ -13,13 +13,17 @@ const MOST_LEVELS: u64 = 64;
 /// list, if there is one, and last the next identity.
 pub(super) fn list_text(alloc: Global, outcome: Outcome) -> Result<String, AllocError> {
     let next = outcome.next().number();
-    let list = outcome.into_primitives();
+    listed(alloc, &outcome.into_primitives(), next)
+}
+
+/// The same of a list and the next identity.
+fn listed(alloc: Global, list: &PendingList, next: u64) -> Result<String, AllocError> {
     let mut out = String::new(alloc);
     for primitive in list.as_slice() {
         push_primitive(&mut out, primitive)?;
         out.push_str(" / ")?;
     }
-    push_conflict(alloc, &mut out, &list)?;
+    push_conflict(alloc, &mut out, list)?;
     write!(out, "next {next}")?;
     Ok(out)
 }

@@ -1,6 +1,6 @@
 //! Stores as their row describes them.
 
-ghost use Rattle.std.specs.Prelude.{◌≤◌, ◌^◌, IfOk};
+ghost use Rattle.std.specs.Prelude.{◌≤◌, ◌^◌, IfOk, OnOk};
 ghost use Rattle.update_meaning.specs.Results.{IsStored};
 ghost use Rattle.update_rows.specs.New.{Brings};
 ghost use Rattle.update_rows.specs.Ready.{IsReady};
@@ -32,13 +32,22 @@ pub(super) fn opened(alloc: Global, described: &str) -> Result<Desk, RowFault>
 {
     let names = names_of(alloc, described)?;
     let mut desk = Desk::new(alloc, empty_documents(alloc, &names)?);
+    fill(alloc, &mut desk, &names, described)?;
+    Ok(desk)
+}
+
+/// Puts into empty documents what the words spell.
+fn fill(alloc: Global, desk: &mut Desk, names: &Names, described: &str) -> Result<(), RowFault>
+    requires { IsReady desk.old }
+    ensures { OnOk result (IsReady desk.new) }
+{
     let mut words = Words::new(described);
-    fill_documents(alloc, &mut desk, &names, &mut words)?;
+    fill_documents(alloc, desk, names, &mut words)?;
     if !words.is_empty() {
-        take_next(&mut desk, &mut words)?;
+        take_next(desk, &mut words)?;
     }
     match desk.update(alloc, Way::Apply) {
-        Ok(()) => Ok(desk),
+        Ok(()) => Ok(()),
         Err(ApplyFault::Memory) => Err(RowFault::Memory),
         Err(ApplyFault::Code(_)) => Err(RowFault::NotARow),
     }

@@ -81,6 +81,19 @@ pub(super) fn taken(
     compares: bool,
 ) -> Result<String, RowFault> {
     let mut desk = opened(alloc, described)?;
+    taken_on(alloc, described, &mut desk, words, compares)
+}
+
+/// The same on the store of that description.
+fn taken_on(
+    alloc: Global,
+    described: &str,
+    desk: &mut Desk,
+    words: Words<'_>,
+    compares: bool,
+) -> Result<String, RowFault>
+    requires { IsReady desk.old }
+{
     let mut words = words;
     let mut said = Said {
         text: String::new(alloc),
@@ -90,7 +103,7 @@ pub(super) fn taken(
         compares: compares && desk.forest().len() <= MOST_COMPARED,
         turn: 0,
     };
-    take_all(alloc, scene, &mut desk, &mut words, &mut said)?;
+    take_all(alloc, scene, desk, &mut words, &mut said)?;
     Ok(said.text)
 }
 
@@ -327,15 +340,29 @@ fn update(alloc: Global, scene: Scene<'_>, desk: &mut Desk, way: Way) -> Result<
     ensures { IsReady desk.new }
 {
     let second = second_of(scene, desk)?;
+    update_beside(alloc, scene, desk, way, &second)
+}
+
+/// The same beside a second store, if there is one.
+fn update_beside(
+    alloc: Global,
+    scene: Scene<'_>,
+    desk: &mut Desk,
+    way: Way,
+    second: &Option<Forest>,
+) -> Result<Given, RowFault>
+    requires { IsReady desk.old }
+    ensures { IsReady desk.new }
+{
     let mut updated = desk.update(alloc, way);
     if updated == Err(ApplyFault::Memory) {
-        if !is_still(alloc, scene, desk, &second)? {
+        if !is_still(alloc, scene, desk, second)? {
             return Ok(Given::Word("changed"));
         }
         updated = desk.update(alloc, way);
     }
     if updated.is_err() || way == Way::Discard {
-        if !is_still(alloc, scene, desk, &second)? {
+        if !is_still(alloc, scene, desk, second)? {
             return Ok(Given::Word("changed"));
         }
     }
