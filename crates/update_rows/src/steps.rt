@@ -340,29 +340,15 @@ fn update(alloc: Global, scene: Scene<'_>, desk: &mut Desk, way: Way) -> Result<
     ensures { IsReady desk.new }
 {
     let second = second_of(scene, desk)?;
-    update_beside(alloc, scene, desk, way, &second)
-}
-
-/// The same beside a second store, if there is one.
-fn update_beside(
-    alloc: Global,
-    scene: Scene<'_>,
-    desk: &mut Desk,
-    way: Way,
-    second: &Option<Forest>,
-) -> Result<Given, RowFault>
-    requires { IsReady desk.old }
-    ensures { IsReady desk.new }
-{
     let mut updated = desk.update(alloc, way);
     if updated == Err(ApplyFault::Memory) {
-        if !is_still(alloc, scene, desk, second)? {
+        if !is_still(alloc, scene, desk, &second)? {
             return Ok(Given::Word("changed"));
         }
         updated = desk.update(alloc, way);
     }
     if updated.is_err() || way == Way::Discard {
-        if !is_still(alloc, scene, desk, second)? {
+        if !is_still(alloc, scene, desk, &second)? {
             return Ok(Given::Word("changed"));
         }
     }
