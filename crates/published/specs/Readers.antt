@@ -1,5 +1,5 @@
 -- What a reader is, and what it answers.
-use Rattle.std.specs.Prelude.{◌≡◌, ◌⊎◌, ℕ, List, [], ◌∷◌, ◌++◌, length, string_bytes}
+use Rattle.std.specs.Prelude.{◌≡◌, ◌⊎◌, ℕ, zero, suc, List, [], ◌∷◌, ◌++◌, length, string_bytes}
 use Rattle.std.specs.declared.string.String.{String}
 use Rattle.ballots.specs.Replies.{answered}
 use Rattle.ballots.specs.declared.reply.Answer.{Answer}
@@ -12,6 +12,15 @@ pub record Reader : Type 0 where
   pub number : ℕ
   pub sight : List Value
   pub shown : List Value
+
+-- a reader that has seen these values, and was shown nothing yet
+abbrev pub new_reader : (number : ℕ) → (published : List Value) → Reader
+new_reader n published = record { number = n; sight = published; shown = [] }
+
+-- so many of them, numbered from 1
+abbrev pub first_readers : (count : ℕ) → (published : List Value) → List Reader
+first_readers zero published = []
+first_readers (suc n) published = first_readers n published ++ new_reader (suc n) published ∷ []
 
 -- A reader that is told of a list has seen no less than before, and no less than it was told of.
 abbrev pub Learns : (told old new : List Value) → Type 0

@@ -7,6 +7,6 @@ pub enum ReadFault {
     Memory,
     /// The text is longer than that of a question may be, 4,096 bytes (2).
     Long,
-    /// The store was closed, or nothing is shown that goes as far as the reader has seen (3).
+    /// The store was closed, or nothing is shown that goes as far as the reader has seen, or the reader found no place at the store (3).
     Closed,
 }

@@ -1,8 +1,8 @@
 //! A reader, and what it is told.
 
-ghost use Rattle.std.specs.Prelude.{◌≡◌, ◌<◌, ◌↔◌, ◌⊎◌, [], length, IfOk, IsErrOf};
+ghost use Rattle.std.specs.Prelude.{◌≡◌, ◌<◌, ◌≤◌, ◌↔◌, ◌⊎◌, [], length, IfOk, IsErrOf};
 ghost use Rattle.left_right.specs.Sides.{view as known};
-ghost use Rattle.published.specs.Readers.{IsAnswer, Learns};
+ghost use Rattle.published.specs.Readers.{IsAnswer, Learns, first_readers, new_reader};
 ghost use Rattle.sight.specs.Sights.{IsSight};
 
 use super::copies::Replica;
@@ -60,18 +60,20 @@ impl<J: Naming> Board<J> {
 /// it last asked.
 #[derive(Drop)]
 pub struct Reader<C: Replica<J> + Drop, J: Naming> {
-    place: Place<C, J>,
+    place: Option<Place<C, J>>,
     sight: Sight<Value, J>,
     number: u32,
 }
 
 impl<C: Replica<J> + Drop, J: Naming> Model for Reader<C, J> {
+    ghost use Rattle.std.specs.Prelude.{[]};
+    ghost use Rattle.std.specs.Option.{option_map_or};
     ghost use Rattle.left_right.specs.Sides.{view as known};
     ghost use Rattle.published.specs.Readers.{Reader as ReaderTerm};
 
     ghost Value = { ReaderTerm };
 
-    ghost view = { λ r. record { number = r.number; sight = r.sight; shown = known r.place.place } };
+    ghost view = { λ r. record { number = r.number; sight = r.sight; shown = option_map_or (λ p. known p.place) r.place [] } };
 }
 
 impl<C: Replica<J> + Drop, J: Naming> Store<C, J> {
@@ -84,16 +86,28 @@ impl<C: Replica<J> + Drop, J: Naming> Store<C, J> {
         }
     }
 
-    /// A reader of that number, which has seen what is published, and was shown nothing yet. There is none where each place is in use, or memory is
-    /// refused.
-    pub fn reader(&self, number: u32) -> Result<Reader<C, J>, AllocError>
-        ensures { IfOk result (λ r. r ≡ record { number = number; sight = self.now.published; shown = [] }) }
+    /// A reader of that number, which has seen what is published, and was shown nothing yet.
+    fn reader(&self, number: u32) -> Reader<C, J>
+        ensures { result ≡ new_reader number self.now.published }
     {
-        Ok(Reader {
-            place: self.place()?,
+        Reader {
+            place: self.place().ok(),
             sight: self.shown().sight().again(),
             number,
-        })
+        }
+    }
+
+    /// As many readers, numbered from 1, where there is room for them.
+    pub(super) fn readers(&self, given: Vec<Reader<C, J>>, count: u32) -> Vec<Reader<C, J>>
+        requires nothing { given.items ≡ [] }
+        requires room { count ≤ given.cap }
+        ensures { result.items ≡ first_readers count self.now.published }
+    {
+        let mut given = given;
+        for place in 0..count {
+            given.push_reserved(self.reader(place + 1));
+        }
+        given
     }
 }
 
@@ -126,7 +140,7 @@ impl<C: Replica<J> + Drop, J: Naming> Reader<C, J> {
     /// moment of the call; they begin with all that this reader has seen and was told of, and are its sight then.
     ///
     /// Faults: memory was refused, and the reader may have seen more (1); the text is longer than 4,096 bytes (2); the store was closed, or
-    /// nothing is shown that goes as far as the reader has seen (3).
+    /// nothing is shown that goes as far as the reader has seen, or the reader found no place at the store (3).
     pub fn ask(&mut self, alloc: Global, level: u8, text: &str) -> Result<(Answer, u32), ReadFault>
         ensures answer { IfOk result (λ r. IsAnswer (C.meaning) level text.now r.0 r.1 self.new.sight) }
         ensures shown { IfOk result (λ _. self.new.shown ≡ self.new.sight) }
@@ -141,9 +155,12 @@ impl<C: Replica<J> + Drop, J: Naming> Reader<C, J> {
         if text.len() > MOST_BYTES {
             return Err(ReadFault::Long);
         }
+        let Some(place) = &mut self.place else {
+            return Err(ReadFault::Closed);
+        };
         let seen = self.sight.again();
         let (seen, answer) = replace_with(
-            &mut self.place,
+            place,
             (seen, alloc, level, text),
             |place, (seen, alloc, level, text)| read(place, seen, alloc, level, text),
         );

@@ -2,9 +2,11 @@
 
 ghost use Rattle.std.specs.Prelude.{◌≡◌, ◌<◌, ◌≤◌, [], ◌++◌, drop, length, option_to_list, IfOk, MatchBool, MatchResult, OnErr, None};
 ghost use Rattle.left_right.specs.Sides.{view as known};
+ghost use Rattle.published.specs.Readers.{first_readers};
 ghost use Rattle.published.specs.Stores.{HandsOn, Publishes, handed_on};
 
 use super::copies::{Copies, Entry, Opening, Replica, StateCopy};
+use super::reader::Reader;
 use applications::Application;
 use ballots::Value;
 use ballots::limits::POSITIONS;
@@ -110,7 +112,7 @@ impl<C: Replica<J> + Drop, J: Naming> Store<C, J> {
         self.shelf.published()
     }
 
-    /// A reader's place at the store, which was shown nothing. There is none where each is in use, or memory is refused.
+    /// A reader's place at the store, which was shown nothing. There is none where each is in use, or where more have one than can be counted.
     pub(super) fn place(&self) -> Result<Place<C, J>, AllocError>
         ensures { IfOk result (λ p. known p.place ≡ []) }
     {
@@ -144,16 +146,35 @@ impl<C: Replica<J> + Drop, J: Naming> Store<C, J> {
 }
 
 impl<A: Application + Drop, J: Naming + Opening> Store<StateCopy<A, J>, J> {
-    /// Publishes what both copies have applied, with places for so many readers. Nothing is pending.
+    /// Publishes what both copies have applied, and gives as many readers, numbered from 1. Nothing is pending.
     ///
     /// It fails where memory is refused.
     pub fn over(
         alloc: Global,
         copies: Copies<A, J>,
-        readers: usize,
+        readers: u32,
+    ) -> Result<(Store<StateCopy<A, J>, J>, Vec<Reader<StateCopy<A, J>, J>>), AllocError>
+        requires readers { (1 ≤ readers) × (readers ≤ 64) }
+        ensures store { IfOk result (λ s. s.0 ≡ record { published = copies; pending = [] }) }
+        ensures readers { IfOk result (λ s. s.1.items ≡ first_readers readers copies) }
+    {
+        let mut given = Vec::new(alloc);
+        given.reserve(readers as usize)?;
+        let store = Store::shelved(alloc, copies, readers)?;
+        let given = store.readers(given, readers);
+        Ok((store, given))
+    }
+
+    /// Publishes what both copies have applied, with places for as many readers.
+    ///
+    /// It fails where memory is refused.
+    fn shelved(
+        alloc: Global,
+        copies: Copies<A, J>,
+        readers: u32,
     ) -> Result<Store<StateCopy<A, J>, J>, AllocError>
         requires readers { (1 ≤ readers) × (readers ≤ 64) }
-        ensures { IfOk result (λ s. (s.published ≡ copies) × (s.pending ≡ [])) }
+        ensures { IfOk result (λ s. s ≡ record { published = copies; pending = [] }) }
     {
         let Copies {
             first,
@@ -162,7 +183,7 @@ impl<A: Application + Drop, J: Naming + Opening> Store<StateCopy<A, J>, J> {
             sight,
         } = copies;
         Ok(Store {
-            shelf: Shelf::<StateCopy<A, J>, J>::new(alloc, first, second, readers)?,
+            shelf: Shelf::<StateCopy<A, J>, J>::new(alloc, first, second, readers as usize)?,
             roll,
             sight,
             kept: None,
