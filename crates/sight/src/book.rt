@@ -66,6 +66,7 @@ impl Naming for Brand {
 }
 
 /// An empty list that has no name yet. Contracts see it as the book in which the list stands.
+#[derive(Drop)]
 pub struct Opened<E> {
     length: Word<E, u64, Law>,
     seen: Seen<E, u64, Law>,

@@ -1,0 +1,3 @@
+pub mod Handing
+pub mod Chosen
+pub mod Counting
