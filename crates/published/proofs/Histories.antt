@@ -9,7 +9,7 @@ use Rattle.sight.specs.Sights.{IsSight}
 
 pub seen_published : {store : Store} {seen : List (List Value)} → Happened store seen → (sight : List Value) → Has seen sight → IsSight sight store.published
 seen_published (Opens values) sight has = absurd has
-seen_published (Hands value old new seen h on) sight has = subst (λ (z : List Value). IsSight sight z) (sym on.0) (seen_published h sight has)
+seen_published (Hands old new seen h on) sight has = subst (λ (z : List Value). IsSight sight z) (sym on.0) (seen_published h sight has)
 seen_published (Shows old new seen h on) sight has =
     subst (λ (z : List Value). IsSight sight z) (sym on.0) (begins_through sight old.published (old.published ++ old.pending) (seen_published h sight has) (old.pending, refl))
 seen_published (Sees store seen h) sight has =

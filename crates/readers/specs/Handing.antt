@@ -34,7 +34,3 @@ pub record Turned {R A : Type 0} (has_applied : List (List ℕ) → List Value �
 -- so upon an input, whichever running member of a world its node is, where what was handed on before was a beginning of what it had applied
 abbrev pub Turns : {R A : Type 0} → (has_applied : List (List ℕ) → List Value → A → Type 0) → Application → Input → (old new : Site R A) → Outbox → Type 0
 Turns has_applied app i old new o = (u : Running) → RunsAs has_applied u old.node → HasHanded u old → Turned has_applied app i old new u o
-
--- readers are shown what they were, and what was pending still is; more may be
-abbrev pub Keeps : (old new : Store) → Type 0
-Keeps old new = (new.published ≡ old.published) × IsSight old.pending new.pending

@@ -4,8 +4,7 @@ ghost use Rattle.std.specs.Prelude.{◌≡◌, ◌<◌, ◌+◌, ◌++◌, lengt
 ghost use Rattle.node.specs.Nodes.{RunsAs};
 ghost use Rattle.paxos.specs.Knowledge.{learnt as learnt_at, news};
 ghost use Rattle.paxos.specs.Step.{Running};
-ghost use Rattle.published.specs.Stores.{handed_on};
-ghost use Rattle.readers.specs.Handing.{Keeps};
+ghost use Rattle.published.specs.Stores.{Keeps, handed_on};
 ghost use Rattle.readers.specs.Counting.{AreFirst};
 
 use applications::Application;

@@ -3,10 +3,12 @@
 
 mod fault;
 mod handing;
+mod input;
 mod laws;
 mod opening;
 mod site;
 
 pub use fault::SiteFault;
+pub use input::Input;
 pub use laws::every_sight_is_chosen;
 pub use site::Site;

@@ -1,17 +1,20 @@
 //! A site.
 
 ghost use Rattle.std.specs.Prelude.{◌≡◌, ◌↔◌, [], IfOk, IfErr, OnErr, IsErrOf, MatchResult, true, false, length};
-ghost use Rattle.ballots.specs.Messages.{Packet as Posted};
-ghost use Rattle.member.specs.Steps.{Hears, ticked};
+ghost use Rattle.member.specs.Steps.{Input as InputTerm, ticked};
 ghost use Rattle.messages.specs.Reading.{Fails, Gives, datagram_read};
 ghost use Rattle.messages.specs.Spelling.{Datagram, spelling};
 ghost use Rattle.messages.specs.declared.fault.WireFault.{WireFault as WireFaultTerm};
-ghost use Rattle.node.specs.Nodes.{HasFailed, IsFrom, IsStrange, IsUnchanged, RunsAs};
+ghost use Rattle.node.specs.Nodes.{HasFailed, IsStrange, IsUnchanged, RunsAs};
+ghost use Rattle.paxos.specs.Knowledge.{learnt as learnt_at, news, prefix};
 ghost use Rattle.paxos.specs.Step.{Running, may_begin};
-ghost use Rattle.published.specs.Stores.{Publishes};
-ghost use Rattle.readers.specs.Handing.{Keeps, Turns};
+ghost use Rattle.published.specs.Stores.{Keeps, Publishes, handed_on};
+ghost use Rattle.readers.specs.Handing.{Turns};
+ghost use Rattle.readers.specs.Inputs.{CannotBegin, Comes, IsNoMessage, IsOfStranger, Spells};
+ghost use Rattle.std.specs.Option.{option_copied};
 
 use super::handing::hand_over;
+use super::input::Input;
 use applications::Application;
 use ballots::{Setup, Value};
 use member::Tick;
@@ -58,14 +61,14 @@ impl<R: Records + Drop, A: Application + Drop, C: Replica<J> + Drop, J: Naming> 
     /// Its outbox is short too where memory was refused for handing on; the next call goes on.
     ///
     /// Faults: those of [`Node::receive`]; nothing is handed on then.
-    pub fn receive(&mut self, alloc: Global, bytes: &[u8]) -> Result<Outbox, NodeFault>
-        ensures turned { IfOk result (λ o. (k : Posted) × IsFrom self.old.node.setup bytes.now k × Turns A.has_applied (A.meaning self.old.node.setup.names) (Hears k) self.old self.new o) }
+    fn receive(&mut self, alloc: Global, bytes: &[u8]) -> Result<Outbox, NodeFault>
+        ensures turned { IfOk result (λ o. (i : InputTerm) × Spells self.old.node.setup bytes.now i × Turns A.has_applied (A.meaning self.old.node.setup.names) i self.old self.new o) }
         ensures keeps { Keeps self.old.store self.new.store }
         ensures refused { OnErr result (self.new.store ≡ self.old.store) }
         ensures wire { (f : WireFaultTerm) → IsErrOf result (NodeFault.Wire f) → datagram_read bytes.now ≡ Fails f }
         ensures stranger { IsErrOf result NodeFault.Stranger → (d : Datagram) × (bytes.now ≡ spelling d) × (datagram_read bytes.now ≡ Gives d []) × IsStrange self.old.node.setup d }
         ensures stopped { IsErrOf result NodeFault.Stopped ↔ (self.old.node.member.acceptor.is_stopped ≡ true) }
-        ensures failed { IsErrOf result NodeFault.Store → (k : Posted) × IsFrom self.old.node.setup bytes.now k × HasFailed R.stands R.is_kept R.failed A.has_applied (A.meaning self.old.node.setup.names) (Hears k) self.old.node self.new.node }
+        ensures failed { IsErrOf result NodeFault.Store → (i : InputTerm) × Spells self.old.node.setup bytes.now i × HasFailed R.stands R.is_kept R.failed A.has_applied (A.meaning self.old.node.setup.names) i self.old.node self.new.node }
         ensures spent { (u : Running) → RunsAs A.has_applied u self.old.node → IsErrOf result NodeFault.Spent → ⊥ }
         ensures unchanged { IfErr result (λ fault. (fault ≡ NodeFault.Store → ⊥) → IsUnchanged A.has_applied R.failed self.old.node self.new.node) }
         ensures setup { self.new.node.setup ≡ self.old.node.setup }
@@ -83,8 +86,8 @@ impl<R: Records + Drop, A: Application + Drop, C: Replica<J> + Drop, J: Naming> 
     /// Its outbox is short too where memory was refused for handing on; the next call goes on.
     ///
     /// Faults: those of [`Node::tick`]; nothing is handed on then.
-    pub fn tick(&mut self, alloc: Global, tick: Tick) -> Result<Outbox, NodeFault>
-        ensures turned { IfOk result (λ o. Turns A.has_applied (A.meaning self.old.node.setup.names) (ticked tick) self.old self.new o) }
+    fn tick(&mut self, alloc: Global, tick: Tick) -> Result<Outbox, NodeFault>
+        ensures turned { IfOk result (λ o. (i : InputTerm) × (i ≡ ticked tick) × Turns A.has_applied (A.meaning self.old.node.setup.names) i self.old self.new o) }
         ensures keeps { Keeps self.old.store self.new.store }
         ensures refused { OnErr result (self.new.store ≡ self.old.store) }
         ensures stopped { IsErrOf result NodeFault.Stopped ↔ (self.old.node.member.acceptor.is_stopped ≡ true) }
@@ -99,12 +102,38 @@ impl<R: Records + Drop, A: Application + Drop, C: Replica<J> + Drop, J: Naming> 
         Ok(told(outbox, is_all))
     }
 
+    /// Takes the step of an input, as its node does, and hands on to readers what was applied: it is pending then.
+    ///
+    /// Its outbox is short too where memory was refused for handing on; the next call goes on.
+    ///
+    /// Faults, each of which but the fourth changes nothing that shows: the bytes are no message (1); the message is of another group, from or
+    /// about a member that there is not, or of a kind that goes to clients (2); memory was refused (3); the store failed, and the node has
+    /// stopped (4); it had stopped before (5); positions or rounds are spent, so that no ballot begins (6).
+    pub fn turn(&mut self, alloc: Global, input: Input<'_>) -> Result<Outbox, NodeFault>
+        ensures turned { IfOk result (λ o. (i : InputTerm) × Comes self.old.node.setup input.entry i × Turns A.has_applied (A.meaning self.old.node.setup.names) i self.old self.new o) }
+        ensures keeps { Keeps self.old.store self.new.store }
+        ensures refused { OnErr result (self.new.store ≡ self.old.store) }
+        ensures wire { (f : WireFaultTerm) → IsErrOf result (NodeFault.Wire f) → IsNoMessage input.entry f }
+        ensures stranger { IsErrOf result NodeFault.Stranger → IsOfStranger self.old.node.setup input.entry }
+        ensures stopped { IsErrOf result NodeFault.Stopped ↔ (self.old.node.member.acceptor.is_stopped ≡ true) }
+        ensures failed { IsErrOf result NodeFault.Store → (i : InputTerm) × Comes self.old.node.setup input.entry i × HasFailed R.stands R.is_kept R.failed A.has_applied (A.meaning self.old.node.setup.names) i self.old.node self.new.node }
+        ensures spent { (u : Running) → RunsAs A.has_applied u self.old.node → IsErrOf result NodeFault.Spent → CannotBegin self.old.node u input.entry }
+        ensures unchanged { IfErr result (λ fault. (fault ≡ NodeFault.Store → ⊥) → IsUnchanged A.has_applied R.failed self.old.node self.new.node) }
+        ensures setup { self.new.node.setup ≡ self.old.node.setup }
+    {
+        match input {
+            Input::Bytes(bytes) => self.receive(alloc, bytes),
+            Input::Tick(tick) => self.tick(alloc, tick),
+        }
+    }
+
     /// Shows readers all that is pending, at once, and gives how many values are published then. It waits for those that still read what was shown
     /// before the last time.
     ///
     /// It fails where memory is refused; then nothing has changed, and the next call goes on.
     pub fn publish<W: Wait>(&mut self, rt: &W) -> Result<u64, AllocError>
         ensures shown { MatchResult result (λ position. Publishes self.old.store self.new.store × (position ≡ length self.new.store.published)) (λ _. self.new.store ≡ self.old.store) }
+        ensures handed { handed_on self.new.store ≡ handed_on self.old.store }
         ensures node { self.new.node ≡ self.old.node }
     {
         self.store.publish(rt)?;
@@ -123,6 +152,34 @@ impl<R: Records + Drop, A: Application + Drop, C: Replica<J> + Drop, J: Naming> 
         ensures { result ≡ length self.now.store.published }
     {
         self.store.published()
+    }
+
+    /// What its node was told when it was set up.
+    pub fn setup(&self) -> &Setup
+        ensures { result.now ≡ self.now.node.setup }
+    {
+        self.node.setup()
+    }
+
+    /// How many positions its node has applied, from 1 on.
+    pub fn applied(&self) -> u32
+        ensures { (u : Running) → RunsAs A.has_applied u self.now.node → result ≡ u.applied }
+    {
+        self.node.applied()
+    }
+
+    /// How many positions its node has learnt from 1 on without a gap.
+    pub fn prefix(&self) -> u32
+        ensures { (u : Running) → RunsAs A.has_applied u self.now.node → result ≡ prefix self.now.node.setup.members (news u.heard) }
+    {
+        self.node.prefix()
+    }
+
+    /// The value that its node has learnt at a position, if there is one.
+    pub fn learned(&self, position: u32) -> Option<&Value>
+        ensures { (u : Running) → RunsAs A.has_applied u self.now.node → option_copied result ≡ learnt_at self.now.node.setup.members position (news u.heard) }
+    {
+        self.node.learned(position)
     }
 
     /// The node, to be read.

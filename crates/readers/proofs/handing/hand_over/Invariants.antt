@@ -1,9 +1,8 @@
 use Rattle.std.proofs.Common.{◌-◌, length}
 use Rattle.node.specs.Nodes.{RunsAs}
 use Rattle.paxos.specs.Step.{Running}
-use Rattle.published.specs.Stores.{handed_on}
+use Rattle.published.specs.Stores.{Keeps, handed_on}
 use Rattle.readers.specs.Counting.{AreFirst}
-use Rattle.readers.specs.Handing.{Keeps}
 use Rattle.readers.proofs.handing.hand_over.Given as goal
 
 abbrev pub invariant-loop-store : goal.invariant-loop-store
