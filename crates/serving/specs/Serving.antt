@@ -1,5 +1,5 @@
 -- What a server does: its node takes steps, one after the other, and its wire is given what they send.
-use Rattle.std.specs.Prelude.{◌≡◌, ◌⊎◌, ℕ, zero, suc, Bool, true, false, List, [], ◌∷◌, ◌++◌, flat_map, Option, Some, None, slice_get}
+use Rattle.std.specs.Prelude.{◌≡◌, ◌⊎◌, ℕ, zero, suc, Bool, true, false, List, [], ◌∷◌, ◌++◌, map, flat_map, Option, Some, None, slice_get}
 use Rattle.ballots.specs.Messages.{Packet}
 use Rattle.ballots.specs.Terms.{Setup}
 use Rattle.ballots.specs.declared.value.Value.{Value}
@@ -42,9 +42,13 @@ came_with (Took d) = d ∷ []
 came_with (TookAgain d) = []
 came_with (Ticked t) = []
 
--- the datagrams that come, in order
-abbrev pub came_in : {R A D : Type 0} → List (Move R A D) → List (Carried D)
-came_in {R} {A} {D} ms = flat_map (λ (m : Move R A D). came_with m.deed) ms
+-- the datagrams that come with these deeds, in order
+abbrev pub came_by : {D : Type 0} → List (Deed D) → List (Carried D)
+came_by ds = flat_map came_with ds
+
+-- what was done, in order
+abbrev pub deeds_of : {R A D : Type 0} → List (Move R A D) → List (Deed D)
+deeds_of {R} {A} {D} ms = map (λ (m : Move R A D). m.deed) ms
 
 -- the datagrams that the wire is given, in order
 abbrev pub given_in : {R A D : Type 0} → List (Move R A D) → List (Carried D)

@@ -1,7 +1,8 @@
 //! A server: a node that serves over a wire.
 
 ghost use Rattle.std.specs.Prelude.{◌≡◌, false, [], ◌∷◌};
-ghost use Rattle.serving.specs.Serves.{Passed, Went};
+ghost use Rattle.serving.specs.Serves.{Passed, Went, WentBy};
+ghost use Rattle.serving.specs.Serving.{Ticked, Took};
 
 use super::fault::ServeFault;
 use super::place::Place;
@@ -9,6 +10,7 @@ use super::seat::Seat;
 use super::state::State;
 use super::waiting::Waiting;
 use applications::Application;
+use member::Tick;
 use node::Node;
 use records::Records;
 use std::alloc::Global;
@@ -79,7 +81,7 @@ impl<R: Records + Drop, A: Application + Drop, D: Copy + Eq + Drop> Server<R, A,
         alloc: Global,
         wire: &mut W,
     ) -> Result<(), ServeFault>
-        ensures { Went A.has_applied A.meaning R.failed D.eq W.was_given W.has_brought R.stands R.is_kept result self.old self.new wire.old wire.new [] [] }
+        ensures { WentBy A.has_applied A.meaning R.failed D.eq W.was_given W.has_brought R.stands R.is_kept result (Ticked Tick.Begin ∷ []) self.old self.new wire.old wire.new }
     {
         self.state.begin(alloc, wire)
     }
@@ -93,7 +95,7 @@ impl<R: Records + Drop, A: Application + Drop, D: Copy + Eq + Drop> Server<R, A,
         alloc: Global,
         wire: &mut W,
     ) -> Result<(), ServeFault>
-        ensures { Went A.has_applied A.meaning R.failed D.eq W.was_given W.has_brought R.stands R.is_kept result self.old self.new wire.old wire.new [] [] }
+        ensures { Went A.has_applied A.meaning R.failed D.eq W.was_given W.has_brought R.stands R.is_kept result (Ticked Tick.Resend ∷ Ticked Tick.CatchUp ∷ []) [] [] self.old self.new wire.old wire.new }
     {
         self.state.tick(alloc, wire)
     }
@@ -108,7 +110,7 @@ impl<R: Records + Drop, A: Application + Drop, D: Copy + Eq + Drop> Server<R, A,
         arrival: Arrival<D>,
         bytes: &[u8],
     ) -> Result<(), ServeFault>
-        ensures { Went A.has_applied A.meaning R.failed D.eq W.was_given W.has_brought R.stands R.is_kept result self.old self.new wire.old wire.new (record { end = arrival.end; peer = arrival.from; bytes = bytes.now } ∷ []) [] }
+        ensures { Went A.has_applied A.meaning R.failed D.eq W.was_given W.has_brought R.stands R.is_kept result (Took (record { end = arrival.end; peer = arrival.from; bytes = bytes.now }) ∷ []) (record { end = arrival.end; peer = arrival.from; bytes = bytes.now } ∷ []) [] self.old self.new wire.old wire.new }
     {
         self.state.take(alloc, wire, arrival, bytes)
     }

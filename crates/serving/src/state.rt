@@ -3,7 +3,8 @@
 ghost use Rattle.std.specs.Prelude.{◌≡◌, ◌⊎◌, [], ◌∷◌};
 ghost use Rattle.paxos.specs.Lists.{Has};
 ghost use Rattle.serving.specs.Held.{held_in};
-ghost use Rattle.serving.specs.Serves.{Passed, Went, shown};
+ghost use Rattle.serving.specs.Serves.{Passed, Went, WentBy, shown};
+ghost use Rattle.serving.specs.Serving.{Ticked, Took};
 ghost use Rattle.wires.specs.Wires.{Carried};
 
 use super::fault::ServeFault;
@@ -40,7 +41,7 @@ impl<R: Records + Drop, A: Application + Drop, D: Copy + Eq + Drop> State<R, A, 
         arrival: Arrival<D>,
         bytes: &[u8],
     ) -> Result<(), ServeFault>
-        ensures { Went A.has_applied A.meaning R.failed D.eq W.was_given W.has_brought R.stands R.is_kept result (shown self.old) (shown self.new) wire.old wire.new (record { end = arrival.end; peer = arrival.from; bytes = bytes.now } ∷ []) [] }
+        ensures { Went A.has_applied A.meaning R.failed D.eq W.was_given W.has_brought R.stands R.is_kept result (Took (record { end = arrival.end; peer = arrival.from; bytes = bytes.now }) ∷ []) (record { end = arrival.end; peer = arrival.from; bytes = bytes.now } ∷ []) [] (shown self.old) (shown self.new) wire.old wire.new }
     {
         match self
             .seat
@@ -80,7 +81,7 @@ impl<R: Records + Drop, A: Application + Drop, D: Copy + Eq + Drop> State<R, A, 
         wire: &mut W,
         id: RequestId,
     ) -> Result<Option<Told>, ServeFault>
-        ensures { Went A.has_applied A.meaning R.failed D.eq W.was_given W.has_brought R.stands R.is_kept result (shown self.old) (shown self.new) wire.old wire.new [] [] }
+        ensures { Went A.has_applied A.meaning R.failed D.eq W.was_given W.has_brought R.stands R.is_kept result [] [] [] (shown self.old) (shown self.new) wire.old wire.new }
     {
         let Some(held) = self.waiting.get(id) else {
             return Ok(None);
@@ -101,7 +102,7 @@ impl<R: Records + Drop, A: Application + Drop, D: Copy + Eq + Drop> State<R, A, 
         wire: &mut W,
         tick: Tick,
     ) -> Result<(), ServeFault>
-        ensures { Went A.has_applied A.meaning R.failed D.eq W.was_given W.has_brought R.stands R.is_kept result (shown self.old) (shown self.new) wire.old wire.new [] [] }
+        ensures { WentBy A.has_applied A.meaning R.failed D.eq W.was_given W.has_brought R.stands R.is_kept result (Ticked tick ∷ []) (shown self.old) (shown self.new) wire.old wire.new }
     {
         match self.seat.tick(alloc, &self.place, wire, tick) {
             Ok(()) => Ok(()),
@@ -115,7 +116,7 @@ impl<R: Records + Drop, A: Application + Drop, D: Copy + Eq + Drop> State<R, A, 
         alloc: Global,
         wire: &mut W,
     ) -> Result<bool, ServeFault>
-        ensures { Went A.has_applied A.meaning R.failed D.eq W.was_given W.has_brought R.stands R.is_kept result (shown self.old) (shown self.new) wire.old wire.new [] [] }
+        ensures { Went A.has_applied A.meaning R.failed D.eq W.was_given W.has_brought R.stands R.is_kept result [] [] [] (shown self.old) (shown self.new) wire.old wire.new }
     {
         if self.told >= self.seat.node.applied() {
             return Ok(false);
@@ -133,7 +134,7 @@ impl<R: Records + Drop, A: Application + Drop, D: Copy + Eq + Drop> State<R, A, 
         alloc: Global,
         wire: &mut W,
     ) -> Result<bool, ServeFault>
-        ensures { Went A.has_applied A.meaning R.failed D.eq W.was_given W.has_brought R.stands R.is_kept result (shown self.old) (shown self.new) wire.old wire.new [] [] }
+        ensures { Went A.has_applied A.meaning R.failed D.eq W.was_given W.has_brought R.stands R.is_kept result [] [] [] (shown self.old) (shown self.new) wire.old wire.new }
     {
         let Some(id) = self.waiting.take_unplaced() else {
             return Ok(false);
@@ -154,7 +155,7 @@ impl<R: Records + Drop, A: Application + Drop, D: Copy + Eq + Drop> State<R, A, 
         alloc: Global,
         wire: &mut W,
     ) -> Result<bool, ServeFault>
-        ensures { Went A.has_applied A.meaning R.failed D.eq W.was_given W.has_brought R.stands R.is_kept result (shown self.old) (shown self.new) wire.old wire.new [] [] }
+        ensures { Went A.has_applied A.meaning R.failed D.eq W.was_given W.has_brought R.stands R.is_kept result [] [] [] (shown self.old) (shown self.new) wire.old wire.new }
     {
         let Some(id) = self.waiting.oldest() else {
             return Ok(false);
@@ -168,7 +169,7 @@ impl<R: Records + Drop, A: Application + Drop, D: Copy + Eq + Drop> State<R, A, 
         alloc: Global,
         wire: &mut W,
     ) -> Result<(), ServeFault>
-        ensures { Went A.has_applied A.meaning R.failed D.eq W.was_given W.has_brought R.stands R.is_kept result (shown self.old) (shown self.new) wire.old wire.new [] [] }
+        ensures { Went A.has_applied A.meaning R.failed D.eq W.was_given W.has_brought R.stands R.is_kept result [] [] [] (shown self.old) (shown self.new) wire.old wire.new }
     {
         for _position in 0..POSITIONS {
             if !self.tell_next(alloc, wire)? {
@@ -184,7 +185,7 @@ impl<R: Records + Drop, A: Application + Drop, D: Copy + Eq + Drop> State<R, A, 
         alloc: Global,
         wire: &mut W,
     ) -> Result<(), ServeFault>
-        ensures { Went A.has_applied A.meaning R.failed D.eq W.was_given W.has_brought R.stands R.is_kept result (shown self.old) (shown self.new) wire.old wire.new [] [] }
+        ensures { Went A.has_applied A.meaning R.failed D.eq W.was_given W.has_brought R.stands R.is_kept result [] [] [] (shown self.old) (shown self.new) wire.old wire.new }
     {
         for _request in 0..MOST_WAITING {
             if !self.place_next(alloc, wire)? {
@@ -200,7 +201,7 @@ impl<R: Records + Drop, A: Application + Drop, D: Copy + Eq + Drop> State<R, A, 
         alloc: Global,
         wire: &mut W,
     ) -> Result<(), ServeFault>
-        ensures { Went A.has_applied A.meaning R.failed D.eq W.was_given W.has_brought R.stands R.is_kept result (shown self.old) (shown self.new) wire.old wire.new [] [] }
+        ensures { Went A.has_applied A.meaning R.failed D.eq W.was_given W.has_brought R.stands R.is_kept result [] [] [] (shown self.old) (shown self.new) wire.old wire.new }
     {
         for _request in 0..MOST_WAITING {
             if !self.answer_oldest(alloc, wire)? {
@@ -218,7 +219,7 @@ impl<R: Records + Drop, A: Application + Drop, D: Copy + Eq + Drop> State<R, A, 
         wire: &mut W,
         before: u32,
     ) -> Result<(), ServeFault>
-        ensures { Went A.has_applied A.meaning R.failed D.eq W.was_given W.has_brought R.stands R.is_kept result (shown self.old) (shown self.new) wire.old wire.new [] [] }
+        ensures { Went A.has_applied A.meaning R.failed D.eq W.was_given W.has_brought R.stands R.is_kept result [] [] [] (shown self.old) (shown self.new) wire.old wire.new }
     {
         self.tell_applied(alloc, wire)?;
         self.place_waiting(alloc, wire)?;
@@ -236,7 +237,7 @@ impl<R: Records + Drop, A: Application + Drop, D: Copy + Eq + Drop> State<R, A, 
         arrival: Arrival<D>,
         bytes: &[u8],
     ) -> Result<(), ServeFault>
-        ensures { Went A.has_applied A.meaning R.failed D.eq W.was_given W.has_brought R.stands R.is_kept result (shown self.old) (shown self.new) wire.old wire.new (record { end = arrival.end; peer = arrival.from; bytes = bytes.now } ∷ []) [] }
+        ensures { Went A.has_applied A.meaning R.failed D.eq W.was_given W.has_brought R.stands R.is_kept result (Took (record { end = arrival.end; peer = arrival.from; bytes = bytes.now }) ∷ []) (record { end = arrival.end; peer = arrival.from; bytes = bytes.now } ∷ []) [] (shown self.old) (shown self.new) wire.old wire.new }
     {
         let before = self.seat.node.prefix();
         self.take_first(alloc, wire, arrival, bytes)?;
@@ -249,7 +250,7 @@ impl<R: Records + Drop, A: Application + Drop, D: Copy + Eq + Drop> State<R, A, 
         alloc: Global,
         wire: &mut W,
     ) -> Result<(), ServeFault>
-        ensures { Went A.has_applied A.meaning R.failed D.eq W.was_given W.has_brought R.stands R.is_kept result (shown self.old) (shown self.new) wire.old wire.new [] [] }
+        ensures { Went A.has_applied A.meaning R.failed D.eq W.was_given W.has_brought R.stands R.is_kept result (Ticked Tick.Resend ∷ Ticked Tick.CatchUp ∷ []) [] [] (shown self.old) (shown self.new) wire.old wire.new }
     {
         self.tick_once(alloc, wire, Tick::Resend)?;
         self.tick_once(alloc, wire, Tick::CatchUp)?;
@@ -263,7 +264,7 @@ impl<R: Records + Drop, A: Application + Drop, D: Copy + Eq + Drop> State<R, A, 
         alloc: Global,
         wire: &mut W,
     ) -> Result<(), ServeFault>
-        ensures { Went A.has_applied A.meaning R.failed D.eq W.was_given W.has_brought R.stands R.is_kept result (shown self.old) (shown self.new) wire.old wire.new [] [] }
+        ensures { WentBy A.has_applied A.meaning R.failed D.eq W.was_given W.has_brought R.stands R.is_kept result (Ticked Tick.Begin ∷ []) (shown self.old) (shown self.new) wire.old wire.new }
     {
         self.tick_once(alloc, wire, Tick::Begin)
     }
