@@ -9,15 +9,15 @@ use records::{MemRecords, Records};
 use sessions::State;
 use sql_records::{OpenFault, SqlRecords};
 use sqlite::{Alter, Connection, Error};
-use std::alloc::{AllocError, Global};
+use std::alloc::{AllocFailed, Global};
 use std::io::Write;
 use std::net::SocketAddr;
 use std::time::Duration;
 use std::{fs, io};
 use wires::{UdpWire, Wire, resolve};
 
-/// How long a node waits for a datagram before it ticks.
-const WHILE: Duration = Duration::from_millis(100);
+/// How many milliseconds a node waits for a datagram before it ticks.
+const WHILE: u64 = 100;
 
 /// Why a node does not serve.
 #[derive(Clone, Copy, PartialEq, Eq, Debug)]
@@ -26,8 +26,8 @@ enum Refusal {
     Network,
 }
 
-impl From<AllocError> for Refusal {
-    fn from(_refused: AllocError) -> Refusal {
+impl<T: Drop> From<AllocFailed<T>> for Refusal {
+    fn from(_refused: AllocFailed<T>) -> Refusal {
         Refusal::Memory
     }
 }
@@ -73,7 +73,7 @@ fn run_config(rt: &HostRuntime, config: Config, turns: u64) -> Result<End, Refus
     let peers = resolve_all(rt, &config.members)?;
     let setup = setup_of(alloc, &config)?;
     let own = own_address(&peers, config.member)?;
-    let Ok(mut wire) = UdpWire::open(alloc, rt, rt.clone(), &[own], WHILE) else {
+    let Ok(mut wire) = UdpWire::open(alloc, rt, rt, &[own], Duration::from_millis(WHILE)) else {
         return Err(Refusal::Network);
     };
     Ok(run_at(rt, &config, setup, &mut wire, peers, turns))
