@@ -10,5 +10,5 @@ mod udp;
 mod wire;
 
 pub use scripted::{Calls, ScriptedWire};
-pub use udp::UdpWire;
+pub use udp::{UdpWire, end_towards, loopback, resolve};
 pub use wire::{Arrival, Lost, Unheard, Wire};

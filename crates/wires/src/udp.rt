@@ -7,7 +7,7 @@ use super::wire::{Arrival, Lost, Unheard, Wire};
 use std::alloc::Global;
 use std::collections::VecDeque;
 use std::io;
-use std::net::{Net, SocketAddr, UdpSocket};
+use std::net::{Ipv4Addr, Ipv6Addr, Net, SocketAddr, ToSocketAddrs, UdpSocket};
 use std::time::{Clock, Duration, Instant};
 
 /// A UDP socket for each end, and what the ends send to themselves.
@@ -115,6 +115,24 @@ impl<C: Clock + Drop> UdpWire<C> {
     /// Notes that a while ends now.
     fn note_now(&mut self) {
         self.waited = Instant::now(&self.clock).ok();
+    }
+}
+
+/// The first address that a text names, as `IP:PORT`, `[IP]:PORT` or `NAME:PORT`; `None` where it names none that the system knows.
+pub fn resolve<N: Net>(net: &N, text: &str) -> Option<SocketAddr> {
+    text.to_socket_addrs(net).ok()?.next()
+}
+
+/// The address at which an end of this program alone is reached: the loopback's, at any port that is free.
+pub fn loopback() -> SocketAddr {
+    SocketAddr::from((Ipv4Addr::LOCALHOST, 0u16))
+}
+
+/// The address of an end from which another address can be reached: any of this machine's of that family, at any port that is free.
+pub fn end_towards(other: SocketAddr) -> SocketAddr {
+    match other {
+        SocketAddr::V4(_) => SocketAddr::from((Ipv4Addr::UNSPECIFIED, 0u16)),
+        SocketAddr::V6(_) => SocketAddr::from((Ipv6Addr::UNSPECIFIED, 0u16)),
     }
 }
 
