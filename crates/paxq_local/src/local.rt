@@ -36,11 +36,7 @@ pub fn run_local<A: Application + Drop, W: Wire, R: Read, O: Write, E: Write>(
     reader: &mut R,
     output: &mut O,
     errors: &mut E,
-) -> io::Result<u8>
-    ensures { IfOk result (λ status. Brings W.has_brought wire.old wire.new (λ brought. (run : Run)
-        × Wrote (O.contents output.old, O.contents output.new) (E.contents errors.old, E.contents errors.new) status run
-        × FileRun members brought file.now (R.remaining reader.old) run)) }
-{
+) -> io::Result<u8> {
     match read_all(alloc, reader) {
         Ok(bytes) => run_bytes::<A, W, O, E>(alloc, members, wire, file, &bytes, output, errors),
         Err(ReadFault::Failed) => cannot_read(alloc, file, errors),
@@ -57,11 +53,7 @@ fn run_bytes<A: Application + Drop, W: Wire, O: Write, E: Write>(
     bytes: &[u8],
     output: &mut O,
     errors: &mut E,
-) -> io::Result<u8>
-    ensures { IfOk result (λ status. Brings W.has_brought wire.old wire.new (λ brought. (run : Run)
-        × Wrote (O.contents output.old, O.contents output.new) (E.contents errors.old, E.contents errors.new) status run
-        × LocalRun members brought file.now bytes.now run)) }
-{
+) -> io::Result<u8> {
     let Ok(text) = str::from_utf8(bytes) else {
         return cannot_read(alloc, file, errors);
     };
@@ -80,11 +72,7 @@ fn run_commands<A: Application + Drop, W: Wire, O: Write, E: Write>(
     mut script: Script,
     output: &mut O,
     errors: &mut E,
-) -> io::Result<u8>
-    ensures { IfOk result (λ status. Brings W.has_brought wire.old wire.new (λ brought. (run : Run)
-        × Wrote (O.contents output.old, O.contents output.new) (E.contents errors.old, E.contents errors.new) status run
-        × Played members brought script.commands run)) }
-{
+) -> io::Result<u8> {
     let Ok(mut client) = client_of::<A, W>(alloc, members, wire, script.names()) else {
         return no_memory(errors);
     };
@@ -101,9 +89,7 @@ fn client_of<A: Application + Drop, W: Wire>(
     members: u8,
     wire: &mut W,
     names: &Names,
-) -> Result<Client<A, W::Address>, AllocError>
-    ensures brought { (ds : List (Carried W.Address)) → W.has_brought wire.old ds → W.has_brought wire.new ds }
-{
+) -> Result<Client<A, W::Address>, AllocError> {
     let peers = addresses(alloc, wire, members)?;
     let buffer = vec![in alloc; 0; MOST_BYTES]?;
     match Group::new(alloc, members, names, &peers) {
@@ -138,9 +124,7 @@ fn play<A: Application + Drop, W: Wire, O: Write>(
     client: &mut Client<A, W::Address>,
     script: &mut Script,
     output: &mut O,
-) -> Result<u8, Stop>
-    ensures { Brings W.has_brought wire.old wire.new (λ brought. IsPlayed members brought script.old.commands (O.contents output.old) (O.contents output.new) result) }
-{
+) -> Result<u8, Stop> {
     while let Some(command) = script.next_command() {
         let said = match client.tell(alloc, wire, members, command) {
             Ok(Told::Said(text)) => output.write_all(text.as_bytes()),
@@ -156,10 +140,7 @@ fn play<A: Application + Drop, W: Wire, O: Write>(
 }
 
 /// Prints a last line, after which the status is 3.
-fn end<O: Write>(output: &mut O, line: &[u8]) -> Result<u8, Stop>
-    ensures printed { IfOk result (λ status. (status ≡ 3) × Appends (O.contents output.old) (O.contents output.new) line.now) }
-    ensures failed { IfErr result IsOfOutput }
-{
+fn end<O: Write>(output: &mut O, line: &[u8]) -> Result<u8, Stop> {
     match output.write_all(line) {
         Ok(()) => Ok(3),
         Err(error) => Err(Stop::Output(error)),

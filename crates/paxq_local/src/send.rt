@@ -45,11 +45,7 @@ pub fn send_line<W: Wire, O: Write, E: Write>(
     line: &str,
     output: &mut O,
     errors: &mut E,
-) -> io::Result<u8>
-    ensures { IfOk result (λ status. Brings W.has_brought wire.old wire.new (λ brought. (run : Run)
-        × Wrote (O.contents output.old, O.contents output.new) (E.contents errors.old, E.contents errors.new) status run
-        × SentRun group brought line.now run)) }
-{
+) -> io::Result<u8> {
     match read_command(alloc, line) {
         Ok(Some(command)) => send_command(alloc, wire, group, to, command, output, errors),
         Ok(None) => wrong_line(alloc, 1, errors),
@@ -66,11 +62,7 @@ fn send_command<W: Wire, O: Write, E: Write>(
     command: Command,
     output: &mut O,
     errors: &mut E,
-) -> io::Result<u8>
-    ensures { IfOk result (λ status. Brings W.has_brought wire.old wire.new (λ brought. (run : Run)
-        × Wrote (O.contents output.old, O.contents output.new) (E.contents errors.old, E.contents errors.new) status run
-        × AskedRun group brought (command_term command) run)) }
-{
+) -> io::Result<u8> {
     let told = match asked_of(alloc, group, command, QUESTION, 0) {
         Ok(Some(asked)) => ask(alloc, wire, group, to, &asked),
         Ok(None) => Ok(None),
@@ -96,9 +88,7 @@ fn ask<W: Wire>(
     group: u32,
     to: W::Address,
     asked: &Asked,
-) -> Result<Option<Said>, AllocError>
-    ensures { Brings W.has_brought wire.old wire.new (λ brought. IfOk result (λ said. IfSome said (λ s. IsSaid brought (told_by_one asked.now.form) group asked.now.id (string_bytes s.text)))) }
-{
+) -> Result<Option<Said>, AllocError> {
     let mut buffer = vec![in alloc; 0u8; MOST_BYTES]?;
     for _try in 0..TRIES {
         let _ = wire.send(0, to, &asked.bytes);
@@ -116,9 +106,7 @@ fn listen<W: Wire>(
     group: u32,
     asked: &Asked,
     buffer: &mut [u8],
-) -> Result<Option<Said>, AllocError>
-    ensures { Brings W.has_brought wire.old wire.new (λ brought. IfOk result (λ said. IfSome said (λ s. IsSaid brought (told_by_one asked.now.form) group asked.now.id (string_bytes s.text)))) }
-{
+) -> Result<Option<Said>, AllocError> {
     for _datagram in 0..u64::MAX {
         let Ok(Some(arrival)) = wire.receive(buffer) else {
             return Ok(None);
