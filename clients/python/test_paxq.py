@@ -1,14 +1,17 @@
 #!/usr/bin/env python3
-"""Tests of the client in paxq.py: the bytes of docs/FORMATS.md, a member that is played here, and a real group where there is bin/paxq.
+"""Tests of the client in paxq.py: the bytes of docs/FORMATS.md, members that are played here, and real groups where there is bin/paxq; these also get
+the datagrams of docs/CLIENTS.md, and have to answer as that page says.
 
 usage: clients/python/test_paxq.py [PAXQ]
 """
 
 import os
+import re
 import socket
 import struct
 import sys
 import threading
+import time
 import unittest
 
 HERE = os.path.dirname(os.path.realpath(__file__))
@@ -19,6 +22,16 @@ import paxq  # noqa: E402
 from group import Group  # noqa: E402
 
 PROGRAM = os.path.join(ROOT, "bin", "paxq")
+
+
+def datagrams_of_page():
+    """Those of docs/CLIENTS.md, in order: who sends, who is sent to (0 for the client), and the bytes."""
+    with open(os.path.join(ROOT, "docs", "CLIENTS.md"), encoding="utf-8") as page:
+        blocks = re.findall(r"^```datagram\n(.*?)^```$", page.read(), re.M | re.S)
+    for block in blocks:
+        title, *lines = block.splitlines()
+        ends = [int(it.split(" ")[-1]) if "member" in it else 0 for it in title.split(" to ")]
+        yield *ends, bytes.fromhex(" ".join(line[:36] for line in lines))
 
 
 def head(kind, sender, group=7):
@@ -212,14 +225,50 @@ class Exchange(unittest.TestCase):
         self.assertRaises(ValueError, paxq.Client, 7, ["127.0.0.1:1", "[::1]:1"])
 
 
+def fresh_group():
+    """Three members in memory. SkipTest where there is no program."""
+    if not os.path.exists(PROGRAM):
+        raise unittest.SkipTest("there is no bin/paxq")
+    return Group(PROGRAM, 3, in_files=False)
+
+
+class Page(unittest.TestCase):
+    """The exchange of docs/CLIENTS.md."""
+
+    def test_its_datagrams_are_read(self):
+        exchange = list(datagrams_of_page())
+        heard = [paxq.read_datagram(data, 7, sender) for sender, _, data in exchange if sender]
+        self.assertEqual([it.kind for it in heard], [12, 8, 8, 10, 11, 10])
+        self.assertEqual(exchange[0][2], paxq.submit_bytes(7, 10, 1, 1, 'insert node element a {} into doc("db")'))
+        self.assertEqual(exchange[6][2], paxq.ask_bytes(7, 10, 1, 2, 1, 'doc("db")/a'))
+
+    def test_members_answer_so(self):
+        exchange = list(datagrams_of_page())
+        with fresh_group() as group, socket.socket(socket.AF_INET, socket.SOCK_DGRAM) as end:
+            group.start_all(leader=1)
+            for (_, member, sent), (sender, _, expected) in zip(exchange[::2], exchange[1::2]):
+                self.assertEqual(member, sender)
+                self.assertEqual(self.answered(end, group.addresses[member - 1], sent, expected), expected)
+
+    def answered(self, end, address, sent, expected):
+        """What comes at last: until the members have told each other, another answer may come first."""
+        came, stop = None, time.monotonic() + 20
+        while came != expected and time.monotonic() < stop:
+            end.sendto(sent, address)
+            end.settimeout(0.1)
+            try:
+                came = end.recv(65536)
+            except socket.timeout:
+                pass
+        return came
+
+
 class RealGroup(unittest.TestCase):
-    """Against three members, in memory."""
+    """Against three members."""
 
     @classmethod
     def setUpClass(cls):
-        if not os.path.exists(PROGRAM):
-            raise unittest.SkipTest("there is no bin/paxq")
-        cls.group = Group(PROGRAM, 3, in_files=False).__enter__()
+        cls.group = fresh_group().__enter__()
         cls.group.start_all(leader=1)
 
     @classmethod
