@@ -144,5 +144,5 @@ class Group:
             positions = {self.position(member) for member in self.running()}
             if len(positions) == 1 and min(positions) >= at_least:
                 return positions.pop()
-            time.sleep(0.05)
+            time.sleep(0.2)
         raise SystemExit(f"the members do not come level: {sorted(positions)}, {at_least} acknowledged")
