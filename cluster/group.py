@@ -133,8 +133,11 @@ class Group:
             return client.ask(text, floor=floor, member=member)
 
     def position(self, member):
-        """How many positions a member has applied."""
-        return self.ask(member, "()").position
+        """How many positions a member has applied, or None where it is too busy to say."""
+        try:
+            return self.ask(member, "()").position
+        except TimedOut:
+            return None
 
     def settled(self, at_least, seconds=120):
         """The position that all members have applied, once they are level and no lower than that."""
@@ -142,7 +145,7 @@ class Group:
         while time.monotonic() < end:
             self.expect_alive()
             positions = {self.position(member) for member in self.running()}
-            if len(positions) == 1 and min(positions) >= at_least:
+            if len(positions) == 1 and None not in positions and min(positions) >= at_least:
                 return positions.pop()
             time.sleep(0.2)
-        raise SystemExit(f"the members do not come level: {sorted(positions)}, {at_least} acknowledged")
+        raise SystemExit(f"the members do not come level: {positions}, {at_least} acknowledged")
