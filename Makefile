@@ -1,6 +1,10 @@
 # `make` alone lists the targets.
 
-.PHONY: help demo test edits refusals paxq measure expressions updates record_file examples bench kills sweep clean
+# how many members `make cluster` ends, and how many mutated datagrams it sends to each of two groups
+CLUSTER_ENDS ?= 24
+CLUSTER_DATAGRAMS ?= 100000
+
+.PHONY: help demo test edits refusals paxq measure expressions updates record_file examples bench kills cluster sweep clean
 
 help:
 	@echo 'make demo      builds paxq without waiting for its proof, and runs examples/first.pxq'
@@ -13,9 +17,12 @@ help:
 	@echo 'make expressions  proves query_rows, which evaluates expressions for the benchmarks, and leaves it at bin/query_rows'
 	@echo 'make updates   proves update_rows, which applies lists of update primitives for the benchmarks, and leaves it at bin/update_rows'
 	@echo 'make record_file  proves record_file, an acceptor'"'"'s record in a SQLite file, and leaves it at bin/record_file'
-	@echo 'make bench     measures bin/paxq, bin/measure, bin/query_rows, bin/update_rows and bin/record_file (figures for docs/BENCHMARKS.md)'
+	@echo 'make bench     measures bin/paxq, bin/measure, bin/query_rows, bin/update_rows and bin/record_file (figures for docs/BENCHMARKS.md);'
+	@echo '               groups of processes beside etcd, where that is installed'
 	@echo 'make kills     ends bin/record_file in the middle of its writes, again and again: each acknowledged write has to be there;'
 	@echo '               and opens files with it that the program sqlite3 made (needs sqlite3)'
+	@echo 'make cluster   runs groups of bin/paxq node processes on this machine: members that are ended by SIGKILL and started again, lost and mutated datagrams;'
+	@echo '               CLUSTER_ENDS=1000 ends so many members, CLUSTER_DATAGRAMS=1000000 sends so many datagrams. Last line "N passed, M failed"'
 	@echo 'make sweep     runs bin/paxq with each allocation refused in turn (needs a C compiler)'
 	@echo 'make clean     removes what builds made'
 
@@ -71,10 +78,14 @@ bench: paxq measure expressions updates record_file
 	bench/steps bin/query_rows
 	bench/updates bin/update_rows
 	bench/records bin/record_file
+	bench/cluster bin/paxq
 
 kills: record_file
 	bench/kills bin/record_file
 	bench/opens bin/record_file
+
+cluster: paxq
+	cluster/all bin/paxq $(CLUSTER_ENDS) $(CLUSTER_DATAGRAMS)
 
 sweep: paxq bin/refuse.so
 	bench/sweep bin/paxq bin/refuse.so
