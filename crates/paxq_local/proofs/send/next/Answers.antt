@@ -1,5 +1,5 @@
 use Rattle.paxq_local.proofs.Brought.{came-to-client}
-use Rattle.paxq_local.proofs.group.Group.work.Goals as goal
+use Rattle.paxq_local.proofs.send.next.Goals as goal
 
 pub returns-then-arrival-eq0-clause-brought : goal.returns-then-arrival-eq0-clause-brought
 returns-then-arrival-eq0-clause-brought g c =
