@@ -1,3 +1,4 @@
 -- The crate's proofs.
 pub mod Refusals
 pub mod Taken
+pub mod NetworkForms

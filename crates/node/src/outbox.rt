@@ -1,6 +1,6 @@
 //! What a node sends, and what it answers at once.
 
-ghost use Rattle.std.specs.Prelude.{◌≡◌};
+ghost use Rattle.std.specs.Prelude.{◌≡◌, true};
 
 use ballots::{Answer, Pair};
 use member::Target;
@@ -43,6 +43,17 @@ impl Outbox {
         ensures tells { result.1 ≡ self.tells }
     {
         (self.sent, self.tells)
+    }
+
+    /// The same, where less is done with what is learnt than was to be done, since memory was refused.
+    pub fn cut_short(self) -> Outbox
+        ensures { result ≡ record self { is_short = true } }
+    {
+        Outbox {
+            sent: self.sent,
+            tells: self.tells,
+            is_short: true,
+        }
     }
 
     /// Whether not all is applied that is learnt without a gap, since memory was refused. The next call goes on.

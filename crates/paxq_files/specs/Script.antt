@@ -1,7 +1,7 @@
 -- The script that a text is: lines that end with line feeds, each a command.
 use Rattle.std.specs.Prelude.{ℕ, ◌^◌, Bool, ◌&&◌, not, nat_lt, ◌==◌, if◌then◌else◌, List, [], ◌∷◌, ◌++◌, length, filter, codes, Option, Some, None}
 use Rattle.std.specs.Option.{option_map, option_map_or}
-use Rattle.std.specs.List.{slice_split, before_first, after_first, enumerate_from, starts_with}
+use Rattle.std.specs.List.{list_any, slice_split, before_first, after_first, enumerate_from, starts_with}
 use Rattle.document_names.specs.Names.{are_document_names}
 use Rattle.line_parts.specs.Parts.{number_below, is_space, has_text_length, text_after, ◌>>=◌}
 use Rattle.ballots.specs.Terms.{Request as RequestTerm}
@@ -48,6 +48,10 @@ ask_at_of parts = number_below 1000001 (before_first is_space parts) >>= λ floo
 -- `submit CLIENT NUMBER TEXT`, `askat FLOOR TEXT` or `ask TEXT`
 unfoldable pub command_of : List ℕ → Option Command
 command_of line = option_map_or submit_of (text_after (codes "submit ") line) (option_map_or ask_at_of (text_after (codes "askat ") line) (text_after (codes "ask ") line >>= ask_of))
+
+-- what a text asks for that is one line, without its line feed
+abbrev pub command_alone : List ℕ → Option Command
+command_alone text = if list_any (λ b. b == 10) text then None else command_of text
 
 -- the names of a line `docs NAME ..`
 abbrev pub docs_of : List ℕ → Option (List (List ℕ))

@@ -5,4 +5,5 @@ mod line;
 mod lines;
 mod script;
 
+pub use line::read_command;
 pub use script::{Command, Script, ScriptFault, read_script};

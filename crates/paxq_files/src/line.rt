@@ -3,7 +3,7 @@
 ghost use Rattle.std.specs.Prelude.{◌≡◌, IfOk};
 ghost use Rattle.std.specs.Option.{option_map};
 ghost use Rattle.paxq_files.specs.Commands.{command_term};
-ghost use Rattle.paxq_files.specs.Script.{ask_at_of, ask_at_with, ask_of, command_of, submit_of, submit_with};
+ghost use Rattle.paxq_files.specs.Script.{ask_at_of, ask_at_with, ask_of, command_of, command_alone, submit_of, submit_with};
 
 use crate::script::Command;
 use line_parts::{
@@ -11,10 +11,23 @@ use line_parts::{
 };
 use std::alloc::{AllocError, Global};
 
+/// Reads one line that stands alone, without a line feed: `submit CLIENT NUMBER TEXT`, `askat FLOOR TEXT` or `ask TEXT`, as [`read_script`]
+/// has them. Any other text gives `None`, also one with a line feed in it. It fails where memory is refused.
+///
+/// [`read_script`]: crate::read_script
+pub fn read_command(alloc: Global, text: &str) -> Result<Option<Command>, AllocError>
+    ensures { IfOk result (λ command. option_map command_term command ≡ command_alone text.now) }
+{
+    if text.as_bytes().contains(&b'\n') {
+        return Ok(None);
+    }
+    read_line(alloc, text)
+}
+
 /// Reads a line `submit CLIENT NUMBER TEXT`, `askat FLOOR TEXT` or `ask TEXT`. Any other line gives
 /// `None`. It fails where memory is refused.
 #[tactic(auto, unfolding(crate::specs::Script::command_of))]
-pub(crate) fn read_command(alloc: Global, line: &str) -> Result<Option<Command>, AllocError>
+pub(crate) fn read_line(alloc: Global, line: &str) -> Result<Option<Command>, AllocError>
     ensures { IfOk result (λ command. option_map command_term command ≡ command_of line.now) }
 {
     if let Some(parts) = text_after("submit ", line) {

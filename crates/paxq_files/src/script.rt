@@ -7,7 +7,7 @@ ghost use Rattle.paxq_files.specs.Lines.{lines_after};
 ghost use Rattle.line_parts.specs.Parts.{is_space};
 ghost use Rattle.paxq_files.specs.Script.{after_docs, commands_from, script, script_of};
 
-use crate::line::read_command;
+use crate::line::read_line;
 use crate::lines::{Line, first_line};
 use ballots::Request;
 use document_names::{Names, NamesFault};
@@ -154,7 +154,7 @@ fn read_commands(
     while let Some(line) = first_line(rest, number) {
         rest = line.rest;
         number = line.number;
-        let Some(command) = read_command(alloc, line.text)? else {
+        let Some(command) = read_line(alloc, line.text)? else {
             return Err(ScriptFault::Line(number));
         };
         commands.push_back(command).map_err(AllocError::from)?;

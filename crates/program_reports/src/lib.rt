@@ -3,4 +3,6 @@
 
 mod reports;
 
-pub use reports::{ReadFault, cannot_read, no_memory, read_all, wrong_line};
+pub use reports::{
+    ReadFault, cannot_read, no_memory, no_network, read_all, store_failed, wrong_config, wrong_line,
+};

@@ -69,3 +69,31 @@ pub fn no_memory<E: Write>(errors: &mut E) -> io::Result<u8>
     errors.write_all(b"paxq: no memory\n")?;
     Ok(4)
 }
+
+/// Reports a configuration that is none: status 1. An `Err` says that `errors` could not be written.
+pub fn wrong_config<E: Write>(errors: &mut E) -> io::Result<u8>
+    ensures { IfOk result (λ status.
+        (status ≡ 1) × Appends (E.contents errors.old) (E.contents errors.new) (codes "paxq: config" ++ line_feed)) }
+{
+    errors.write_all(b"paxq: config\n")?;
+    Ok(1)
+}
+
+/// Reports that the store of a node's records failed, or that its records were refused: status 4. An `Err` says that `errors` could not be
+/// written.
+pub fn store_failed<E: Write>(errors: &mut E) -> io::Result<u8>
+    ensures { IfOk result (λ status.
+        (status ≡ 4) × Appends (E.contents errors.old) (E.contents errors.new) (codes "paxq: store failed" ++ line_feed)) }
+{
+    errors.write_all(b"paxq: store failed\n")?;
+    Ok(4)
+}
+
+/// Reports an address that can't be resolved, or at which no socket opens: status 4. An `Err` says that `errors` could not be written.
+pub fn no_network<E: Write>(errors: &mut E) -> io::Result<u8>
+    ensures { IfOk result (λ status.
+        (status ≡ 4) × Appends (E.contents errors.old) (E.contents errors.new) (codes "paxq: network" ++ line_feed)) }
+{
+    errors.write_all(b"paxq: network\n")?;
+    Ok(4)
+}

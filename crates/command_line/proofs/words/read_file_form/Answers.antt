@@ -9,7 +9,7 @@ use Rattle.clap.proofs.WalkLemmas.{list_any-map}
 use Rattle.command_line.specs.Words.{file_in}
 use Rattle.command_line.proofs.Refusals.{dashes, some≢none}
 use Rattle.command_line.proofs.Taken.{IsTaken, form_has_no_dashes, form_is_taken, taken_as, taken_asks, taken_is_form, taken_other}
-use Rattle.command_line.proofs.words.read_words.Goals as goal
+use Rattle.command_line.proofs.words.read_file_form.Goals as goal
 
 -- a text behind a reference is there
 is_some_behind : (o : Option (Bor Text)) (x : Text) → option_map (λ s. s.now) o ≡ Some x → IsSome o

@@ -1,0 +1,60 @@
+-- What a wire has brought since some moment.
+use Rattle.std.proofs.Common.{◌≡◌, ◌∙◌, ℕ, List, [], ◌∷◌, ◌++◌, take, refl, sym, ap, subst, append-nil, append_assoc, inl, length, Result, Ok, Some}
+use Rattle.std.proofs.Math.Seq.{take-append_seam}
+use Rattle.paxos.specs.Lists.{Has}
+use Rattle.paxos.proofs.Lists.{has_left, has_right}
+use Rattle.ballots.specs.declared.request.RequestId.{RequestId}
+use Rattle.clients.specs.Hearing.{HeardTerm}
+use Rattle.std.proofs.Common.{Option}
+use Rattle.paxq_local.specs.Told.{Brings, IsSaid}
+use Rattle.wires.specs.Wires.{Carried, carried_in}
+use Rattle.wires.specs.declared.wire.Arrival.{Arrival}
+use Rattle.wires.specs.declared.wire.Unheard.{Unheard}
+
+module _ {W A : Type 0} (H : W → List (Carried A) → Type 0) where
+  -- nothing has come
+  pub brings-none : (a : W) (P : List (Carried A) → Type 0) → P [] → Brings H a a P
+  brings-none a P p = λ before h. ([], subst (H a) (sym (append-nil before)) h, p)
+
+  -- what came first, and what came then
+  pub brings-then : (a b c : W) (P Q R : List (Carried A) → Type 0) → Brings H a b P → Brings H b c Q → ((xs ys : List (Carried A)) → P xs → Q ys → R (xs ++ ys)) → Brings H a c R
+  brings-then a b c P Q R first second both = λ before h.
+    (let f = first before h in
+    let s = second (before ++ f.0) f.1 in
+    (f.0 ++ s.0, subst (H c) (append_assoc before f.0 s.0) s.1, both f.0 s.0 f.2 s.2))
+
+  pub brings-as : (a b : W) (P Q : List (Carried A) → Type 0) → Brings H a b P → ((xs : List (Carried A)) → P xs → Q xs) → Brings H a b Q
+  brings-as a b P Q first f = λ before h. (let x = first before h in (x.0, x.1, f x.0 x.2))
+
+  -- nothing comes with a step that keeps what was brought
+  pub brings-kept : (a b c : W) (P : List (Carried A) → Type 0) → Brings H a b P → ((ds : List (Carried A)) → H b ds → H c ds) → Brings H a c P
+  brings-kept a b c P first keeps = λ before h. (let f = first before h in (f.0, keeps (before ++ f.0) f.1, f.2))
+
+  pub kept-brings : (a b c : W) (P : List (Carried A) → Type 0) → ((ds : List (Carried A)) → H a ds → H b ds) → Brings H b c P → Brings H a c P
+  kept-brings a b c P keeps then = λ before h. then before (keeps before h)
+
+pub said-more : {A X : Type 0} (xs ys : List (Carried A)) (said : Option HeardTerm → Option X) (group : ℕ) (id : RequestId) (x : X) → IsSaid xs said group id x → IsSaid (xs ++ ys) said group id x
+said-more xs ys said group id x s = record { datagram = s.datagram; came = has_left xs ys s.datagram s.came; to_client = s.to_client; says = s.says }
+
+pub said-after : {A X : Type 0} (xs ys : List (Carried A)) (said : Option HeardTerm → Option X) (group : ℕ) (id : RequestId) (x : X) → IsSaid ys said group id x → IsSaid (xs ++ ys) said group id x
+said-after xs ys said group id x s = record { datagram = s.datagram; came = has_right xs ys s.datagram s.came; to_client = s.to_client; says = s.says }
+
+-- a datagram to the client came last
+pub came-to-client : {W A : Type 0} (H : W → List (Carried A) → Type 0) (a b c : W) (result : Result (Option (Arrival A)) Unheard) (x : Option (Arrival A)) (buffer : List ℕ) (arrival : Arrival A)
+    → Brings H a b (λ _. Unit {0}) → ((ds : List (Carried A)) → H b ds → H c (ds ++ carried_in result buffer)) → result ≡ Ok x → x ≡ Some arrival → arrival.end ≡ 0
+    → Brings H a c (λ brought. (d : Carried A) × Has brought d × (d.end ≡ 0) × (d.bytes ≡ take arrival.length buffer))
+came-to-client {W} {A} H a b c result x buffer arrival first received is_ok is_some to_client =
+    let d : Carried A = record { end = arrival.end; peer = arrival.from; bytes = take arrival.length buffer } in
+    let came : carried_in result buffer ≡ d ∷ [] = ap (λ r. carried_in r buffer) (is_ok ∙ ap Ok is_some) in
+    let one : Brings H b c (λ xs. xs ≡ d ∷ []) = λ before h. (d ∷ [], subst (λ (ys : List (Carried A)). H c (before ++ ys)) came (received before h), refl) in
+    brings-then H a b c (λ _. Unit {0}) (λ xs. xs ≡ d ∷ []) (λ brought. (e : Carried A) × Has brought e × (e.end ≡ 0) × (e.bytes ≡ take arrival.length buffer)) first one
+    (λ xs ys _ is. (d, has_right xs ys d (subst (λ (zs : List (Carried A)). Has zs d) (sym is) (inl refl)), to_client, refl))
+
+-- a slice that was lent of a whole list
+pub lent-back : (n : ℕ) (xs ys : List ℕ) → length xs ≡ n → take n (xs ++ ys) ≡ xs
+lent-back n xs ys e = ap (λ k. take k (xs ++ ys)) (sym e) ∙ take-append_seam xs ys
+
+-- a try: what came before, then two steps at which nothing comes, then what came last
+module _ {W A : Type 0} (H : W → List (Carried A) → Type 0) (a b c d e : W) (P Q R : List (Carried A) → Type 0) where
+  pub brings-try : Brings H a b P → ((ds : List (Carried A)) → H b ds → H c ds) → ((ds : List (Carried A)) → H c ds → H d ds) → Brings H d e Q → ((xs ys : List (Carried A)) → P xs → Q ys → R (xs ++ ys)) → Brings H a e R
+  brings-try first one two last both = brings-then H a b e P Q R first (λ before h. last before (two before (one before h))) both

@@ -1,0 +1,4 @@
+pub mod Answering
+pub mod Asking
+pub mod Told
+pub mod Playing

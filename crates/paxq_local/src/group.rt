@@ -1,0 +1,153 @@
+//! The members of a group in one program.
+
+ghost use Rattle.std.specs.Prelude.{◌≡◌, ◌≤◌, List, ◌++◌, IfOk, IfSome, length, take};
+ghost use Rattle.paxq_local.specs.Told.{Brings, HasCome};
+ghost use Rattle.wires.specs.Wires.{Carried};
+
+use applications::Application;
+use ballots::{Setup, SetupFault};
+use document_names::Names;
+use node::{Node, OpenFault};
+use records::MemRecords;
+use serving::Server;
+use std::alloc::{AllocError, Global};
+use wires::{Arrival, Wire};
+
+/// The group's number. Its sockets are its own, so no other group's datagrams come to it.
+pub(super) const GROUP: u32 = 0;
+
+/// The members, by their numbers from 1: member m stands at end m of the wire, and end 0 is the client's.
+#[derive(Drop)]
+pub(super) struct Group<A: Application + Drop, D: Copy + Eq + Drop> {
+    servers: Vec<Server<MemRecords, A, D>>,
+}
+
+/// A member that has done nothing, with its records in memory. It fails where memory is refused.
+fn server_of<A: Application + Drop, D: Copy + Eq + Drop>(
+    alloc: Global,
+    member: u8,
+    members: u8,
+    names: &Names,
+    peers: &[D],
+) -> Result<Server<MemRecords, A, D>, AllocError> {
+    let peers = peers.to_vec(alloc)?;
+    let setup = match Setup::new(alloc, GROUP, member, members, names) {
+        Ok(setup) => setup,
+        Err(SetupFault::Memory | SetupFault::Numbers) => return Err(AllocError),
+    };
+    match Node::open(alloc, setup, MemRecords::new(alloc)) {
+        Ok(node) => Ok(Server::new(alloc, node, usize::from(member), peers)),
+        Err((OpenFault::Memory | OpenFault::Store, _, _)) => Err(AllocError),
+    }
+}
+
+/// The list with one more, if it was made. What is held is dropped here, over any type, where it was not.
+fn with_one<S: Drop>(mut held: Vec<S>, made: Result<S, AllocError>) -> Result<Vec<S>, AllocError> {
+    held.push(made?)?;
+    Ok(held)
+}
+
+/// The addresses of so many members: of those of them that the wire has ends for.
+pub(super) fn addresses<W: Wire>(
+    alloc: Global,
+    wire: &W,
+    members: u8,
+) -> Result<Vec<W::Address>, AllocError> {
+    let mut peers = Vec::new(alloc);
+    for before in 0..members {
+        match wire.address(usize::from(before) + 1) {
+            Some(address) => peers.push(address)?,
+            None => return Ok(peers),
+        }
+    }
+    Ok(peers)
+}
+
+impl<A: Application + Drop, D: Copy + Eq + Drop> Group<A, D> {
+    /// So many members that have done nothing, 1 to 15, at those addresses. It fails where memory is refused.
+    pub(super) fn new(
+        alloc: Global,
+        members: u8,
+        names: &Names,
+        peers: &[D],
+    ) -> Result<Group<A, D>, AllocError> {
+        let mut servers = Vec::new(alloc);
+        for before in 0..members {
+            servers = with_one(
+                servers,
+                server_of(alloc, before + 1, members, names, peers),
+            )?;
+        }
+        Ok(Group { servers })
+    }
+
+    /// Has the first member begin a ballot.
+    pub(super) fn begin<W: Wire<Address = D>>(&mut self, alloc: Global, wire: &mut W)
+        ensures brought { (ds : List (Carried D)) → W.has_brought wire.old ds → W.has_brought wire.new ds }
+    {
+        if let Some(first) = self.servers.first_mut() {
+            // Records in memory never fail.
+            let _ = first.begin(alloc, wire);
+        }
+    }
+
+    /// What was lost is sent again: the member that leads says again what it waits for, and each asks for what it has not learnt.
+    pub(super) fn tick<W: Wire<Address = D>>(&mut self, alloc: Global, wire: &mut W)
+        ensures brought { (ds : List (Carried D)) → W.has_brought wire.old ds → W.has_brought wire.new ds }
+    {
+        for server in self.servers.iter_mut() {
+            let _ = server.tick(alloc, wire);
+        }
+    }
+
+    /// Whether memory was refused to something that came to a member.
+    pub(super) fn has_lost(&self) -> bool {
+        for server in &self.servers {
+            if server.has_lost() {
+                return true;
+            }
+        }
+        false
+    }
+
+    /// Hands a datagram to the member that it came to.
+    fn hand<W: Wire<Address = D>>(
+        &mut self,
+        alloc: Global,
+        wire: &mut W,
+        arrival: Arrival<D>,
+        bytes: &[u8],
+    )
+        ensures brought { (ds : List (Carried D)) → W.has_brought wire.old ds → W.has_brought wire.new ds }
+    {
+        if arrival.end == 0 {
+            return;
+        }
+        if let Some(server) = self.servers.get_mut(arrival.end - 1) {
+            let _ = server.take(alloc, wire, arrival, bytes);
+        }
+    }
+
+    /// Has the members work until something comes to the client, and says how many bytes that has, at the front of the buffer; or nothing, where
+    /// nothing more comes to anybody.
+    pub(super) fn work<W: Wire<Address = D>>(
+        &mut self,
+        alloc: Global,
+        wire: &mut W,
+        buffer: &mut [u8],
+    ) -> Option<usize>
+        ensures fits { IfSome result (λ n. n ≤ length buffer.new) }
+        ensures brought { Brings W.has_brought wire.old wire.new (λ brought. IfSome result (λ n. HasCome brought (take n buffer.new))) }
+    {
+        for _datagram in 0..u64::MAX {
+            let Ok(Some(arrival)) = wire.receive(buffer) else {
+                return None;
+            };
+            if arrival.end == 0 {
+                return Some(arrival.length);
+            }
+            self.hand(alloc, wire, arrival, &buffer[..arrival.length]);
+        }
+        None
+    }
+}

@@ -1,0 +1,151 @@
+//! `paxq send --group G ADDRESS LINE`.
+
+ghost use Rattle.std.specs.Prelude.{◌≡◌, IfOk, IfSome, Some, string_bytes};
+ghost use Rattle.std.specs.Option.{option_map};
+ghost use Rattle.clients.specs.Hearing.{heard_in, heard_term};
+ghost use Rattle.messages.specs.Reading.{datagram_read};
+ghost use Rattle.paxq_files.specs.Commands.{command_term};
+ghost use Rattle.paxq_local.specs.Playing.{AskedRun, SentRun};
+ghost use Rattle.paxq_local.specs.Told.{Brings, IsSaid, told_by_one};
+ghost use Rattle.program_reports.specs.Reports.{Run, Wrote};
+
+use super::asked::{Asked, Form, Said, asked_of, said_of, with_position};
+use ballots::RequestId;
+use clients::{Heard, hear};
+use paxq_files::{Command, read_command};
+use printed_replies::elsewhere_text;
+use program_reports::{no_memory, wrong_line};
+use serving::MOST_BYTES;
+use std::alloc::{AllocError, Global};
+use std::io;
+use std::io::Write;
+use wires::Wire;
+
+/// How often something is sent before it gets no answer.
+const TRIES: u32 = 200;
+
+/// What a question goes by: a program that sends one has no other.
+const QUESTION: RequestId = RequestId {
+    client: 0,
+    number: 0,
+};
+
+/// Sends one line to the node of a group at an address, from end 0 of a wire, and answers the exit status.
+///
+/// The line is `submit CLIENT NUMBER TEXT`, `ask TEXT` (with the floor 0) or `askat FLOOR TEXT`. It is sent until it is answered, 200 times at
+/// most, with what the wire waits between.
+///
+/// The statuses are 0, 1 (any other line), 3 (no answer), and 4 where memory is refused. An `Err` says that `output` or `errors` could not be
+/// written.
+pub fn send_line<W: Wire, O: Write, E: Write>(
+    alloc: Global,
+    wire: &mut W,
+    group: u32,
+    to: W::Address,
+    line: &str,
+    output: &mut O,
+    errors: &mut E,
+) -> io::Result<u8> {
+    match read_command(alloc, line) {
+        Ok(Some(command)) => send_command(alloc, wire, group, to, command, output, errors),
+        Ok(None) => wrong_line(alloc, 1, errors),
+        Err(_) => no_memory(errors),
+    }
+}
+
+/// Sends a command.
+fn send_command<W: Wire, O: Write, E: Write>(
+    alloc: Global,
+    wire: &mut W,
+    group: u32,
+    to: W::Address,
+    command: Command,
+    output: &mut O,
+    errors: &mut E,
+) -> io::Result<u8> {
+    let told = match asked_of(alloc, group, command, QUESTION, 0) {
+        Ok(Some(asked)) => ask(alloc, wire, group, to, &asked),
+        Ok(None) => Ok(None),
+        Err(error) => Err(error),
+    };
+    match told {
+        Ok(Some(said)) => {
+            output.write_all(said.text.as_bytes())?;
+            Ok(0)
+        }
+        Ok(None) => {
+            output.write_all(b"no answer\n")?;
+            Ok(3)
+        }
+        Err(_) => no_memory(errors),
+    }
+}
+
+/// Asks a node again and again, until it answers.
+fn ask<W: Wire>(
+    alloc: Global,
+    wire: &mut W,
+    group: u32,
+    to: W::Address,
+    asked: &Asked,
+) -> Result<Option<Said>, AllocError> {
+    let mut buffer = vec![in alloc; 0u8; MOST_BYTES]?;
+    for _try in 0..TRIES {
+        let _ = wire.send(0, to, &asked.bytes);
+        if let Some(said) = listen(alloc, wire, group, asked, &mut buffer)? {
+            return Ok(Some(said));
+        }
+    }
+    Ok(None)
+}
+
+/// Takes what comes until it is an answer, or nothing more comes.
+fn listen<W: Wire>(
+    alloc: Global,
+    wire: &mut W,
+    group: u32,
+    asked: &Asked,
+    buffer: &mut [u8],
+) -> Result<Option<Said>, AllocError> {
+    for _datagram in 0..u64::MAX {
+        let Ok(Some(arrival)) = wire.receive(buffer) else {
+            return Ok(None);
+        };
+        if arrival.end == 0 {
+            let said = said_by_one(alloc, group, asked, &buffer[..arrival.length])?;
+            if said.is_some() {
+                return Ok(said);
+            }
+        }
+    }
+    Ok(None)
+}
+
+/// What is printed where a datagram of a single node answers what it was asked. It fails where memory is refused.
+fn said_by_one(
+    alloc: Global,
+    group: u32,
+    asked: &Asked,
+    bytes: &[u8],
+) -> Result<Option<Said>, AllocError>
+    ensures { IfOk result (λ said. option_map (λ s. string_bytes s.text) said ≡ told_by_one asked.now.form (heard_in group asked.now.id (datagram_read bytes.now))) }
+{
+    match hear(alloc, group, asked.id, bytes)? {
+        Some(heard) => said_or_elsewhere(alloc, asked.form, &heard),
+        None => Ok(None),
+    }
+}
+
+/// What is printed where what was heard answers it, also by that another member leads.
+fn said_or_elsewhere(
+    alloc: Global,
+    form: Form,
+    heard: &Heard,
+) -> Result<Option<Said>, AllocError>
+    ensures { IfOk result (λ said. option_map (λ s. string_bytes s.text) said ≡ told_by_one form (Some (heard_term heard.now))) }
+{
+    match heard {
+        Heard::Elsewhere(leader) => with_position(elsewhere_text(alloc, *leader), 0),
+        _ => said_of(alloc, form, heard),
+    }
+}

@@ -1,0 +1,92 @@
+//! A node's service: it opens, begins where it is told to, and serves.
+
+ghost use Rattle.std.specs.Prelude.{◌≡◌, []};
+ghost use Rattle.serving.specs.Serves.{Passed, Went};
+
+use applications::Application;
+use ballots::Setup;
+use node::{Node, OpenFault};
+use records::Records;
+use serving::{MOST_BYTES, ServeFault, Server};
+use std::alloc::Global;
+use wires::Wire;
+
+/// How a node's service ended.
+#[derive(Clone, Copy, PartialEq, Eq, Debug)]
+pub enum End {
+    /// All its turns were taken.
+    Done,
+    /// Memory was refused before it served.
+    Memory,
+    /// The store of its records failed.
+    Store,
+}
+
+/// Opens a node over its records, which stands at the first end of a wire among members at these addresses, has it begin where it is told to, and
+/// serves for so many turns.
+pub fn serve_over<R: Records + Drop, A: Application + Drop, W: Wire>(
+    alloc: Global,
+    setup: Setup,
+    records: R,
+    wire: &mut W,
+    peers: Vec<W::Address>,
+    begins: bool,
+    turns: u64,
+) -> End {
+    let Ok(mut buffer) = vec![in alloc; 0u8; MOST_BYTES] else {
+        return End::Memory;
+    };
+    match Node::<R, A>::open(alloc, setup, records) {
+        Ok(node) => {
+            let server = Server::new(alloc, node, 0, peers);
+            serve_to_the_end(alloc, server, wire, begins, turns, &mut buffer)
+        }
+        Err((OpenFault::Memory, _, _)) => End::Memory,
+        Err((OpenFault::Store, _, _)) => End::Store,
+    }
+}
+
+/// Serves, and ends.
+fn serve_to_the_end<R: Records + Drop, A: Application + Drop, W: Wire>(
+    alloc: Global,
+    mut server: Server<R, A, W::Address>,
+    wire: &mut W,
+    begins: bool,
+    turns: u64,
+    buffer: &mut [u8],
+) -> End {
+    match serve_from_the_start(alloc, &mut server, wire, begins, turns, buffer) {
+        Ok(()) => End::Done,
+        Err(ServeFault::Store) => End::Store,
+    }
+}
+
+/// Has a server begin where it is told to, and serve for so many turns.
+fn serve_from_the_start<R: Records + Drop, A: Application + Drop, W: Wire>(
+    alloc: Global,
+    server: &mut Server<R, A, W::Address>,
+    wire: &mut W,
+    begins: bool,
+    turns: u64,
+    buffer: &mut [u8],
+) -> Result<(), ServeFault>
+    ensures { Passed A.has_applied A.meaning R.failed W.Address.eq W.was_given W.has_brought R.stands R.is_kept result server.old server.new wire.old wire.new }
+{
+    begin_if(alloc, server, wire, begins)?;
+    server.serve(alloc, wire, buffer, turns)
+}
+
+/// Has a server begin, if it is to.
+fn begin_if<R: Records + Drop, A: Application + Drop, W: Wire>(
+    alloc: Global,
+    server: &mut Server<R, A, W::Address>,
+    wire: &mut W,
+    begins: bool,
+) -> Result<(), ServeFault>
+    ensures { Went A.has_applied A.meaning R.failed W.Address.eq W.was_given W.has_brought R.stands R.is_kept result server.old server.new wire.old wire.new [] [] }
+{
+    if !begins {
+        return Ok(());
+    }
+    server.begin(alloc, wire)
+}

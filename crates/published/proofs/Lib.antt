@@ -1,0 +1,4 @@
+pub mod Appended
+pub mod Begins
+pub mod Asked
+pub mod Histories

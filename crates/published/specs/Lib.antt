@@ -1,0 +1,4 @@
+pub mod Stores
+pub mod Begun
+pub mod Readers
+pub mod Histories

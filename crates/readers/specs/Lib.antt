@@ -1,0 +1,4 @@
+pub mod Handing
+pub mod Chosen
+pub mod Counting
+pub mod Inputs

@@ -1,0 +1,6 @@
+pub mod Giving
+pub mod Going
+pub mod HeldLemmas
+pub mod Outcomes
+pub mod Seats
+pub mod SenderLemmas

@@ -1,0 +1,5 @@
+pub mod Addressed
+pub mod Held
+pub mod Refusals
+pub mod Serves
+pub mod Serving

@@ -1,0 +1,165 @@
+//! A node at its seat, which takes steps and sends what comes of them.
+
+ghost use Rattle.std.specs.Prelude.{◌≡◌, ℕ, IfOk, OnErr, OnOk, List, ◌++◌};
+ghost use Rattle.serving.specs.Refusals.{IsHalted, IsRefused, IsRefusedTick};
+ghost use Rattle.serving.specs.Serving.{Halts, Takes, Ticks};
+ghost use Rattle.wires.specs.Wires.{Carried};
+
+use super::fault::ServeFault;
+use super::place::Place;
+use super::sending::post;
+use applications::Application;
+use ballots::{RequestId, Value};
+use member::{Target, Tick};
+use node::{Node, NodeFault, Sent};
+use records::Records;
+use std::alloc::Global;
+use wires::Wire;
+
+/// What a step sent.
+#[derive(Clone, Copy, PartialEq, Eq, Debug)]
+pub(super) enum Told {
+    /// Something to the client that it heard.
+    Client,
+    /// Something, but nothing to a client.
+    Members,
+    /// Nothing.
+    Nobody,
+    /// There was no step.
+    Unheard,
+}
+
+/// A node that serves.
+#[derive(Drop)]
+pub(super) struct Seat<R: Records + Drop, A: Application + Drop> {
+    pub(super) node: Node<R, A>,
+    /// Whether memory was ever refused to what came.
+    pub(super) has_lost: bool,
+}
+
+/// Whom a step told something.
+fn told_by(sent: &[Sent]) -> Told {
+    if sent.is_empty() {
+        return Told::Nobody;
+    }
+    if sent.iter().any(|one| one.to == Target::Client) {
+        return Told::Client;
+    }
+    Told::Members
+}
+
+impl<R: Records + Drop, A: Application + Drop> Seat<R, A> {
+    /// Takes a datagram from an address: the node takes the step of its message, and what that sends is put on the wire.
+    ///
+    /// What is no message to this node, or says that it is sent by a member from whose address it does not come, is dropped. What memory was
+    /// refused to is lost. The fault: the store failed, and nothing is sent.
+    pub(super) fn hear<W: Wire>(
+        &mut self,
+        alloc: Global,
+        place: &Place<W::Address>,
+        wire: &mut W,
+        from: W::Address,
+        bytes: &[u8],
+    ) -> Result<Told, ServeFault>
+        ensures heard { IfOk result (λ _. (end : ℕ) → (sent : List (Carried W.Address)) × Takes A.has_applied A.meaning R.failed W.Address.eq place.now (record { end = end; peer = from; bytes = bytes.now }) self.old self.new sent
+            × ((ds : List (Carried W.Address)) → W.was_given wire.old ds → W.was_given wire.new (ds ++ sent))) }
+        ensures halted { OnErr result (Halts A.has_applied A.meaning R.failed R.stands R.is_kept self.old self.new
+            × ((ds : List (Carried W.Address)) → W.was_given wire.old ds → W.was_given wire.new ds)) }
+        ensures brought { (ds : List (Carried W.Address)) → W.has_brought wire.old ds → W.has_brought wire.new ds }
+    {
+        if !place.is_from_sender(from, bytes) {
+            return Ok(Told::Unheard);
+        }
+        let members = self.node.setup().members().count();
+        let member = self.node.setup().member();
+        match self.node.receive(alloc, bytes) {
+            Ok(outbox) => {
+                post(wire, place, Some(from), members, member, outbox.sent());
+                Ok(told_by(outbox.sent()))
+            }
+            Err(fault) => self.refuse(fault),
+        }
+    }
+
+    /// What a refusal comes to. The fault: it ends the node's service.
+    fn refuse(&mut self, fault: NodeFault) -> Result<Told, ServeFault>
+        ensures refused { OnOk result (IsRefused fault self.old.has_lost self.new.has_lost) }
+        ensures halted { OnErr result (IsHalted fault) }
+        ensures same { self.new.node ≡ self.old.node }
+    {
+        match fault {
+            NodeFault::Wire(_) => Ok(Told::Unheard),
+            NodeFault::Stranger => Ok(Told::Unheard),
+            NodeFault::Memory => {
+                self.has_lost = true;
+                Ok(Told::Unheard)
+            }
+            // No message spends a ballot.
+            NodeFault::Spent => {
+                self.has_lost = true;
+                Ok(Told::Unheard)
+            }
+            NodeFault::Store => Err(ServeFault::Store),
+            NodeFault::Stopped => Err(ServeFault::Store),
+        }
+    }
+
+    /// Ticks: the node takes that step, and what it sends is put on the wire. The fault: the store failed, and nothing is sent.
+    pub(super) fn tick<W: Wire>(
+        &mut self,
+        alloc: Global,
+        place: &Place<W::Address>,
+        wire: &mut W,
+        tick: Tick,
+    ) -> Result<(), ServeFault>
+        ensures ticked { OnOk result ((sent : List (Carried W.Address)) × Ticks A.has_applied A.meaning R.failed place.now tick self.old self.new sent
+            × ((ds : List (Carried W.Address)) → W.was_given wire.old ds → W.was_given wire.new (ds ++ sent))) }
+        ensures halted { OnErr result (Halts A.has_applied A.meaning R.failed R.stands R.is_kept self.old self.new
+            × ((ds : List (Carried W.Address)) → W.was_given wire.old ds → W.was_given wire.new ds)) }
+        ensures brought { (ds : List (Carried W.Address)) → W.has_brought wire.old ds → W.has_brought wire.new ds }
+    {
+        let members = self.node.setup().members().count();
+        let member = self.node.setup().member();
+        match self.node.tick(alloc, tick) {
+            Ok(outbox) => {
+                post(wire, place, None, members, member, outbox.sent());
+                Ok(())
+            }
+            Err(fault) => self.refuse_tick(fault),
+        }
+    }
+
+    /// What the refusal of a tick comes to. The fault: it ends the node's service.
+    fn refuse_tick(&mut self, fault: NodeFault) -> Result<(), ServeFault>
+        ensures refused { OnOk result (IsRefusedTick fault self.old.has_lost self.new.has_lost) }
+        ensures halted { OnErr result (IsHalted fault) }
+        ensures same { self.new.node ≡ self.old.node }
+    {
+        match fault {
+            NodeFault::Spent => Ok(()),
+            NodeFault::Memory => {
+                self.has_lost = true;
+                Ok(())
+            }
+            // No tick is a message.
+            NodeFault::Wire(_) => {
+                self.has_lost = true;
+                Ok(())
+            }
+            NodeFault::Stranger => {
+                self.has_lost = true;
+                Ok(())
+            }
+            NodeFault::Store => Err(ServeFault::Store),
+            NodeFault::Stopped => Err(ServeFault::Store),
+        }
+    }
+
+    /// Whose request, and which, is the value that the node has learnt at a position, if it is one.
+    pub(super) fn request_at(&self, position: u32) -> Option<RequestId> {
+        match self.node.learned(position)? {
+            Value::Request(request) => Some(request.id()),
+            Value::NoOp => None,
+        }
+    }
+}

@@ -1,0 +1,134 @@
+//! A server: a node that serves over a wire.
+
+ghost use Rattle.std.specs.Prelude.{◌≡◌, false, [], ◌∷◌};
+ghost use Rattle.serving.specs.Serves.{Passed, Went, WentBy};
+ghost use Rattle.serving.specs.Serving.{Ticked, Took};
+
+use super::fault::ServeFault;
+use super::place::Place;
+use super::seat::Seat;
+use super::state::State;
+use super::waiting::Waiting;
+use applications::Application;
+use member::Tick;
+use node::Node;
+use records::Records;
+use std::alloc::Global;
+use std::marker::Model;
+use wires::{Arrival, Wire};
+
+/// How many bytes a server's buffer has: those of the longest message, and one more, so that what is cut off can be no message.
+pub const MOST_BYTES: usize = 33_029;
+
+/// A node that serves at an end of a wire, for the members of its group and for clients.
+///
+/// A request that the node proposes, or has no place for, waits for its reply: its datagram is taken again when its value was applied, and when
+/// a place is free. So a client gets its reply when its request is applied, and not when it asks again. At most 1,024 requests wait; of each
+/// client and number the newest datagram; past that the oldest one is dropped, and its client asks again as ever.
+#[derive(Drop)]
+pub struct Server<R: Records + Drop, A: Application + Drop, D: Copy + Eq + Drop> {
+    state: State<R, A, D>,
+}
+
+impl<R: Records + Drop, A: Application + Drop, D: Copy + Eq + Drop> Model for Server<R, A, D> {
+    ghost use Rattle.serving.specs.Serves.{Server as ServerTerm, shown};
+
+    ghost Value = { ServerTerm R A D };
+
+    ghost view = { λ x. shown x.state };
+}
+
+impl<R: Records + Drop, A: Application + Drop, D: Copy + Eq + Drop> Server<R, A, D> {
+    /// A server over a node, at an end of its wire, with the addresses of all members in member order.
+    pub fn new(alloc: Global, node: Node<R, A>, end: usize, peers: Vec<D>) -> Server<R, A, D>
+        ensures node { result.seat.node ≡ node }
+        ensures lost { result.seat.has_lost ≡ false }
+        ensures place { result.place ≡ record { end = end; peers = peers.items } }
+        ensures waiting { result.waiting ≡ [] }
+    {
+        Server {
+            state: State {
+                told: 0,
+                seat: Seat {
+                    node,
+                    has_lost: false,
+                },
+                place: Place { end, peers },
+                waiting: Waiting::new(alloc),
+            },
+        }
+    }
+
+    /// Its node.
+    pub fn node(&self) -> &Node<R, A>
+        ensures { result.now ≡ self.now.seat.node }
+    {
+        &self.state.seat.node
+    }
+
+    /// Whether memory was ever refused to something that came, or to a tick, so that it was lost.
+    pub fn has_lost(&self) -> bool
+        ensures { result ≡ self.now.seat.has_lost }
+    {
+        self.state.seat.has_lost
+    }
+
+    /// Begins a ballot, so that the node leads once a majority has promised it; nothing happens where positions or rounds are spent.
+    ///
+    /// The fault: the store failed, and the node has stopped. Nothing was sent.
+    pub fn begin<W: Wire<Address = D>>(
+        &mut self,
+        alloc: Global,
+        wire: &mut W,
+    ) -> Result<(), ServeFault>
+        ensures { WentBy A.has_applied A.meaning R.failed D.eq W.was_given W.has_brought R.stands R.is_kept result (Ticked Tick.Begin ∷ []) self.old self.new wire.old wire.new }
+    {
+        self.state.begin(alloc, wire)
+    }
+
+    /// Ticks: the node sends again what it waits for where it leads, and asks the others for what it has not learnt. Where another member leads
+    /// now, clients whose requests wait are told so.
+    ///
+    /// The fault: the store failed, and the node has stopped. Nothing was sent since.
+    pub fn tick<W: Wire<Address = D>>(
+        &mut self,
+        alloc: Global,
+        wire: &mut W,
+    ) -> Result<(), ServeFault>
+        ensures { Went A.has_applied A.meaning R.failed D.eq W.was_given W.has_brought R.stands R.is_kept result (Ticked Tick.Resend ∷ Ticked Tick.CatchUp ∷ []) [] [] self.old self.new wire.old wire.new }
+    {
+        self.state.tick(alloc, wire)
+    }
+
+    /// Takes a datagram that a wire has brought: the node takes the step of its message, and what it sends is put on the wire.
+    ///
+    /// The fault: the store failed, and the node has stopped. Nothing was sent since.
+    pub fn take<W: Wire<Address = D>>(
+        &mut self,
+        alloc: Global,
+        wire: &mut W,
+        arrival: Arrival<D>,
+        bytes: &[u8],
+    ) -> Result<(), ServeFault>
+        ensures { Went A.has_applied A.meaning R.failed D.eq W.was_given W.has_brought R.stands R.is_kept result (Took (record { end = arrival.end; peer = arrival.from; bytes = bytes.now }) ∷ []) (record { end = arrival.end; peer = arrival.from; bytes = bytes.now } ∷ []) [] self.old self.new wire.old wire.new }
+    {
+        self.state.take(alloc, wire, arrival, bytes)
+    }
+
+    /// Serves for so many turns. In each it takes one datagram, or ticks where the wire brought none for a while; and it ticks too where a while has
+    /// passed since it last did.
+    ///
+    /// The buffer holds one datagram, [`MOST_BYTES`] of it. The fault: the store failed, and the node has stopped.
+    /// Nothing was sent since.
+    pub fn serve<W: Wire<Address = D>>(
+        &mut self,
+        alloc: Global,
+        wire: &mut W,
+        buffer: &mut [u8],
+        turns: u64,
+    ) -> Result<(), ServeFault>
+        ensures { Passed A.has_applied A.meaning R.failed D.eq W.was_given W.has_brought R.stands R.is_kept result self.old self.new wire.old wire.new }
+    {
+        self.state.serve(alloc, wire, buffer, turns)
+    }
+}

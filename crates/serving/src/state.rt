@@ -1,0 +1,345 @@
+//! What a server holds, and how it goes on.
+
+ghost use Rattle.std.specs.Prelude.{◌≡◌, ◌⊎◌, [], ◌∷◌};
+ghost use Rattle.paxos.specs.Lists.{Has};
+ghost use Rattle.serving.specs.Held.{held_in};
+ghost use Rattle.serving.specs.Serves.{Passed, Went, WentBy, shown};
+ghost use Rattle.serving.specs.Serving.{Ticked, Took};
+ghost use Rattle.wires.specs.Wires.{Carried};
+
+use super::fault::ServeFault;
+use super::place::Place;
+use super::requests::request_in;
+use super::seat::{Seat, Told};
+use super::waiting::{Held, MOST_WAITING, Waiting};
+use applications::Application;
+use ballots::limits::POSITIONS;
+use ballots::{RequestId, Value};
+use member::Tick;
+use records::Records;
+use std::alloc::Global;
+use wires::{Arrival, Unheard, Wire};
+
+/// How far a message has to bring a member on for it to ask at once for what comes next: as many positions as one message tells.
+const AT_ONCE: u32 = 8;
+
+/// A node at its seat and its place, the requests that wait for replies, and up to which position these were told of what was applied.
+#[derive(Drop)]
+pub(super) struct State<R: Records + Drop, A: Application + Drop, D: Copy + Eq + Drop> {
+    pub(super) seat: Seat<R, A>,
+    pub(super) place: Place<D>,
+    pub(super) waiting: Waiting<D>,
+    pub(super) told: u32,
+}
+
+impl<R: Records + Drop, A: Application + Drop, D: Copy + Eq + Drop> State<R, A, D> {
+    /// Takes a datagram as it comes. A request that gets no reply waits for it.
+    fn take_first<W: Wire<Address = D>>(
+        &mut self,
+        alloc: Global,
+        wire: &mut W,
+        arrival: Arrival<D>,
+        bytes: &[u8],
+    ) -> Result<(), ServeFault>
+        ensures { Went A.has_applied A.meaning R.failed D.eq W.was_given W.has_brought R.stands R.is_kept result (Took (record { end = arrival.end; peer = arrival.from; bytes = bytes.now }) ∷ []) (record { end = arrival.end; peer = arrival.from; bytes = bytes.now } ∷ []) [] (shown self.old) (shown self.new) wire.old wire.new }
+    {
+        match self
+            .seat
+            .hear(alloc, &self.place, wire, arrival.from, bytes)?
+        {
+            Told::Client | Told::Unheard => {}
+            Told::Members => self.keep(alloc, arrival, bytes, true),
+            Told::Nobody => self.keep(alloc, arrival, bytes, false),
+        }
+        Ok(())
+    }
+
+    /// A datagram waits, if it makes a request. It does not where memory is refused.
+    fn keep(&mut self, alloc: Global, arrival: Arrival<D>, bytes: &[u8], has_place: bool)
+        ensures seat { self.new.seat ≡ self.old.seat }
+        ensures place { self.new.place ≡ self.old.place }
+        ensures waiting { (d : Carried D) → Has (held_in self.new.waiting.requests.entries) d → Has (held_in self.old.waiting.requests.entries) d ⊎ (record { end = arrival.end; peer = arrival.from; bytes = bytes.now } ≡ d) }
+    {
+        let Some(id) = request_in(bytes) else {
+            return;
+        };
+        let Ok(copied) = bytes.to_vec(alloc) else {
+            return;
+        };
+        let held = Held {
+            end: arrival.end,
+            from: arrival.from,
+            bytes: copied,
+        };
+        self.waiting.hold(id, held, has_place);
+    }
+
+    /// Takes a request again that waits, if it does, and says what that sent. It waits no more if its client was answered.
+    fn take_again<W: Wire<Address = D>>(
+        &mut self,
+        alloc: Global,
+        wire: &mut W,
+        id: RequestId,
+    ) -> Result<Option<Told>, ServeFault>
+        ensures { Went A.has_applied A.meaning R.failed D.eq W.was_given W.has_brought R.stands R.is_kept result [] [] [] (shown self.old) (shown self.new) wire.old wire.new }
+    {
+        let Some(held) = self.waiting.get(id) else {
+            return Ok(None);
+        };
+        let told = self
+            .seat
+            .hear(alloc, &self.place, wire, held.from, held.bytes.as_slice())?;
+        if told == Told::Client {
+            self.waiting.drop_request(id);
+        }
+        Ok(Some(told))
+    }
+
+    /// Ticks.
+    fn tick_once<W: Wire<Address = D>>(
+        &mut self,
+        alloc: Global,
+        wire: &mut W,
+        tick: Tick,
+    ) -> Result<(), ServeFault>
+        ensures { WentBy A.has_applied A.meaning R.failed D.eq W.was_given W.has_brought R.stands R.is_kept result (Ticked tick ∷ []) (shown self.old) (shown self.new) wire.old wire.new }
+    {
+        match self.seat.tick(alloc, &self.place, wire, tick) {
+            Ok(()) => Ok(()),
+            Err(fault) => Err(fault),
+        }
+    }
+
+    /// Takes the request again whose value was applied next, if it waits: it has a reply now. Says whether there was such a value.
+    fn tell_next<W: Wire<Address = D>>(
+        &mut self,
+        alloc: Global,
+        wire: &mut W,
+    ) -> Result<bool, ServeFault>
+        ensures { Went A.has_applied A.meaning R.failed D.eq W.was_given W.has_brought R.stands R.is_kept result [] [] [] (shown self.old) (shown self.new) wire.old wire.new }
+    {
+        if self.told >= self.seat.node.applied() {
+            return Ok(false);
+        }
+        self.told += 1;
+        if let Some(id) = self.seat.request_at(self.told) {
+            self.take_again(alloc, wire, id)?;
+        }
+        Ok(true)
+    }
+
+    /// Takes the request again that has waited longest for a place, if one does. Says whether another one may find one too.
+    fn place_next<W: Wire<Address = D>>(
+        &mut self,
+        alloc: Global,
+        wire: &mut W,
+    ) -> Result<bool, ServeFault>
+        ensures { Went A.has_applied A.meaning R.failed D.eq W.was_given W.has_brought R.stands R.is_kept result [] [] [] (shown self.old) (shown self.new) wire.old wire.new }
+    {
+        let Some(id) = self.waiting.take_unplaced() else {
+            return Ok(false);
+        };
+        match self.take_again(alloc, wire, id)? {
+            Some(Told::Nobody | Told::Unheard) => {
+                self.waiting.put_back(id);
+                Ok(false)
+            }
+            Some(Told::Client | Told::Members) | None => Ok(true),
+        }
+    }
+
+    /// Takes the request again that has waited longest, if one does. Says whether its client was answered: a member that leads no more names
+    /// the one that does to each of them.
+    fn answer_oldest<W: Wire<Address = D>>(
+        &mut self,
+        alloc: Global,
+        wire: &mut W,
+    ) -> Result<bool, ServeFault>
+        ensures { Went A.has_applied A.meaning R.failed D.eq W.was_given W.has_brought R.stands R.is_kept result [] [] [] (shown self.old) (shown self.new) wire.old wire.new }
+    {
+        let Some(id) = self.waiting.oldest() else {
+            return Ok(false);
+        };
+        Ok(self.take_again(alloc, wire, id)? == Some(Told::Client))
+    }
+
+    /// Takes the requests again whose values were applied since this was last done.
+    fn tell_applied<W: Wire<Address = D>>(
+        &mut self,
+        alloc: Global,
+        wire: &mut W,
+    ) -> Result<(), ServeFault>
+        ensures { Went A.has_applied A.meaning R.failed D.eq W.was_given W.has_brought R.stands R.is_kept result [] [] [] (shown self.old) (shown self.new) wire.old wire.new }
+    {
+        for _position in 0..POSITIONS {
+            if !self.tell_next(alloc, wire)? {
+                break;
+            }
+        }
+        Ok(())
+    }
+
+    /// Takes requests again that wait for a place, the oldest first, while there is one.
+    fn place_waiting<W: Wire<Address = D>>(
+        &mut self,
+        alloc: Global,
+        wire: &mut W,
+    ) -> Result<(), ServeFault>
+        ensures { Went A.has_applied A.meaning R.failed D.eq W.was_given W.has_brought R.stands R.is_kept result [] [] [] (shown self.old) (shown self.new) wire.old wire.new }
+    {
+        for _request in 0..MOST_WAITING {
+            if !self.place_next(alloc, wire)? {
+                break;
+            }
+        }
+        Ok(())
+    }
+
+    /// Takes the requests again that have waited longest, while their clients are answered.
+    fn answer_waiting<W: Wire<Address = D>>(
+        &mut self,
+        alloc: Global,
+        wire: &mut W,
+    ) -> Result<(), ServeFault>
+        ensures { Went A.has_applied A.meaning R.failed D.eq W.was_given W.has_brought R.stands R.is_kept result [] [] [] (shown self.old) (shown self.new) wire.old wire.new }
+    {
+        for _request in 0..MOST_WAITING {
+            if !self.answer_oldest(alloc, wire)? {
+                break;
+            }
+        }
+        Ok(())
+    }
+
+    /// What follows a datagram, before which so many positions were learnt without a gap: replies to what was applied, places for what waits
+    /// for one, and the question for what comes next, where a message brought as much as one can.
+    fn follow<W: Wire<Address = D>>(
+        &mut self,
+        alloc: Global,
+        wire: &mut W,
+        before: u32,
+    ) -> Result<(), ServeFault>
+        ensures { Went A.has_applied A.meaning R.failed D.eq W.was_given W.has_brought R.stands R.is_kept result [] [] [] (shown self.old) (shown self.new) wire.old wire.new }
+    {
+        self.tell_applied(alloc, wire)?;
+        self.place_waiting(alloc, wire)?;
+        if self.seat.node.prefix().saturating_sub(before) < AT_ONCE {
+            return Ok(());
+        }
+        self.tick_once(alloc, wire, Tick::CatchUp)
+    }
+
+    /// Takes a datagram as it comes, and does what follows.
+    pub(super) fn take<W: Wire<Address = D>>(
+        &mut self,
+        alloc: Global,
+        wire: &mut W,
+        arrival: Arrival<D>,
+        bytes: &[u8],
+    ) -> Result<(), ServeFault>
+        ensures { Went A.has_applied A.meaning R.failed D.eq W.was_given W.has_brought R.stands R.is_kept result (Took (record { end = arrival.end; peer = arrival.from; bytes = bytes.now }) ∷ []) (record { end = arrival.end; peer = arrival.from; bytes = bytes.now } ∷ []) [] (shown self.old) (shown self.new) wire.old wire.new }
+    {
+        let before = self.seat.node.prefix();
+        self.take_first(alloc, wire, arrival, bytes)?;
+        self.follow(alloc, wire, before)
+    }
+
+    /// Sends again what its node waits for where it leads, asks the others for what it has not learnt, and answers what waits where another leads.
+    pub(super) fn tick<W: Wire<Address = D>>(
+        &mut self,
+        alloc: Global,
+        wire: &mut W,
+    ) -> Result<(), ServeFault>
+        ensures { Went A.has_applied A.meaning R.failed D.eq W.was_given W.has_brought R.stands R.is_kept result (Ticked Tick.Resend ∷ Ticked Tick.CatchUp ∷ []) [] [] (shown self.old) (shown self.new) wire.old wire.new }
+    {
+        self.tick_once(alloc, wire, Tick::Resend)?;
+        self.tick_once(alloc, wire, Tick::CatchUp)?;
+        self.tell_applied(alloc, wire)?;
+        self.answer_waiting(alloc, wire)
+    }
+
+    /// Begins a ballot, if there is one left.
+    pub(super) fn begin<W: Wire<Address = D>>(
+        &mut self,
+        alloc: Global,
+        wire: &mut W,
+    ) -> Result<(), ServeFault>
+        ensures { WentBy A.has_applied A.meaning R.failed D.eq W.was_given W.has_brought R.stands R.is_kept result (Ticked Tick.Begin ∷ []) (shown self.old) (shown self.new) wire.old wire.new }
+    {
+        self.tick_once(alloc, wire, Tick::Begin)
+    }
+
+    /// Waits for a datagram and takes it, or ticks where none comes. Says whether either was done: a wire may fail to say whether one has come.
+    fn take_next<W: Wire<Address = D>>(
+        &mut self,
+        alloc: Global,
+        wire: &mut W,
+        buffer: &mut [u8],
+    ) -> Result<bool, ServeFault>
+        ensures { Passed A.has_applied A.meaning R.failed D.eq W.was_given W.has_brought R.stands R.is_kept result (shown self.old) (shown self.new) wire.old wire.new }
+    {
+        match wire.receive(buffer) {
+            Ok(Some(arrival)) => {
+                self.take(alloc, wire, arrival, &buffer[..arrival.length])?;
+                Ok(true)
+            }
+            Ok(None) => {
+                self.tick(alloc, wire)?;
+                Ok(true)
+            }
+            Err(Unheard) => Ok(false),
+        }
+    }
+
+    /// Ticks where a while has passed since it last did, so that no number of datagrams keeps it from that.
+    fn tick_if_due<W: Wire<Address = D>>(
+        &mut self,
+        alloc: Global,
+        wire: &mut W,
+    ) -> Result<bool, ServeFault>
+        ensures { Passed A.has_applied A.meaning R.failed D.eq W.was_given W.has_brought R.stands R.is_kept result (shown self.old) (shown self.new) wire.old wire.new }
+    {
+        if !wire.has_while_passed() {
+            return Ok(false);
+        }
+        self.tick(alloc, wire)?;
+        Ok(true)
+    }
+
+    /// Takes a turn: one datagram, or one wait in vain. Says whether it did.
+    fn turn<W: Wire<Address = D>>(
+        &mut self,
+        alloc: Global,
+        wire: &mut W,
+        buffer: &mut [u8],
+    ) -> Result<bool, ServeFault>
+        ensures { Passed A.has_applied A.meaning R.failed D.eq W.was_given W.has_brought R.stands R.is_kept result (shown self.old) (shown self.new) wire.old wire.new }
+    {
+        let has_turned = self.take_next(alloc, wire, buffer)?;
+        self.tick_if_due(alloc, wire)?;
+        Ok(has_turned)
+    }
+
+    /// Takes so many turns.
+    pub(super) fn serve<W: Wire<Address = D>>(
+        &mut self,
+        alloc: Global,
+        wire: &mut W,
+        buffer: &mut [u8],
+        turns: u64,
+    ) -> Result<(), ServeFault>
+        ensures { Passed A.has_applied A.meaning R.failed D.eq W.was_given W.has_brought R.stands R.is_kept result (shown self.old) (shown self.new) wire.old wire.new }
+    {
+        let mut left = turns;
+        // What the wire fails to say is no turn.
+        for _try in 0..u64::MAX {
+            if left == 0 {
+                break;
+            }
+            if self.turn(alloc, wire, buffer)? {
+                left -= 1;
+            }
+        }
+        Ok(())
+    }
+}
