@@ -9,7 +9,8 @@
         print(answer.text)
 
 `submit` sends a request until it is answered, under one number, so that it runs once. `ask` asks a question. Who leads is found out. A datagram
-is sent again where no answer comes, first after 20 ms, then after twice as long each time, at most 250 ms. docs/FORMATS.md of paxq has the bytes.
+is sent again where no answer comes: a request after 20 ms, a question, whose evaluation may take its time, after 100, then after twice as long each
+time, at most 250 ms and 2 s. A member that leaves three unanswered is left for the next one. docs/FORMATS.md of paxq has the bytes.
 """
 
 import secrets
@@ -27,7 +28,8 @@ SUBMIT, REPLY, ASK, ANSWER, BEHIND, ELSEWHERE = 7, 8, 9, 10, 11, 12
 LONGEST_TEXT = 4096
 LONGEST_ANSWER = 32768
 LAST_POSITION = 1_000_000
-FIRST_WAIT, LONGEST_WAIT = 0.02, 0.25
+FIRST_WAIT, LONGEST_WAIT = 0.02, 0.25  # seconds until a request is sent again
+FIRST_QUESTION_WAIT, LONGEST_QUESTION_WAIT = 0.1, 2.0  # a member evaluates each copy of a question that comes to it
 SENDS_TO_ONE = 3  # a member that leaves so many unanswered is left for the next one
 
 CODES = (
@@ -239,7 +241,9 @@ class Client:
             raise ValueError(f"member {member} is not 1 to {len(self.places)}")
         number, self.next_question = self.next_question, self.next_question + 1
         data = ask_bytes(self.group, self.client, number, floor, self.level, text)
-        rounds = Rounds(len(self.places), self.asked if member is None else member - 1, self._time(timeout), stays=member is not None)
+        first = self.asked if member is None else member - 1
+        rounds = Rounds(len(self.places), first, self._time(timeout), stays=member is not None)
+        rounds.wait, rounds.longest = FIRST_QUESTION_WAIT, LONGEST_QUESTION_WAIT
         applied = None
         while rounds.go_on(number, applied):
             heard = self._exchange(data, rounds, number, (ANSWER, BEHIND))
@@ -298,7 +302,9 @@ class Rounds:
     def __init__(self, members, first, seconds, stays=False):
         self.members, self.place, self.turn, self.stays = members, first, first, stays
         self.end = time.monotonic() + seconds
-        self.wait, self.silent, self.hops = FIRST_WAIT, 0, 0
+        self.wait, self.longest = FIRST_WAIT, LONGEST_WAIT  # for what is not answered
+        self.pause = FIRST_WAIT  # before another one is tried
+        self.silent, self.hops = 0, 0
 
     def go_on(self, number, applied=None):
         """True while there is time; then the exception that says what is known."""
@@ -311,7 +317,7 @@ class Rounds:
 
     def unanswered(self):
         """The member said nothing. It is left after a few times, for the one whose turn it is."""
-        self.wait = min(2 * self.wait, LONGEST_WAIT)
+        self.wait = min(2 * self.wait, self.longest)
         self.silent, self.hops = self.silent + 1, 0
         if self.silent == SENDS_TO_ONE:
             self.next()
@@ -323,8 +329,8 @@ class Rounds:
 
     def rest(self):
         """Waits a little, and goes on with the next one."""
-        time.sleep(max(0.0, min(self.wait, self.end - time.monotonic())))
-        self.wait = min(2 * self.wait, LONGEST_WAIT)
+        time.sleep(max(0.0, min(self.pause, self.end - time.monotonic())))
+        self.pause = min(2 * self.pause, LONGEST_WAIT)
         self.next()
 
     def follow(self, member):
