@@ -13,4 +13,4 @@ pub use fault::ReadFault;
 pub use laws::every_sight_was_published;
 pub use reader::{Board, Note, Reader};
 pub use serving::{Gate, serve};
-pub use store::Store;
+pub use store::{Known, Published, Store, StoreOver};

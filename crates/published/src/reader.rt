@@ -5,9 +5,10 @@ ghost use Rattle.left_right.specs.Sides.{view as known};
 ghost use Rattle.published.specs.Readers.{IsAnswer, Learns, first_readers, new_reader};
 ghost use Rattle.sight.specs.Sights.{IsSight};
 
-use super::copies::Replica;
+use super::copies::{Opening, Replica, StateCopy};
 use super::fault::ReadFault;
-use super::store::{Place, Sees, Store};
+use super::store::{Place, Published, Sees, StoreOver};
+use applications::Application;
 use ballots::limits::MOST_BYTES;
 use ballots::{Answer, Value};
 use core::mem::replace_with;
@@ -59,13 +60,13 @@ impl<J: Naming> Board<J> {
 /// A reader: it asks in a thread of its own, and waits for nobody. Contracts see it as its number, its sight, and the list that it was shown when
 /// it last asked.
 #[derive(Drop)]
-pub struct Reader<C: Replica<J> + Drop, J: Naming> {
-    place: Option<Place<C, J>>,
+pub struct Reader<A: Application + Drop, J: Naming + Opening> {
+    place: Option<Place<A, J>>,
     sight: Sight<Value, J>,
     number: u32,
 }
 
-impl<C: Replica<J> + Drop, J: Naming> Model for Reader<C, J> {
+impl<A: Application + Drop, J: Naming + Opening> Model for Reader<A, J> {
     ghost use Rattle.std.specs.Prelude.{[]};
     ghost use Rattle.std.specs.Option.{option_map_or};
     ghost use Rattle.left_right.specs.Sides.{view as known};
@@ -76,7 +77,7 @@ impl<C: Replica<J> + Drop, J: Naming> Model for Reader<C, J> {
     ghost view = { λ r. record { number = r.number; sight = r.sight; shown = option_map_or (λ p. known p.place) r.place [] } };
 }
 
-impl<C: Replica<J> + Drop, J: Naming> Store<C, J> {
+impl<A: Application + Drop, J: Naming + Opening> StoreOver<StateCopy<A, J>, J, Published> {
     /// A board of what is published.
     pub fn board(&self) -> Board<J>
         ensures { result ≡ self.now.published }
@@ -85,9 +86,11 @@ impl<C: Replica<J> + Drop, J: Naming> Store<C, J> {
             sight: self.shown().sight().again(),
         }
     }
+}
 
+impl<A: Application + Drop, J: Naming + Opening> StoreOver<StateCopy<A, J>, J, Published> {
     /// A reader of that number, which has seen what is published, and was shown nothing yet.
-    fn reader(&self, number: u32) -> Reader<C, J>
+    fn reader(&self, number: u32) -> Reader<A, J>
         ensures { result ≡ new_reader number self.now.published }
     {
         Reader {
@@ -98,7 +101,7 @@ impl<C: Replica<J> + Drop, J: Naming> Store<C, J> {
     }
 
     /// As many readers, numbered from 1, where there is room for them.
-    pub(super) fn readers(&self, given: Vec<Reader<C, J>>, count: u32) -> Vec<Reader<C, J>>
+    pub(super) fn readers(&self, given: Vec<Reader<A, J>>, count: u32) -> Vec<Reader<A, J>>
         requires nothing { given.items ≡ [] }
         requires room { count ≤ given.cap }
         ensures { result.items ≡ first_readers count self.now.published }
@@ -111,7 +114,7 @@ impl<C: Replica<J> + Drop, J: Naming> Store<C, J> {
     }
 }
 
-impl<C: Replica<J> + Drop, J: Naming> Reader<C, J> {
+impl<A: Application + Drop, J: Naming + Opening> Reader<A, J> {
     /// Its number.
     pub fn number(&self) -> u32
         ensures { result ≡ self.now.number }
@@ -142,7 +145,7 @@ impl<C: Replica<J> + Drop, J: Naming> Reader<C, J> {
     /// Faults: memory was refused, and the reader may have seen more (1); the text is longer than 4,096 bytes (2); the store was closed, or
     /// nothing is shown that goes as far as the reader has seen, or the reader found no place at the store (3).
     pub fn ask(&mut self, alloc: Global, level: u8, text: &str) -> Result<(Answer, u64), ReadFault>
-        ensures answer { IfOk result (λ r. IsAnswer (C.meaning) level text.now r.0 r.1 self.new.sight) }
+        ensures answer { IfOk result (λ r. IsAnswer ((A.meaning J.names)) level text.now r.0 r.1 self.new.sight) }
         ensures shown { IfOk result (λ _. self.new.shown ≡ self.new.sight) }
         ensures sight { IsSight self.old.sight self.new.sight }
         ensures grows { (self.new.sight ≡ self.old.sight) ⊎ (self.new.sight ≡ self.new.shown) }
@@ -170,17 +173,17 @@ impl<C: Replica<J> + Drop, J: Naming> Reader<C, J> {
 }
 
 /// Looks at what is shown.
-fn read<C: Replica<J> + Drop, J: Naming>(
-    place: Place<C, J>,
+fn read<A: Application + Drop, J: Naming + Opening>(
+    place: Place<A, J>,
     seen: Sight<Value, J>,
     alloc: Global,
     level: u8,
     text: &str,
 ) -> (
-    Place<C, J>,
+    Place<A, J>,
     (Sight<Value, J>, Result<(Answer, u64), ReadFault>),
 )
-    ensures answer { IfOk result.1.1 (λ r. IsAnswer (C.meaning) level text.now r.0 r.1 result.1.0) }
+    ensures answer { IfOk result.1.1 (λ r. IsAnswer ((A.meaning J.names)) level text.now r.0 r.1 result.1.0) }
     ensures shown { IfOk result.1.1 (λ r. known result.0.place ≡ result.1.0) }
     ensures sight { IsSight seen result.1.0 }
     ensures grows { (result.1.0 ≡ seen) ⊎ (result.1.0 ≡ known result.0.place) }
@@ -189,7 +192,7 @@ fn read<C: Replica<J> + Drop, J: Naming>(
     ensures closed { IsErrOf result.1.1 ReadFault.Closed → result.1.0 ≡ seen }
 {
     let mut seen = seen;
-    let reading = match place.enter_as::<Sees<J>>() {
+    let reading = match place.enter_as::<Sees>() {
         Ok(reading) => reading,
         Err(place) => return (place, (seen, Err(ReadFault::Closed))),
     };
@@ -198,17 +201,17 @@ fn read<C: Replica<J> + Drop, J: Naming>(
 }
 
 /// The answer over a copy that goes as far as was seen.
-fn look<C: Replica<J> + Drop, J: Naming>(
-    shown: &C,
+fn look<A: Application + Drop, J: Naming + Opening>(
+    shown: &StateCopy<A, J>,
     sight: &mut Sight<Value, J>,
     alloc: Global,
     level: u8,
     text: &str,
 ) -> Result<(Answer, u64), ReadFault>
-    ensures answer { IfOk result (λ r. IsAnswer (C.meaning) level text.now r.0 r.1 sight.new) }
-    ensures shown { IfOk result (λ r. sight.new ≡ C.state shown.now) }
+    ensures answer { IfOk result (λ r. IsAnswer ((A.meaning J.names)) level text.now r.0 r.1 sight.new) }
+    ensures shown { IfOk result (λ r. sight.new ≡ shown.now) }
     ensures sight { IsSight sight.old sight.new }
-    ensures grows { (sight.new ≡ sight.old) ⊎ (sight.new ≡ C.state shown.now) }
+    ensures grows { (sight.new ≡ sight.old) ⊎ (sight.new ≡ shown.now) }
     ensures long { IsErrOf result ReadFault.Long → ⊥ }
     ensures closed { IsErrOf result ReadFault.Closed → sight.new ≡ sight.old }
 {

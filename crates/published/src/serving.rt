@@ -5,9 +5,10 @@ ghost use Rattle.ballots.specs.declared.value.Value.{Value as ValueTerm};
 ghost use Rattle.published.specs.Readers.{Serves};
 ghost use Rattle.sight.specs.Sights.{IsSight};
 
-use super::copies::Replica;
+use super::copies::Opening;
 use super::fault::ReadFault;
 use super::reader::Reader;
+use applications::Application;
 use ballots::Answer;
 use sight::Naming;
 use std::alloc::Global;
@@ -21,13 +22,13 @@ pub trait Gate {
 /// Asks a reader these questions, each of a level and a text, in turn on the calling thread, and tells the gate of each answer. It gives the reader
 /// back, the answers with the number of values that each is over, and the fault that ended it, if one did: then the question after those that are
 /// answered has none.
-pub fn serve<C: Replica<J> + Drop, J: Naming, G: Gate>(
-    reader: Reader<C, J>,
+pub fn serve<A: Application + Drop, J: Naming + Opening, G: Gate>(
+    reader: Reader<A, J>,
     alloc: Global,
     asks: &[(u8, String)],
     gate: &G,
-) -> (Reader<C, J>, Vec<(Answer, u64)>, Option<ReadFault>)
-    ensures served { (last : List ValueTerm) × Serves (C.meaning) reader.sight (take (length result.1.items) asks.now) result.1.items last
+) -> (Reader<A, J>, Vec<(Answer, u64)>, Option<ReadFault>)
+    ensures served { (last : List ValueTerm) × Serves ((A.meaning J.names)) reader.sight (take (length result.1.items) asks.now) result.1.items last
         × IsSight last result.0.sight × (result.2 ≡ None → result.0.sight ≡ last) }
     ensures shown { IsSight reader.shown result.0.shown }
     ensures all { result.2 ≡ None → length result.1.items ≡ length asks.now }

@@ -17,56 +17,55 @@ use left_right::writer::Writer;
 use sight::{Naming, Roll, Sight};
 use std::alloc::{AllocError, Global};
 use std::collections::LinkedList;
-use std::marker::{Model, PhantomData};
+use std::marker::Model;
 use std::sync::Wait;
 
 /// The list that a reader's place knows. No value of it is made.
 pub type Known = LinkedList<Value>;
 
 /// The rule of what is shown: it begins with all that a reader was shown before.
-pub struct Published<J: Naming> {
-    of: PhantomData<J>,
-}
+pub struct Published;
 
-impl<C: Replica<J> + Drop, J: Naming> Protocol<C, Known> for Published<J> {
+impl<A: Application + Drop, J: Naming + Opening> Protocol<StateCopy<A, J>, Known> for Published {
     ghost use Rattle.std.specs.Prelude.{[]};
     ghost use Rattle.published.specs.Begun.{AllBegin};
 
-    ghost holds = { λ x. AllBegin (C.state x) };
+    ghost holds = { λ x. AllBegin x };
 
     ghost first = { [] };
 }
 
 /// A step in which a place comes to know what is shown.
-pub(super) struct Sees<J: Naming> {
-    of: PhantomData<J>,
-}
+pub(super) struct Sees;
 
-impl<C: Replica<J> + Drop, J: Naming> Outcome<C, Known> for Sees<J> {
+impl<A: Application + Drop, J: Naming + Opening> Outcome<StateCopy<A, J>, Known> for Sees {
     ghost use Rattle.std.specs.Prelude.{◌≡◌};
     ghost use Rattle.sight.specs.Sights.{IsSight};
 
-    ghost then = { λ v x y w. IsSight v (C.state y) × (w ≡ C.state y) };
+    ghost then = { λ v x y w. IsSight v y × (w ≡ y) };
 }
 
 /// Two copies of the state, of which readers are shown one.
-pub(super) type Shelf<C, J> = Writer<C, Entry<J>, Known, Published<J>>;
+pub(super) type Shelf<A, J> = Writer<StateCopy<A, J>, Entry<J>, Known, Published>;
 
 /// A reader's place at a shelf.
-pub(super) type Place<C, J> = Seat<C, Known, Published<J>>;
+pub(super) type Place<A, J> = Seat<StateCopy<A, J>, Known, Published>;
 
 /// A state that readers see without waiting, as it was after the values that are published; and the values that wait to be published next, in
 /// the order in which they were handed on. Contracts see it as these two lists.
 ///
 /// It does not end by itself: [`Store::close`] ends it.
-pub struct Store<C: Replica<J> + Drop, J: Naming> {
-    shelf: Shelf<C, J>,
+pub struct StoreOver<C: Replica<J> + Drop, J: Naming, P: Protocol<C, Known>> {
+    shelf: Writer<C, Entry<J>, Known, P>,
     roll: Roll<Value, J>,
     sight: Sight<Value, J>,
     kept: Option<Entry<J>>,
 }
 
-impl<C: Replica<J> + Drop, J: Naming> Model for Store<C, J> {
+/// A store of an application's state.
+pub type Store<A, J> = StoreOver<StateCopy<A, J>, J, Published>;
+
+impl<C: Replica<J> + Drop, J: Naming, P: Protocol<C, Known>> Model for StoreOver<C, J, P> {
     ghost use Rattle.std.specs.Prelude.{◌≡◌, ◌++◌, drop, option_to_list};
     ghost use Rattle.published.specs.Stores.{Store as StoreTerm};
 
@@ -77,7 +76,7 @@ impl<C: Replica<J> + Drop, J: Naming> Model for Store<C, J> {
     ghost invariant = { λ s. s.sight ≡ C.state s.shelf.desk.shown.value ++ (drop s.shelf.behind s.shelf.log.items ++ option_to_list s.kept) };
 }
 
-impl<C: Replica<J> + Drop, J: Naming> Store<C, J> {
+impl<A: Application + Drop, J: Naming + Opening> StoreOver<StateCopy<A, J>, J, Published> {
     /// The value is the last that is pending from now on. It says whether it is: it is not where memory is refused, and where 1,000,000 values were
     /// handed on; then nothing has changed.
     pub fn hand_on(&mut self, value: Value) -> bool
@@ -106,14 +105,14 @@ impl<C: Replica<J> + Drop, J: Naming> Store<C, J> {
     }
 
     /// What is published.
-    pub(super) fn shown(&self) -> &C
-        ensures { C.state result.now ≡ self.now.published }
+    pub(super) fn shown(&self) -> &StateCopy<A, J>
+        ensures { result.now ≡ self.now.published }
     {
         self.shelf.published()
     }
 
     /// A reader's place at the store, which was shown nothing. There is none where each is in use, or where more have one than can be counted.
-    pub(super) fn place(&self) -> Result<Place<C, J>, AllocError>
+    pub(super) fn place(&self) -> Result<Place<A, J>, AllocError>
         ensures { IfOk result (λ p. known p.place ≡ []) }
     {
         self.shelf.factory().reader()
@@ -135,7 +134,7 @@ impl<C: Replica<J> + Drop, J: Naming> Store<C, J> {
 
     /// Ends the store: readers that ask from now on are told that it is closed. It waits for those that are answered now.
     pub fn close<R: Wait>(self, rt: &R) {
-        let Store {
+        let StoreOver {
             shelf,
             roll: _,
             sight: _,
@@ -145,7 +144,7 @@ impl<C: Replica<J> + Drop, J: Naming> Store<C, J> {
     }
 }
 
-impl<A: Application + Drop, J: Naming + Opening> Store<StateCopy<A, J>, J> {
+impl<A: Application + Drop, J: Naming + Opening> StoreOver<StateCopy<A, J>, J, Published> {
     /// Publishes what both copies have applied, and gives as many readers, numbered from 1. Nothing is pending.
     ///
     /// It fails where memory is refused.
@@ -153,14 +152,14 @@ impl<A: Application + Drop, J: Naming + Opening> Store<StateCopy<A, J>, J> {
         alloc: Global,
         copies: Copies<A, J>,
         readers: u32,
-    ) -> Result<(Store<StateCopy<A, J>, J>, Vec<Reader<StateCopy<A, J>, J>>), AllocError>
+    ) -> Result<(Store<A, J>, Vec<Reader<A, J>>), AllocError>
         requires readers { (1 ≤ readers) × (readers ≤ 64) }
         ensures store { IfOk result (λ s. s.0 ≡ record { published = copies; pending = [] }) }
         ensures readers { IfOk result (λ s. s.1.items ≡ first_readers readers copies) }
     {
         let mut given = Vec::new(alloc);
         given.reserve(readers as usize)?;
-        let store = Store::shelved(alloc, copies, readers)?;
+        let store = Store::<A, J>::shelved(alloc, copies, readers)?;
         let given = store.readers(given, readers);
         Ok((store, given))
     }
@@ -168,11 +167,7 @@ impl<A: Application + Drop, J: Naming + Opening> Store<StateCopy<A, J>, J> {
     /// Publishes what both copies have applied, with places for as many readers.
     ///
     /// It fails where memory is refused.
-    fn shelved(
-        alloc: Global,
-        copies: Copies<A, J>,
-        readers: u32,
-    ) -> Result<Store<StateCopy<A, J>, J>, AllocError>
+    fn shelved(alloc: Global, copies: Copies<A, J>, readers: u32) -> Result<Store<A, J>, AllocError>
         requires readers { (1 ≤ readers) × (readers ≤ 64) }
         ensures { IfOk result (λ s. s ≡ record { published = copies; pending = [] }) }
     {
@@ -182,8 +177,8 @@ impl<A: Application + Drop, J: Naming + Opening> Store<StateCopy<A, J>, J> {
             roll,
             sight,
         } = copies;
-        Ok(Store {
-            shelf: Shelf::<StateCopy<A, J>, J>::new(alloc, first, second, readers as usize)?,
+        Ok(StoreOver {
+            shelf: Shelf::<A, J>::new(alloc, first, second, readers as usize)?,
             roll,
             sight,
             kept: None,
@@ -192,8 +187,8 @@ impl<A: Application + Drop, J: Naming + Opening> Store<StateCopy<A, J>, J> {
 }
 
 /// Appends the value that is kept, and says whether none is then.
-fn settled<C: Replica<J> + Drop, J: Naming>(
-    shelf: &mut Shelf<C, J>,
+fn settled<A: Application + Drop, J: Naming + Opening>(
+    shelf: &mut Shelf<A, J>,
     kept: &mut Option<Entry<J>>,
 ) -> bool
     ensures desk { shelf.new.desk ≡ shelf.old.desk }
@@ -213,13 +208,13 @@ fn settled<C: Replica<J> + Drop, J: Naming>(
 }
 
 /// Shows what a shelf's operations come to.
-fn show<C: Replica<J> + Drop, J: Naming, R: Wait>(
+fn show<A: Application + Drop, J: Naming + Opening, R: Wait>(
     rt: &R,
-    shelf: Shelf<C, J>,
-) -> (Shelf<C, J>, Result<(), AllocError>)
+    shelf: Shelf<A, J>,
+) -> (Shelf<A, J>, Result<(), AllocError>)
     ensures { MatchResult result.1
-        (λ _. (C.state result.0.desk.shown.value ≡ C.state shelf.desk.shown.value ++ drop shelf.behind shelf.log.items) × (drop result.0.behind result.0.log.items ≡ []))
-        (λ _. (C.state result.0.desk.shown.value ≡ C.state shelf.desk.shown.value) × (drop result.0.behind result.0.log.items ≡ drop shelf.behind shelf.log.items)) }
+        (λ _. (result.0.desk.shown.value ≡ shelf.desk.shown.value ++ drop shelf.behind shelf.log.items) × (drop result.0.behind result.0.log.items ≡ []))
+        (λ _. (result.0.desk.shown.value ≡ shelf.desk.shown.value) × (drop result.0.behind result.0.log.items ≡ drop shelf.behind shelf.log.items)) }
 {
-    shelf.publish_as::<Sees<J>, R>(rt)
+    shelf.publish_as::<Sees, R>(rt)
 }

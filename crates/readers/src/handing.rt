@@ -10,7 +10,7 @@ ghost use Rattle.readers.specs.Counting.{AreFirst};
 use applications::Application;
 use ballots::Value;
 use node::Node;
-use published::{Replica, Store};
+use published::{Opening, Store};
 use records::Records;
 use sight::Naming;
 
@@ -25,9 +25,9 @@ pub(super) fn learned<R: Records + Drop, A: Application + Drop>(
 }
 
 /// Hands on the value that is learnt at a position. Gives whether it did: it fails where memory is refused.
-fn hand_one<R: Records + Drop, A: Application + Drop, C: Replica<J> + Drop, J: Naming>(
+fn hand_one<R: Records + Drop, A: Application + Drop, J: Naming + Opening>(
     node: &Node<R, A>,
-    store: &mut Store<C, J>,
+    store: &mut Store<A, J>,
     position: u32,
 ) -> bool
     ensures keeps { Keeps store.old store.new }
@@ -43,9 +43,9 @@ fn hand_one<R: Records + Drop, A: Application + Drop, C: Replica<J> + Drop, J: N
 
 /// Hands on what the node has applied after the first values, as many as were handed on. Gives whether that is all: it stops where memory is
 /// refused.
-pub(super) fn hand_over<R: Records + Drop, A: Application + Drop, C: Replica<J> + Drop, J: Naming>(
+pub(super) fn hand_over<R: Records + Drop, A: Application + Drop, J: Naming + Opening>(
     node: &Node<R, A>,
-    store: &mut Store<C, J>,
+    store: &mut Store<A, J>,
 ) -> bool
     ensures keeps { Keeps store.old store.new }
     ensures handed { (u : Running) → RunsAs A.has_applied u node.now

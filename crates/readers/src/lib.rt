@@ -11,4 +11,4 @@ mod site;
 pub use fault::SiteFault;
 pub use input::Input;
 pub use laws::every_sight_is_chosen;
-pub use site::Site;
+pub use site::{Site, SiteOver};

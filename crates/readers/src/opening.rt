@@ -8,11 +8,11 @@ ghost use Rattle.published.specs.Readers.{first_readers};
 
 use super::fault::SiteFault;
 use super::handing::learned;
-use super::site::Site;
+use super::site::{Site, SiteOver};
 use applications::Application;
 use ballots::Value;
 use node::Node;
-use published::{Copies, Opening, Reader, StateCopy, Store};
+use published::{Copies, Opening, Published, Reader, StateCopy, Store};
 use records::Records;
 use sight::{Naming, Opened};
 use std::alloc::{AllocError, Global};
@@ -20,10 +20,13 @@ use std::alloc::{AllocError, Global};
 /// How many readers a site has at most.
 const MOST_READERS: u32 = 64;
 
-/// A reader of copies of the node's application.
-type SiteReader<A, J> = Reader<StateCopy<A, J>, J>;
-
-impl<R: Records + Drop, A: Application + Drop, J: Naming + Opening> Site<R, A, StateCopy<A, J>, J> {
+impl<R: Records + Drop, A: Application + Drop, J: Naming + Opening> SiteOver<
+    R,
+    A,
+    StateCopy<A, J>,
+    J,
+    Published,
+> {
     /// A site over a node, with as many readers, numbered from 1. What the node has applied is published, and nothing is pending.
     ///
     /// `opened` is the list, empty yet, of the values that it will hand on; the call names it, and the node's documents, by `J`.
@@ -34,7 +37,7 @@ impl<R: Records + Drop, A: Application + Drop, J: Naming + Opening> Site<R, A, S
         opened: Opened<Value>,
         node: Node<R, A>,
         readers: u32,
-    ) -> Result<(Site<R, A, StateCopy<A, J>, J>, Vec<SiteReader<A, J>>), (SiteFault, Node<R, A>)>
+    ) -> Result<(Site<R, A, J>, Vec<Reader<A, J>>), (SiteFault, Node<R, A>)>
         requires list { opened ≡ J.book }
         requires names { node.setup.names ≡ J.names }
         ensures node { MatchResult result (λ s. s.0.node ≡ node) (λ e. e.1 ≡ node) }
@@ -48,7 +51,7 @@ impl<R: Records + Drop, A: Application + Drop, J: Naming + Opening> Site<R, A, S
             return Err((SiteFault::Count, node));
         }
         match store_of(alloc, opened, &node, readers) {
-            Ok((store, given)) => Ok((Site { node, store }, given)),
+            Ok((store, given)) => Ok((SiteOver { node, store }, given)),
             Err(_) => Err((SiteFault::Memory, node)),
         }
     }
@@ -97,7 +100,7 @@ fn store_of<R: Records + Drop, A: Application + Drop, J: Naming + Opening>(
     opened: Opened<Value>,
     node: &Node<R, A>,
     readers: u32,
-) -> Result<(Store<StateCopy<A, J>, J>, Vec<SiteReader<A, J>>), AllocError>
+) -> Result<(Store<A, J>, Vec<Reader<A, J>>), AllocError>
     requires list { opened ≡ J.book }
     requires names { node.now.setup.names ≡ J.names }
     requires readers { (1 ≤ readers) × (readers ≤ 64) }
@@ -106,5 +109,5 @@ fn store_of<R: Records + Drop, A: Application + Drop, J: Naming + Opening>(
     ensures readers { IfOk result (λ s. s.1.items ≡ first_readers readers s.0.published) }
 {
     let copies = copies_of(alloc, opened, node)?;
-    Store::over(alloc, copies, readers)
+    Store::<A, J>::over(alloc, copies, readers)
 }

@@ -17,9 +17,10 @@ use super::handing::hand_over;
 use super::input::Input;
 use applications::Application;
 use ballots::{Setup, Value};
+use crossbeam_utils::rule::Protocol;
 use member::Tick;
 use node::{Node, NodeFault, Outbox};
-use published::{Board, Replica, Store};
+use published::{Board, Known, Opening, Published, Replica, StateCopy, StoreOver};
 use records::Records;
 use sight::Naming;
 use std::alloc::{AllocError, Global};
@@ -29,13 +30,27 @@ use std::sync::Wait;
 /// A node, and a store in which readers see what it has applied. Contracts see it as these two.
 ///
 /// It does not end by itself: [`Site::into_node`] ends it.
-pub struct Site<R: Records + Drop, A: Application + Drop, C: Replica<J> + Drop, J: Naming> {
+pub struct SiteOver<
+    R: Records + Drop,
+    A: Application + Drop,
+    C: Replica<J> + Drop,
+    J: Naming,
+    P: Protocol<C, Known>,
+> {
     pub(super) node: Node<R, A>,
-    pub(super) store: Store<C, J>,
+    pub(super) store: StoreOver<C, J, P>,
 }
 
-impl<R: Records + Drop, A: Application + Drop, C: Replica<J> + Drop, J: Naming> Model
-    for Site<R, A, C, J> {
+/// A site of an application's state.
+pub type Site<R, A, J> = SiteOver<R, A, StateCopy<A, J>, J, Published>;
+
+impl<
+    R: Records + Drop,
+    A: Application + Drop,
+    C: Replica<J> + Drop,
+    J: Naming,
+    P: Protocol<C, Known>,
+> Model for SiteOver<R, A, C, J, P> {
     ghost use Rattle.readers.specs.Handing.{Site as SiteTerm};
 
     ghost Value = { SiteTerm R A };
@@ -55,7 +70,13 @@ fn told(outbox: Outbox, is_all: bool) -> Outbox
     outbox.cut_short()
 }
 
-impl<R: Records + Drop, A: Application + Drop, C: Replica<J> + Drop, J: Naming> Site<R, A, C, J> {
+impl<R: Records + Drop, A: Application + Drop, J: Naming + Opening> SiteOver<
+    R,
+    A,
+    StateCopy<A, J>,
+    J,
+    Published,
+> {
     /// Takes the step of received bytes, as [`Node::receive`] does, and hands on to readers what was applied: it is pending then.
     ///
     /// Its outbox is short too where memory was refused for handing on; the next call goes on.
@@ -194,7 +215,7 @@ impl<R: Records + Drop, A: Application + Drop, C: Replica<J> + Drop, J: Naming> 
     pub fn into_node<W: Wait>(self, rt: &W) -> Node<R, A>
         ensures { result ≡ self.node }
     {
-        let Site { node, store } = self;
+        let SiteOver { node, store } = self;
         store.close(rt);
         node
     }

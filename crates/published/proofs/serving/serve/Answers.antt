@@ -8,13 +8,13 @@ use Rattle.published.proofs.serving.serve.Goals as goal
 
 pub loop-level-init : goal.loop-level-init
 loop-level-init g c =
-    let app = g.C.Replica.meaning in
+    let app = g.A.Application.meaning g.J.Opening.names in
     let seen = c.args.reader.sight in
     (subst (λ (xs : List (Answer × ℕ)). IsServed app seen c.args.asks.now xs seen) (sym c.new-answers.ensures.items) (nothing, omega arith), refl, begins_itself c.args.reader.shown)
 
 pub loop-level-preserved : goal.loop-level-preserved
 loop-level-preserved g c =
-    let app = g.C.Replica.meaning in
+    let app = g.A.Application.meaning g.J.Opening.names in
     let seen = c.args.reader.sight in
     let asks = c.args.asks.now in
     let before = c.loop-level.answers.items in

@@ -5,7 +5,7 @@ use Rattle.published.proofs.serving.serve.Given as goal
 
 abbrev pub invariant-loop-level : goal.invariant-loop-level
 invariant-loop-level g l =
-    IsServed g.C.Replica.meaning l.fn.reader.sight l.fn.asks l.answers.items l.reader.sight × (l.reader.number ≡ l.fn.reader.number) × IsSight l.fn.reader.shown l.reader.shown
+    IsServed (g.A.Application.meaning g.J.Opening.names) l.fn.reader.sight l.fn.asks l.answers.items l.reader.sight × (l.reader.number ≡ l.fn.reader.number) × IsSight l.fn.reader.shown l.reader.shown
 
 abbrev pub decreases-loop-level : goal.decreases-loop-level
 decreases-loop-level g l = length l.fn.asks - length l.answers.items

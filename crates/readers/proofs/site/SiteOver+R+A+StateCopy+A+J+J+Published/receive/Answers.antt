@@ -1,7 +1,7 @@
 use Rattle.std.proofs.Common.{refl}
 use Rattle.member.specs.Steps.{Hears}
 use Rattle.readers.proofs.Handed.{turned}
-use Rattle.readers.proofs.site.Site.receive.Goals as goal
+use Rattle.readers.proofs.site.SiteOver+R+A+StateCopy+A+J+J+Published.receive.Goals as goal
 
 pub returns-in-Err-clause-stranger : goal.returns-in-Err-clause-stranger
 returns-in-Err-clause-stranger g c = rw (← c.self.view_is) c.in-Err.ensures.stranger

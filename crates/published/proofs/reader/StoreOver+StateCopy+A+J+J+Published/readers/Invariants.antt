@@ -1,6 +1,6 @@
 use Rattle.std.proofs.Common.{◌≡◌, ◌≤◌}
 use Rattle.published.specs.Readers.{first_readers}
-use Rattle.published.proofs.store.Store.readers.Given as goal
+use Rattle.published.proofs.reader.StoreOver+StateCopy+A+J+J+Published.readers.Given as goal
 
 abbrev pub invariant-loop-place : goal.invariant-loop-place
 invariant-loop-place g l =

@@ -1,7 +1,7 @@
 use Rattle.std.proofs.Common.{refl}
 use Rattle.member.specs.Steps.{ticked}
 use Rattle.readers.proofs.Handed.{turned}
-use Rattle.readers.proofs.site.Site.tick.Goals as goal
+use Rattle.readers.proofs.site.SiteOver+R+A+StateCopy+A+J+J+Published.tick.Goals as goal
 
 pub returns-clause-turned : goal.returns-clause-turned
 returns-clause-turned g c =

@@ -1,4 +1,4 @@
-use Rattle.readers.proofs.site.Site.turn.Goals as goal
+use Rattle.readers.proofs.site.SiteOver+R+A+StateCopy+A+J+J+Published.turn.Goals as goal
 
 pub returns-in-Bytes-clause-turned : goal.returns-in-Bytes-clause-turned
 returns-in-Bytes-clause-turned g c = rw c.in-Bytes.is c.receive.ensures.turned
