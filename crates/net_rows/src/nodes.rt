@@ -1,0 +1,145 @@
+//! A node that serves, and a client of one, over what a row gives.
+
+use super::table_wire::{Datagram, TableWire};
+use ballots::{Setup, SetupFault};
+use document_names::NamesFault;
+use line_parts::read_names;
+use node::Node;
+use paxq_local::send_line;
+use records::MemRecords;
+use rows::{RowFault, Words, shown};
+use serving::{MOST_BYTES, Server};
+use sessions::State;
+use std::alloc::{AllocError, Global};
+
+/// A node of a row.
+pub(super) type Served<D> = Server<MemRecords, State, D>;
+
+/// A number below 256.
+fn small(words: &mut Words<'_>) -> Result<u8, RowFault> {
+    u8::try_from(words.number()?).ok().ok_or(RowFault::NotARow)
+}
+
+/// A number below 2^32.
+pub(super) fn word(words: &mut Words<'_>) -> Result<u32, RowFault> {
+    u32::try_from(words.number()?).ok().ok_or(RowFault::NotARow)
+}
+
+/// A node that has never done anything, over the document `db`.
+pub(super) fn opened(
+    alloc: Global,
+    group: u32,
+    member: u8,
+    members: u8,
+) -> Result<Node<MemRecords, State>, RowFault> {
+    let names = match read_names(alloc, "db") {
+        Ok(names) => names,
+        Err(NamesFault::Memory) => return Err(RowFault::Memory),
+        Err(NamesFault::Wrong) => return Err(RowFault::NotARow),
+    };
+    let setup = match Setup::new(alloc, group, member, members, &names) {
+        Ok(setup) => setup,
+        Err(SetupFault::Memory) => return Err(RowFault::Memory),
+        Err(SetupFault::Numbers) => return Err(RowFault::NotARow),
+    };
+    match Node::open(alloc, setup, MemRecords::new(alloc)) {
+        Ok(node) => Ok(node),
+        Err(_) => Err(RowFault::Memory),
+    }
+}
+
+/// The addresses of so many members: their numbers.
+fn numbers(alloc: Global, members: u8) -> Result<Vec<u8>, AllocError> {
+    let mut peers = Vec::new(alloc);
+    for before in 0..members {
+        peers.push(before + 1)?;
+    }
+    Ok(peers)
+}
+
+/// `node GROUP MEMBER MEMBERS TICKS TURNS FROM HEX ..`: what it sends, each in hexadecimal digits after the address that it goes to: a member's number, or
+/// what a client's datagram came from.
+pub(super) fn node(alloc: Global, words: &mut Words<'_>) -> Result<String, RowFault> {
+    let group = word(words)?;
+    let member = small(words)?;
+    let members = small(words)?;
+    let begins = begins(words)?;
+    let turns = u64::from(word(words)?);
+    let mut wire = TableWire::new(alloc, member);
+    wire.bring(words)?;
+    let server = server_of(alloc, group, member, members)?;
+    if served(alloc, server, &mut wire, begins, turns)? {
+        sent_text(alloc, wire.sent())
+    } else {
+        Ok(format!(in alloc; "store failed")?)
+    }
+}
+
+/// A node at end 0, where the members are at their numbers.
+fn server_of(alloc: Global, group: u32, member: u8, members: u8) -> Result<Served<u8>, RowFault> {
+    let peers = numbers(alloc, members)?;
+    let node = opened(alloc, group, member, members)?;
+    Ok(Server::new(alloc, node, 0, peers))
+}
+
+/// Whether it begins.
+fn begins(words: &mut Words<'_>) -> Result<bool, RowFault> {
+    match words.plain()? {
+        "begins" => Ok(true),
+        "waits" => Ok(false),
+        _ => Err(RowFault::NotARow),
+    }
+}
+
+/// Has a node serve for some turns. Gives whether its store held.
+fn served(
+    alloc: Global,
+    mut server: Served<u8>,
+    wire: &mut TableWire,
+    begins: bool,
+    turns: u64,
+) -> Result<bool, AllocError> {
+    let mut buffer = vec![in alloc; 0u8; MOST_BYTES]?;
+    if begins && server.begin(alloc, wire).is_err() {
+        return Ok(false);
+    }
+    Ok(server.serve(alloc, wire, &mut buffer, turns).is_ok())
+}
+
+/// Datagrams as a text.
+fn sent_text(alloc: Global, sent: &[Datagram]) -> Result<String, RowFault> {
+    let mut out = String::new(alloc);
+    for datagram in sent {
+        push_datagram(alloc, &mut out, datagram)?;
+    }
+    Ok(out)
+}
+
+/// Appends a datagram, after a bar where something stands there.
+fn push_datagram(alloc: Global, out: &mut String, datagram: &Datagram) -> Result<(), AllocError> {
+    if !out.is_empty() {
+        out.push_str(" | ")?;
+    }
+    let peer = datagram.peer;
+    out.push_str(format!(in alloc; "{peer} ")?.as_str())?;
+    for byte in &datagram.bytes {
+        out.push_str(format!(in alloc; "{byte:02x}")?.as_str())?;
+    }
+    Ok(())
+}
+
+/// `send GROUP LINE FROM HEX ..`: the exit status, the output and the error output, how often it was sent, and what was sent first.
+pub(super) fn send(alloc: Global, words: &mut Words<'_>) -> Result<String, RowFault> {
+    let group = word(words)?;
+    let line = words.text(alloc)?;
+    let mut wire = TableWire::new(alloc, 0);
+    wire.bring(words)?;
+    let mut output: Vec<u8> = Vec::new(alloc);
+    let mut errors: Vec<u8> = Vec::new(alloc);
+    let ended = send_line(alloc, &mut wire, group, 1, &line, &mut output, &mut errors);
+    let shown = shown(alloc, ended.ok(), &output, &errors)?;
+    let sent = wire.sent();
+    let times = sent.len();
+    let first = sent_text(alloc, &sent[..times.min(1)])?;
+    Ok(format!(in alloc; "{shown} {times} times {first}")?)
+}
