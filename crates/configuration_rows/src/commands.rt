@@ -2,7 +2,7 @@
 
 use command_line::{Form, WordsFault, read_words};
 use rows::{RowFault, Words};
-use std::alloc::Global;
+use std::alloc::{AllocError, Global};
 
 /// How many words a row has at most.
 const MOST_WORDS: u32 = 100;
@@ -11,10 +11,27 @@ const MOST_WORDS: u32 = 100;
 pub(super) fn asked(alloc: Global, words: &mut Words<'_>) -> Result<String, RowFault> {
     let texts = texts_of(alloc, words)?;
     match read_words(alloc, texts.as_slice()) {
-        Ok(Form::Run { script }) => Ok(format!(in alloc; "run {script:?}")?),
-        Ok(Form::Sim { events }) => Ok(format!(in alloc; "sim {events:?}")?),
+        Ok(form) => Ok(shown(alloc, &form)?),
         Err(WordsFault::Usage) => Ok(String::from_str(alloc, "usage")?),
         Err(WordsFault::Memory) => Err(RowFault::Memory),
+    }
+}
+
+/// What a form says.
+fn shown(alloc: Global, form: &Form) -> Result<String, AllocError> {
+    match form {
+        Form::Run { script } => format!(in alloc; "run {script:?}"),
+        Form::Sim { events } => format!(in alloc; "sim {events:?}"),
+        Form::Local { members, script } => format!(in alloc; "local {members} {script:?}"),
+        Form::Node { config, turns } => match turns {
+            Some(turns) => format!(in alloc; "node {config:?} for {turns} turns"),
+            None => format!(in alloc; "node {config:?}"),
+        },
+        Form::Send {
+            group,
+            address,
+            line,
+        } => format!(in alloc; "send to {address:?} of group {group} {line:?}"),
     }
 }
 

@@ -47,11 +47,13 @@ fn run_words(rt: &HostRuntime) -> io::Result<u8> {
             let turns = turns.map_or(u64::MAX, u64::from);
             run_node(rt, config.as_str(), turns, &mut rt.stderr())
         }
-        Ok(Form::Send {
-            group,
-            address,
-            line,
-        }) => send(rt, group, address.as_str(), line.as_str()),
+        Ok(
+            Form::Send {
+                group,
+                address,
+                line,
+            },
+        ) => send(rt, group, address.as_str(), line.as_str()),
         Err(fault) => {
             eprintln!(rt; "paxq: {fault}")?;
             Ok(status_of(fault))
@@ -132,7 +134,13 @@ fn send(rt: &HostRuntime, group: u32, address: &str, line: &str) -> io::Result<u
     let Some(to) = resolve(rt, address) else {
         return no_network(&mut rt.stderr());
     };
-    match UdpWire::open(rt.alloc(), rt, rt, &[end_towards(to)], Duration::from_millis(TRY)) {
+    match UdpWire::open(
+        rt.alloc(),
+        rt,
+        rt,
+        &[end_towards(to)],
+        Duration::from_millis(TRY),
+    ) {
         Ok(mut wire) => send_over(rt, &mut wire, group, to, line),
         Err(error) if error.kind() == io::ErrorKind::OutOfMemory => Err(error),
         Err(_) => no_network(&mut rt.stderr()),

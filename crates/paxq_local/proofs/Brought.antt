@@ -1,5 +1,5 @@
 -- What a wire has brought since some moment.
-use Rattle.std.proofs.Common.{◌≡◌, ◌∙◌, ℕ, List, [], ◌∷◌, ◌++◌, take, refl, sym, ap, subst, append-nil, append_assoc, inl, length, Result, Ok, Some}
+use Rattle.std.proofs.Common.{◌≡◌, ◌∙◌, ℕ, List, [], ◌∷◌, ◌++◌, take, refl, sym, ap, subst, append-nil, append_assoc, inl, length, Result, Ok, Some, IfOk, IfSome}
 use Rattle.std.proofs.Math.Seq.{take-append_seam}
 use Rattle.paxos.specs.Lists.{Has}
 use Rattle.paxos.proofs.Lists.{has_left, has_right}
@@ -19,9 +19,9 @@ module _ {W A : Type 0} (H : W → List (Carried A) → Type 0) where
   -- what came first, and what came then
   pub brings-then : (a b c : W) (P Q R : List (Carried A) → Type 0) → Brings H a b P → Brings H b c Q → ((xs ys : List (Carried A)) → P xs → Q ys → R (xs ++ ys)) → Brings H a c R
   brings-then a b c P Q R first second both = λ before h.
-    (let f = first before h in
-    let s = second (before ++ f.0) f.1 in
-    (f.0 ++ s.0, subst (H c) (append_assoc before f.0 s.0) s.1, both f.0 s.0 f.2 s.2))
+      (let f = first before h in
+      let s = second (before ++ f.0) f.1 in
+      (f.0 ++ s.0, subst (H c) (append_assoc before f.0 s.0) s.1, both f.0 s.0 f.2 s.2))
 
   pub brings-as : (a b : W) (P Q : List (Carried A) → Type 0) → Brings H a b P → ((xs : List (Carried A)) → P xs → Q xs) → Brings H a b Q
   brings-as a b P Q first f = λ before h. (let x = first before h in (x.0, x.1, f x.0 x.2))
@@ -54,7 +54,14 @@ came-to-client {W} {A} H a b c result x buffer arrival first received is_ok is_s
 pub lent-back : (n : ℕ) (xs ys : List ℕ) → length xs ≡ n → take n (xs ++ ys) ≡ xs
 lent-back n xs ys e = ap (λ k. take k (xs ++ ys)) (sym e) ∙ take-append_seam xs ys
 
--- a try: what came before, then two steps at which nothing comes, then what came last
-module _ {W A : Type 0} (H : W → List (Carried A) → Type 0) (a b c d e : W) (P Q R : List (Carried A) → Type 0) where
-  pub brings-try : Brings H a b P → ((ds : List (Carried A)) → H b ds → H c ds) → ((ds : List (Carried A)) → H c ds → H d ds) → Brings H d e Q → ((xs ys : List (Carried A)) → P xs → Q ys → R (xs ++ ys)) → Brings H a e R
-  brings-try first one two last both = brings-then H a b e P Q R first (λ before h. last before (two before (one before h))) both
+-- what came before, a step at which nothing comes, and what came last
+module _ {W A : Type 0} (H : W → List (Carried A) → Type 0) (a b c d : W) where
+  pub brings-last : (P Q R : List (Carried A) → Type 0) → Brings H a b P → ((ds : List (Carried A)) → H b ds → H c ds) → Brings H c d Q → ((xs ys : List (Carried A)) → P xs → Q ys → R (xs ++ ys)) → Brings H a d R
+  brings-last P Q R first keeps last both = brings-then H a b d P Q R first (λ before h. last before (keeps before h)) both
+
+  -- the answer came last
+  pub brings-answer : {T E : Type 0} (r : Result (Option T) E) (t : T) (P : List (Carried A) → T → Type 0) → Brings H a b (λ _. Unit {0}) → ((ds : List (Carried A)) → H b ds → H c ds)
+      → Brings H c d (λ xs. IfOk r (λ o. IfSome o (P xs))) → r ≡ Ok (Some t) → ((xs ys : List (Carried A)) → P ys t → P (xs ++ ys) t) → Brings H a d (λ xs. P xs t)
+  brings-answer {T} {E} r t P first keeps last is more =
+      brings-last (λ _. Unit {0}) (λ xs. IfOk r (λ o. IfSome o (P xs))) (λ xs. P xs t) first keeps last
+      (λ xs ys _ q. more xs ys (subst (λ (x : Result (Option T) E). IfOk x (λ o. IfSome o (P ys))) is q))

@@ -1,2 +1,4 @@
-pub mod Answered
 pub mod Brought
+pub mod Lines
+pub mod Saying
+pub mod Sending

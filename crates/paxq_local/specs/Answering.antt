@@ -1,14 +1,11 @@
 -- The answers of all members to one question.
-use Rattle.std.specs.Prelude.{◌≡◌, ◌⊎◌, ℕ, ◌+◌, ◌<◌, suc, length, false, true, List, Option, Some, None, slice_index_or, slice_set, string_bytes}
+use Rattle.std.specs.Prelude.{◌≡◌, ◌⊎◌, ℕ, ◌+◌, ◌<◌, length, true, Option, Some, None, slice_set, string_bytes}
 use Rattle.std.specs.List.{list_all}
 use Rattle.std.specs.declared.alloc.Global.{Global}
 use Rattle.std.specs.declared.string.String.{String}
-use Rattle.ballots.specs.declared.request.RequestId.{RequestId}
 use Rattle.paxq_local.specs.declared.answers.Answers.{Answers}
 use Rattle.paxq_local.specs.declared.answers.Told.{Told}
 use Rattle.paxq_local.specs.declared.answers.Told.TheVariants.{Said, Differ, NoAnswer}
-use Rattle.paxq_local.specs.Told.{IsSaid, answer_told}
-use Rattle.wires.specs.Wires.{Carried}
 
 -- a text is held from now on, and it is the first, or the same as what was held
 abbrev pub AreSame : Option (String Global) → (text : String Global) → Option (String Global) → Type 0
@@ -29,11 +26,3 @@ abbrev pub AreTold : (old : Answers) → (member : ℕ) → (text : String Globa
 AreTold old member text (Said all) = (now : Answers) × AreNoted old member text now × (list_all (λ has. has) now.has.items ≡ true) × (now.text ≡ Some all)
 AreTold old member text Differ = Unit {0}
 AreTold old member text NoAnswer = Unit {0}
-
--- each of so many members answers so
-abbrev pub AllSay : {A : Type 0} → (members : ℕ) → (brought : List (Carried A)) → (group : ℕ) → RequestId → (text : List ℕ) → Type 0
-AllSay members brought group id text = (before : ℕ) → before < members → IsSaid brought answer_told group id (suc before, text)
-
--- those that have answered have said what is held
-abbrev pub HaveSaid : {A : Type 0} → (brought : List (Carried A)) → (group : ℕ) → RequestId → Answers → Type 0
-HaveSaid brought group id a = (before : ℕ) → slice_index_or a.has.items before false ≡ true → (text : String Global) × (a.text ≡ Some text) × IsSaid brought answer_told group id (suc before, string_bytes text)

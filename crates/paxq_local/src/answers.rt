@@ -1,9 +1,11 @@
 //! The answers of a group's members to one question.
 
-ghost use Rattle.std.specs.Prelude.{◌≡◌, ◌<◌, None, true, false, length, IfOk, MatchOption, replicate};
+ghost use Rattle.std.specs.Prelude.{◌≡◌, ◌<◌, None, true, false, length, IfOk, MatchOption, replicate, string_bytes};
 ghost use Rattle.std.specs.List.{list_all};
 ghost use Rattle.paxq_local.specs.Answering.{AreNoted, AreSame, AreTold, IsAdded};
+ghost use Rattle.paxq_local.specs.Playing.{HoldsAnswer, IsAnswerText, IsToldAs};
 
+use super::asked::Form;
 use std::alloc::{AllocError, Global};
 
 /// What came of a command.
@@ -48,6 +50,7 @@ impl Answers {
     /// have answered, once they have, or that two differ.
     pub(super) fn told_with(&mut self, member: u8, text: String) -> Option<Told>
         ensures told { MatchOption result (AreNoted self.old member text self.new) (AreTold self.old member text) }
+        ensures answers { HoldsAnswer self.old → IsAnswerText (string_bytes text) → MatchOption result (HoldsAnswer self.new) (IsToldAs Form.Ask) }
         ensures members { length self.new.has.items ≡ length self.old.has.items }
     {
         if !self.add(member, text) {

@@ -1,11 +1,9 @@
 //! A client beside a group, which asks what a script's lines ask.
 
-ghost use Rattle.std.specs.Prelude.{◌≡◌, ◌++◌, List, length, IfOk, IfSome, MatchOption, string_bytes};
+ghost use Rattle.std.specs.Prelude.{IfOk, IfSome, MatchOption, string_bytes};
 ghost use Rattle.paxq_files.specs.Commands.{command_term};
-ghost use Rattle.paxq_local.specs.Answering.{HaveSaid};
-ghost use Rattle.paxq_local.specs.Playing.{IsTold, IsToldByAll, IsToldByOne};
-ghost use Rattle.paxq_local.specs.Told.{Brings, HasCome, IsSaid, told};
-ghost use Rattle.wires.specs.Wires.{Carried};
+ghost use Rattle.paxq_local.specs.Asking.{form_of};
+ghost use Rattle.paxq_local.specs.Playing.{HoldsAnswer, IsLine, IsToldAs};
 
 use super::answers::{Answers, Told};
 use super::asked::{Asked, Form, Said, answer_in, asked_of, said_in};
@@ -41,14 +39,29 @@ impl<A: Application + Drop, D: Copy + Eq + Drop> Client<A, D> {
         wire: &mut W,
         members: u8,
         command: Command,
-    ) -> Result<Told, AllocError> {
+    ) -> Result<Told, AllocError>
+        ensures { IfOk result (IsToldAs (form_of (command_term command))) }
+    {
         let id = self.next_id();
         let Some(asked) = asked_of(alloc, GROUP, command, id, self.floor)? else {
             return Ok(Told::NoAnswer);
         };
+        self.ask(alloc, wire, members, &asked)
+    }
+
+    /// Asks the first member, or where it is a question without a floor all of them.
+    fn ask<W: Wire<Address = D>>(
+        &mut self,
+        alloc: Global,
+        wire: &mut W,
+        members: u8,
+        asked: &Asked,
+    ) -> Result<Told, AllocError>
+        ensures { IfOk result (IsToldAs asked.now.form) }
+    {
         match asked.form {
-            Form::Submit | Form::AskAt => self.ask_one(alloc, wire, &asked),
-            Form::Ask => self.ask_all(alloc, wire, members, &asked),
+            Form::Submit | Form::AskAt => self.ask_one(alloc, wire, asked),
+            Form::Ask => self.ask_all(alloc, wire, members, asked),
         }
     }
 
@@ -67,59 +80,52 @@ impl<A: Application + Drop, D: Copy + Eq + Drop> Client<A, D> {
         alloc: Global,
         wire: &mut W,
         asked: &Asked,
-    ) -> Result<Told, AllocError> {
+    ) -> Result<Told, AllocError>
+        ensures { IfOk result (IsToldAs asked.now.form) }
+    {
         for turn in 0..TRIES {
             self.try_again(alloc, wire, turn);
             self.send(wire, 0, &asked.bytes);
             if let Some(said) = self.listen(alloc, wire, asked)? {
-                return Ok(self.noted(asked.form, said));
+                self.note(asked.form, said.position);
+                return Ok(Told::Said(said.text));
             }
         }
-        self.unanswered()
+        self.check_memory()?;
+        Ok(Told::NoAnswer)
     }
 
     /// Before each further try what was lost is sent again.
-    fn try_again<W: Wire<Address = D>>(&mut self, alloc: Global, wire: &mut W, turn: u32)
-        ensures brought { (ds : List (Carried D)) → W.has_brought wire.old ds → W.has_brought wire.new ds }
-    {
+    fn try_again<W: Wire<Address = D>>(&mut self, alloc: Global, wire: &mut W, turn: u32) {
         if turn > 0 {
             self.group.tick(alloc, wire);
         }
     }
 
     /// Has the members work until something comes to the client, and gives its bytes; or nothing, where nothing more comes to anybody.
-    fn next<W: Wire<Address = D>>(&mut self, alloc: Global, wire: &mut W) -> Option<&[u8]>
-        ensures { Brings W.has_brought wire.old wire.new (λ brought. IfSome result (λ bytes. HasCome brought bytes.now)) }
-    {
+    fn next<W: Wire<Address = D>>(&mut self, alloc: Global, wire: &mut W) -> Option<&[u8]> {
         let length = self.group.work(alloc, wire, &mut self.buffer)?;
         Some(&self.buffer[..length])
     }
 
-    /// What was said, after the position of a reply is noted.
-    fn noted(&mut self, form: Form, said: Said) -> Told
-        ensures { result ≡ Told.Said said.text }
-    {
+    /// Notes the position of a reply.
+    fn note(&mut self, form: Form, position: u32) {
         if let Form::Submit = form {
-            self.floor = self.floor.max(said.position);
+            self.floor = self.floor.max(position);
         }
-        Told::Said(said.text)
     }
 
-    /// No answer came; or memory was refused to a member, which may be why.
-    fn unanswered(&self) -> Result<Told, AllocError>
-        ensures { IfOk result (λ told. told ≡ Told.NoAnswer) }
-    {
+    /// Where no answer came: whether memory was refused to a member, which may be why.
+    fn check_memory(&self) -> Result<(), AllocError> {
         if self.group.has_lost() {
             Err(AllocError)
         } else {
-            Ok(Told::NoAnswer)
+            Ok(())
         }
     }
 
     /// Sends a datagram to a member, counted from 0. Where the wire does not take it, it is lost.
-    fn send<W: Wire<Address = D>>(&self, wire: &mut W, member: usize, bytes: &[u8])
-        ensures brought { (ds : List (Carried D)) → W.has_brought wire.old ds → W.has_brought wire.new ds }
-    {
+    fn send<W: Wire<Address = D>>(&self, wire: &mut W, member: usize, bytes: &[u8]) {
         if let Some(peer) = self.peers.get(member) {
             let _ = wire.send(0, *peer, bytes);
         }
@@ -131,7 +137,9 @@ impl<A: Application + Drop, D: Copy + Eq + Drop> Client<A, D> {
         alloc: Global,
         wire: &mut W,
         asked: &Asked,
-    ) -> Result<Option<Said>, AllocError> {
+    ) -> Result<Option<Said>, AllocError>
+        ensures { IfOk result (λ said. IfSome said (λ s. IsLine asked.now.form (string_bytes s.text))) }
+    {
         for _datagram in 0..u64::MAX {
             let Some(bytes) = self.next(alloc, wire) else {
                 return Ok(None);
@@ -150,7 +158,9 @@ impl<A: Application + Drop, D: Copy + Eq + Drop> Client<A, D> {
         wire: &mut W,
         members: u8,
         asked: &Asked,
-    ) -> Result<Told, AllocError> {
+    ) -> Result<Told, AllocError>
+        ensures { IfOk result (IsToldAs Form.Ask) }
+    {
         let mut answers = Answers::new(alloc, members)?;
         for turn in 0..TRIES {
             self.try_again(alloc, wire, turn);
@@ -159,13 +169,12 @@ impl<A: Application + Drop, D: Copy + Eq + Drop> Client<A, D> {
                 return Ok(told);
             }
         }
-        self.unanswered()
+        self.check_memory()?;
+        Ok(Told::NoAnswer)
     }
 
     /// Sends a datagram to the members that have not answered.
-    fn send_to_others<W: Wire<Address = D>>(&self, wire: &mut W, answers: &Answers, bytes: &[u8])
-        ensures brought { (ds : List (Carried D)) → W.has_brought wire.old ds → W.has_brought wire.new ds }
-    {
+    fn send_to_others<W: Wire<Address = D>>(&self, wire: &mut W, answers: &Answers, bytes: &[u8]) {
         for member in 0..self.peers.len() {
             if !answers.has(member) {
                 self.send(wire, member, bytes);
@@ -180,7 +189,9 @@ impl<A: Application + Drop, D: Copy + Eq + Drop> Client<A, D> {
         wire: &mut W,
         id: RequestId,
         answers: &mut Answers,
-    ) -> Result<Option<Told>, AllocError> {
+    ) -> Result<Option<Told>, AllocError>
+        ensures { HoldsAnswer answers.old → IfOk result (λ told. MatchOption told (HoldsAnswer answers.new) (IsToldAs Form.Ask)) }
+    {
         for _datagram in 0..u64::MAX {
             let Some(bytes) = self.next(alloc, wire) else {
                 return Ok(None);

@@ -1,8 +1,6 @@
 //! The members of a group in one program.
 
-ghost use Rattle.std.specs.Prelude.{◌≡◌, ◌≤◌, List, ◌++◌, IfOk, IfSome, length, take};
-ghost use Rattle.paxq_local.specs.Told.{Brings, HasCome};
-ghost use Rattle.wires.specs.Wires.{Carried};
+ghost use Rattle.std.specs.Prelude.{◌≤◌, IfSome, length};
 
 use applications::Application;
 use ballots::{Setup, SetupFault};
@@ -73,18 +71,13 @@ impl<A: Application + Drop, D: Copy + Eq + Drop> Group<A, D> {
     ) -> Result<Group<A, D>, AllocError> {
         let mut servers = Vec::new(alloc);
         for before in 0..members {
-            servers = with_one(
-                servers,
-                server_of(alloc, before + 1, members, names, peers),
-            )?;
+            servers = with_one(servers, server_of(alloc, before + 1, members, names, peers))?;
         }
         Ok(Group { servers })
     }
 
     /// Has the first member begin a ballot.
-    pub(super) fn begin<W: Wire<Address = D>>(&mut self, alloc: Global, wire: &mut W)
-        ensures brought { (ds : List (Carried D)) → W.has_brought wire.old ds → W.has_brought wire.new ds }
-    {
+    pub(super) fn begin<W: Wire<Address = D>>(&mut self, alloc: Global, wire: &mut W) {
         if let Some(first) = self.servers.first_mut() {
             // Records in memory never fail.
             let _ = first.begin(alloc, wire);
@@ -92,9 +85,7 @@ impl<A: Application + Drop, D: Copy + Eq + Drop> Group<A, D> {
     }
 
     /// What was lost is sent again: the member that leads says again what it waits for, and each asks for what it has not learnt.
-    pub(super) fn tick<W: Wire<Address = D>>(&mut self, alloc: Global, wire: &mut W)
-        ensures brought { (ds : List (Carried D)) → W.has_brought wire.old ds → W.has_brought wire.new ds }
-    {
+    pub(super) fn tick<W: Wire<Address = D>>(&mut self, alloc: Global, wire: &mut W) {
         for server in self.servers.iter_mut() {
             let _ = server.tick(alloc, wire);
         }
@@ -117,9 +108,7 @@ impl<A: Application + Drop, D: Copy + Eq + Drop> Group<A, D> {
         wire: &mut W,
         arrival: Arrival<D>,
         bytes: &[u8],
-    )
-        ensures brought { (ds : List (Carried D)) → W.has_brought wire.old ds → W.has_brought wire.new ds }
-    {
+    ) {
         if arrival.end == 0 {
             return;
         }
@@ -137,7 +126,6 @@ impl<A: Application + Drop, D: Copy + Eq + Drop> Group<A, D> {
         buffer: &mut [u8],
     ) -> Option<usize>
         ensures fits { IfSome result (λ n. n ≤ length buffer.new) }
-        ensures brought { Brings W.has_brought wire.old wire.new (λ brought. IfSome result (λ n. HasCome brought (take n buffer.new))) }
     {
         for _datagram in 0..u64::MAX {
             let Ok(Some(arrival)) = wire.receive(buffer) else {

@@ -1,11 +1,8 @@
 //! `paxq local N SCRIPT`.
 
-ghost use Rattle.std.specs.Prelude.{◌≡◌, ◌≤◌, IfOk, IfErr, List, Option};
-ghost use Rattle.std.specs.Io.KnownBytes.{Appends};
-ghost use Rattle.paxq_local.specs.Playing.{FileRun, IsOfOutput, IsPlayed, LocalRun, Played};
-ghost use Rattle.paxq_local.specs.Told.{Brings};
+ghost use Rattle.std.specs.Prelude.{IfOk};
+ghost use Rattle.paxq_local.specs.Playing.{FileRun, IsEnded, IsPlayed, IsPrinted, LocalRun, Played};
 ghost use Rattle.program_reports.specs.Reports.{Run, Wrote};
-ghost use Rattle.wires.specs.Wires.{Carried};
 
 use super::answers::Told;
 use super::client::Client;
@@ -24,7 +21,8 @@ use wires::Wire;
 ///
 /// The wire's end 0 is the client's, and end m is member m's. `file` is the file's name, and `reader` gives its bytes. The first member begins;
 /// requests and `askat` go to it, and each `ask` goes to all, at the highest position that was replied. What is not answered is asked again, 200
-/// times in all, with what the wire waits between; what is lost on the wire is so made good. Memory that is refused to a member is as a loss.
+/// times in all, with what the wire waits between; what is lost on the wire is so made good. Memory that is
+/// refused to a member is as a loss, unless no answer comes: then that is reported.
 ///
 /// The statuses are 0, 1 (a file that cannot be read, or a wrong line: nothing is run), 3 (no answer, or answers that differ, which
 /// end the run), and 4 where memory is refused. An `Err` says that `output` or `errors` could not be written.
@@ -36,7 +34,11 @@ pub fn run_local<A: Application + Drop, W: Wire, R: Read, O: Write, E: Write>(
     reader: &mut R,
     output: &mut O,
     errors: &mut E,
-) -> io::Result<u8> {
+) -> io::Result<u8>
+    ensures { IfOk result (λ status. (run : Run)
+        × Wrote (O.contents output.old, O.contents output.new) (E.contents errors.old, E.contents errors.new) status run
+        × FileRun file.now (R.remaining reader.old) run) }
+{
     match read_all(alloc, reader) {
         Ok(bytes) => run_bytes::<A, W, O, E>(alloc, members, wire, file, &bytes, output, errors),
         Err(ReadFault::Failed) => cannot_read(alloc, file, errors),
@@ -53,7 +55,11 @@ fn run_bytes<A: Application + Drop, W: Wire, O: Write, E: Write>(
     bytes: &[u8],
     output: &mut O,
     errors: &mut E,
-) -> io::Result<u8> {
+) -> io::Result<u8>
+    ensures { IfOk result (λ status. (run : Run)
+        × Wrote (O.contents output.old, O.contents output.new) (E.contents errors.old, E.contents errors.new) status run
+        × LocalRun file.now bytes.now run) }
+{
     let Ok(text) = str::from_utf8(bytes) else {
         return cannot_read(alloc, file, errors);
     };
@@ -72,7 +78,11 @@ fn run_commands<A: Application + Drop, W: Wire, O: Write, E: Write>(
     mut script: Script,
     output: &mut O,
     errors: &mut E,
-) -> io::Result<u8> {
+) -> io::Result<u8>
+    ensures { IfOk result (λ status. (run : Run)
+        × Wrote (O.contents output.old, O.contents output.new) (E.contents errors.old, E.contents errors.new) status run
+        × Played script.commands run) }
+{
     let Ok(mut client) = client_of::<A, W>(alloc, members, wire, script.names()) else {
         return no_memory(errors);
     };
@@ -124,25 +134,42 @@ fn play<A: Application + Drop, W: Wire, O: Write>(
     client: &mut Client<A, W::Address>,
     script: &mut Script,
     output: &mut O,
-) -> Result<u8, Stop> {
+) -> Result<u8, Stop>
+    ensures { IsPlayed script.old.commands (O.contents output.old) (O.contents output.new) result }
+{
     while let Some(command) = script.next_command() {
-        let said = match client.tell(alloc, wire, members, command) {
-            Ok(Told::Said(text)) => output.write_all(text.as_bytes()),
-            Ok(Told::Differ) => return end(output, b"differ\n"),
-            Ok(Told::NoAnswer) => return end(output, b"no answer\n"),
-            Err(_) => return Err(Stop::Memory),
+        let Ok(told) = client.tell(alloc, wire, members, command) else {
+            return Err(Stop::Memory);
         };
-        if let Err(error) = said {
-            return Err(Stop::Output(error));
+        match print(output, told) {
+            Ok(None) => {}
+            Ok(Some(status)) => return Ok(status),
+            Err(stop) => return Err(stop),
         }
     }
     Ok(0)
 }
 
+/// Prints what came of a command. Gives the exit status where it ends the run.
+fn print<O: Write>(output: &mut O, told: Told) -> Result<Option<u8>, Stop>
+    ensures { IsPrinted told (O.contents output.old) (O.contents output.new) result }
+{
+    match told {
+        Told::Said(text) => match output.write_all(text.as_bytes()) {
+            Ok(()) => Ok(None),
+            Err(error) => Err(Stop::Output(error)),
+        },
+        Told::Differ => end(output, b"differ\n"),
+        Told::NoAnswer => end(output, b"no answer\n"),
+    }
+}
+
 /// Prints a last line, after which the status is 3.
-fn end<O: Write>(output: &mut O, line: &[u8]) -> Result<u8, Stop> {
+fn end<O: Write>(output: &mut O, line: &[u8]) -> Result<Option<u8>, Stop>
+    ensures { IsEnded line.now (O.contents output.old) (O.contents output.new) result }
+{
     match output.write_all(line) {
-        Ok(()) => Ok(3),
+        Ok(()) => Ok(Some(3)),
         Err(error) => Err(Stop::Output(error)),
     }
 }

@@ -1,13 +1,15 @@
 //! `paxq send --group G ADDRESS LINE`.
 
-ghost use Rattle.std.specs.Prelude.{◌≡◌, IfOk, IfSome, Some, string_bytes};
+ghost use Rattle.std.specs.Prelude.{◌≡◌, ◌≤◌, List, IfOk, IfSome, Some, length, take, string_bytes};
 ghost use Rattle.std.specs.Option.{option_map};
 ghost use Rattle.clients.specs.Hearing.{heard_in, heard_term};
 ghost use Rattle.messages.specs.Reading.{datagram_read};
 ghost use Rattle.paxq_files.specs.Commands.{command_term};
+ghost use Rattle.paxq_local.specs.Asking.{form_of, id_of};
 ghost use Rattle.paxq_local.specs.Playing.{AskedRun, SentRun};
-ghost use Rattle.paxq_local.specs.Told.{Brings, IsSaid, told_by_one};
+ghost use Rattle.paxq_local.specs.Told.{Brings, HasCome, IsSaid, told_by_one};
 ghost use Rattle.program_reports.specs.Reports.{Run, Wrote};
+ghost use Rattle.wires.specs.Wires.{Carried};
 
 use super::asked::{Asked, Form, Said, asked_of, said_of, with_position};
 use ballots::RequestId;
@@ -45,7 +47,11 @@ pub fn send_line<W: Wire, O: Write, E: Write>(
     line: &str,
     output: &mut O,
     errors: &mut E,
-) -> io::Result<u8> {
+) -> io::Result<u8>
+    ensures { IfOk result (λ status. Brings W.has_brought wire.old wire.new (λ brought. (run : Run)
+        × Wrote (O.contents output.old, O.contents output.new) (E.contents errors.old, E.contents errors.new) status run
+        × SentRun group brought line.now run)) }
+{
     match read_command(alloc, line) {
         Ok(Some(command)) => send_command(alloc, wire, group, to, command, output, errors),
         Ok(None) => wrong_line(alloc, 1, errors),
@@ -53,7 +59,7 @@ pub fn send_line<W: Wire, O: Write, E: Write>(
     }
 }
 
-/// Sends a command.
+/// Sends a command, and prints what answers it.
 fn send_command<W: Wire, O: Write, E: Write>(
     alloc: Global,
     wire: &mut W,
@@ -62,13 +68,12 @@ fn send_command<W: Wire, O: Write, E: Write>(
     command: Command,
     output: &mut O,
     errors: &mut E,
-) -> io::Result<u8> {
-    let told = match asked_of(alloc, group, command, QUESTION, 0) {
-        Ok(Some(asked)) => ask(alloc, wire, group, to, &asked),
-        Ok(None) => Ok(None),
-        Err(error) => Err(error),
-    };
-    match told {
+) -> io::Result<u8>
+    ensures { IfOk result (λ status. Brings W.has_brought wire.old wire.new (λ brought. (run : Run)
+        × Wrote (O.contents output.old, O.contents output.new) (E.contents errors.old, E.contents errors.new) status run
+        × AskedRun group brought (command_term command) run)) }
+{
+    match ask_command(alloc, wire, group, to, command) {
         Ok(Some(said)) => {
             output.write_all(said.text.as_bytes())?;
             Ok(0)
@@ -81,6 +86,37 @@ fn send_command<W: Wire, O: Write, E: Write>(
     }
 }
 
+/// What answers a command.
+fn ask_command<W: Wire>(
+    alloc: Global,
+    wire: &mut W,
+    group: u32,
+    to: W::Address,
+    command: Command,
+) -> Result<Option<Said>, AllocError>
+    ensures { Brings W.has_brought wire.old wire.new (λ brought. IfOk result (λ said. IfSome said (λ s.
+        IsSaid brought (told_by_one (form_of (command_term command))) group (id_of (record { client = 0; number = 0 }) (command_term command)) (string_bytes s.text)))) }
+{
+    match asked_of(alloc, group, command, QUESTION, 0)? {
+        Some(asked) => ask_with_room(alloc, wire, group, to, &asked),
+        None => Ok(None),
+    }
+}
+
+/// Asks a node, with room for what comes.
+fn ask_with_room<W: Wire>(
+    alloc: Global,
+    wire: &mut W,
+    group: u32,
+    to: W::Address,
+    asked: &Asked,
+) -> Result<Option<Said>, AllocError>
+    ensures { Brings W.has_brought wire.old wire.new (λ brought. IfOk result (λ said. IfSome said (λ s. IsSaid brought (told_by_one asked.now.form) group asked.now.id (string_bytes s.text)))) }
+{
+    let mut buffer = vec![in alloc; 0u8; MOST_BYTES]?;
+    ask(alloc, wire, group, to, asked, &mut buffer)
+}
+
 /// Asks a node again and again, until it answers.
 fn ask<W: Wire>(
     alloc: Global,
@@ -88,15 +124,24 @@ fn ask<W: Wire>(
     group: u32,
     to: W::Address,
     asked: &Asked,
-) -> Result<Option<Said>, AllocError> {
-    let mut buffer = vec![in alloc; 0u8; MOST_BYTES]?;
-    for _try in 0..TRIES {
-        let _ = wire.send(0, to, &asked.bytes);
-        if let Some(said) = listen(alloc, wire, group, asked, &mut buffer)? {
+    buffer: &mut [u8],
+) -> Result<Option<Said>, AllocError>
+    ensures { Brings W.has_brought wire.old wire.new (λ brought. IfOk result (λ said. IfSome said (λ s. IsSaid brought (told_by_one asked.now.form) group asked.now.id (string_bytes s.text)))) }
+{
+    for _turn in 0..TRIES {
+        send_once(wire, to, asked);
+        if let Some(said) = listen(alloc, wire, group, asked, buffer)? {
             return Ok(Some(said));
         }
     }
     Ok(None)
+}
+
+/// Sends what is asked. Where the wire does not take it, it is lost.
+fn send_once<W: Wire>(wire: &mut W, to: W::Address, asked: &Asked)
+    ensures brought { (ds : List (Carried W.Address)) → W.has_brought wire.old ds → W.has_brought wire.new ds }
+{
+    let _ = wire.send(0, to, &asked.bytes);
 }
 
 /// Takes what comes until it is an answer, or nothing more comes.
@@ -106,19 +151,34 @@ fn listen<W: Wire>(
     group: u32,
     asked: &Asked,
     buffer: &mut [u8],
-) -> Result<Option<Said>, AllocError> {
+) -> Result<Option<Said>, AllocError>
+    ensures { Brings W.has_brought wire.old wire.new (λ brought. IfOk result (λ said. IfSome said (λ s. IsSaid brought (told_by_one asked.now.form) group asked.now.id (string_bytes s.text)))) }
+{
     for _datagram in 0..u64::MAX {
-        let Ok(Some(arrival)) = wire.receive(buffer) else {
+        let Some(length) = next(wire, buffer) else {
             return Ok(None);
         };
-        if arrival.end == 0 {
-            let said = said_by_one(alloc, group, asked, &buffer[..arrival.length])?;
-            if said.is_some() {
-                return Ok(said);
-            }
+        if let Some(said) = said_by_one(alloc, group, asked, &buffer[..length])? {
+            return Ok(Some(said));
         }
     }
     Ok(None)
+}
+
+/// Waits until something comes to the client, and says how many bytes that has, at the front of the buffer; or nothing, where nothing more comes.
+fn next<W: Wire>(wire: &mut W, buffer: &mut [u8]) -> Option<usize>
+    ensures fits { IfSome result (λ n. n ≤ length buffer.new) }
+    ensures brought { Brings W.has_brought wire.old wire.new (λ brought. IfSome result (λ n. HasCome brought (take n buffer.new))) }
+{
+    for _datagram in 0..u64::MAX {
+        let Ok(Some(arrival)) = wire.receive(buffer) else {
+            return None;
+        };
+        if arrival.end == 0 {
+            return Some(arrival.length);
+        }
+    }
+    None
 }
 
 /// What is printed where a datagram of a single node answers what it was asked. It fails where memory is refused.
@@ -137,11 +197,7 @@ fn said_by_one(
 }
 
 /// What is printed where what was heard answers it, also by that another member leads.
-fn said_or_elsewhere(
-    alloc: Global,
-    form: Form,
-    heard: &Heard,
-) -> Result<Option<Said>, AllocError>
+fn said_or_elsewhere(alloc: Global, form: Form, heard: &Heard) -> Result<Option<Said>, AllocError>
     ensures { IfOk result (λ said. option_map (λ s. string_bytes s.text) said ≡ told_by_one form (Some (heard_term heard.now))) }
 {
     match heard {

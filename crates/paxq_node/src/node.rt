@@ -93,7 +93,9 @@ fn resolve_all(rt: &HostRuntime, members: &[String]) -> Result<Vec<SocketAddr>, 
 
 /// What a node is told when it is set up. A configuration's numbers are in range.
 fn setup_of(alloc: Global, config: &Config) -> Result<Setup, Refusal> {
-    let members = config.members.len() as u8;
+    let Ok(members) = u8::try_from(config.members.len()) else {
+        return Err(Refusal::Memory);
+    };
     match Setup::new(alloc, config.group, config.member, members, &config.docs) {
         Ok(setup) => Ok(setup),
         Err(SetupFault::Memory | SetupFault::Numbers) => Err(Refusal::Memory),

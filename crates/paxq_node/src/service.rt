@@ -83,7 +83,7 @@ fn begin_if<R: Records + Drop, A: Application + Drop, W: Wire>(
     wire: &mut W,
     begins: bool,
 ) -> Result<(), ServeFault>
-    ensures { Went A.has_applied A.meaning R.failed W.Address.eq W.was_given W.has_brought R.stands R.is_kept result server.old server.new wire.old wire.new [] [] }
+    ensures { Went A.has_applied A.meaning R.failed W.Address.eq W.was_given W.has_brought R.stands R.is_kept result [] [] [] server.old server.new wire.old wire.new }
 {
     if !begins {
         return Ok(());

@@ -12,7 +12,8 @@ use Rattle.sessions.specs.Meaning.{request_ran, kept_reply, store_of, reply_for}
 use Rattle.sessions.specs.Session.{SessionTerm, Means, reply_in}
 use Rattle.sessions.proofs.Meanings.{reply-new}
 use Rattle.paxq_files.specs.Script.{submit}
-use Rattle.paxq_run.specs.Play.{Turn, reply_text, turn_of, IsTurn}
+use Rattle.printed_replies.specs.Lines.{reply_text}
+use Rattle.paxq_run.specs.Play.{Turn, turn_of, IsTurn}
 
 -- the text of a turn that was made of a text
 pub ok-text : {E : Type 0} (r : Result (String Global) E) (t : String Global) (bs : List ℕ) → r ≡ Ok t → IfOk r (λ s. string_bytes s ≡ bs) → string_bytes t ≡ bs

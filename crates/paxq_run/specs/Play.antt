@@ -1,45 +1,21 @@
 -- What a run of a script prints: a function of the file's name and its bytes.
-use Rattle.std.specs.Prelude.{◌≡◌, ℕ, ◌+◌, Bool, true, false, nat_lt, ◌==◌, ◌⊎◌, IfSome, cond, List, [], ◌∷◌, ◌++◌, length, Option, codes}
+use Rattle.std.specs.Prelude.{◌≡◌, ℕ, ◌+◌, Bool, true, false, nat_lt, ◌⊎◌, IfSome, cond, List, [], ◌∷◌, ◌++◌, length, Option, codes}
 use Rattle.std.specs.Option.{option_map_or}
-use Rattle.std.specs.List.{slice_split, flat_map}
 use Rattle.std.specs.Fmt.{decimal}
 use Rattle.std.specs.Io.KnownBytes.{Appends}
 use Rattle.std.specs.Str.{IsUtf8}
-use Rattle.ballots.specs.declared.reply.Reply.{Reply}
-use Rattle.ballots.specs.declared.reply.Reply.TheVariants.{Done, Fault}
 use Rattle.ballots.specs.declared.value.Value.{Value}
 use Rattle.ballots.specs.declared.value.Value.TheVariants.{Request}
-use Rattle.fault_codes.specs.Codes.{code_name}
 use Rattle.ballots.specs.Terms.{Request as RequestTerm}
 use Rattle.sessions.specs.Terms.{id_of}
 use Rattle.sessions.specs.Meaning.{request_ran, store_of, kept_reply, reply_for}
 use Rattle.sessions.specs.Session.{SessionTerm, Means}
-use Rattle.ballots.specs.Replies.{Answered, text, fault}
 use Rattle.questions.specs.Answers.{answer}
 use Rattle.paxq_run.specs.declared.run.Stop.{Stop}
 use Rattle.paxq_run.specs.declared.run.Stop.TheVariants.{Memory, Output}
+use Rattle.printed_replies.specs.Lines.{reply_text, answer_text, behind_text}
 use Rattle.program_reports.specs.Reports.{line_feed, Run, Ran, unreadable_run}
 use Rattle.paxq_files.specs.Script.{Command, submit, ask, ask_at, ScriptRead, script, wrong, script_of}
-
--- ---- lines
--- `done P` or `fault CODE P`
-abbrev pub reply_text : Reply → List ℕ
-reply_text (Done position) = codes "done " ++ decimal position ++ line_feed
-reply_text (Fault code position) = codes "fault " ++ code_name code ++ codes " " ++ decimal position ++ line_feed
-
--- each line after two spaces
-abbrev pub indented : List ℕ → List ℕ
-indented bytes = flat_map (λ line. codes "  " ++ line ++ line_feed) (slice_split (λ b. b == 10) bytes)
-
--- `at P` and the lines of the answer, none for an empty text, or `at P fault CODE`
-abbrev pub answer_text : ℕ → Answered → List ℕ
-answer_text position (text []) = codes "at " ++ decimal position ++ line_feed
-answer_text position (text (b ∷ bs)) = codes "at " ++ decimal position ++ line_feed ++ indented (b ∷ bs)
-answer_text position (fault code) = codes "at " ++ decimal position ++ codes " fault " ++ code_name code ++ line_feed
-
--- `behind P`
-abbrev pub behind_text : ℕ → List ℕ
-behind_text position = codes "behind " ++ decimal position ++ line_feed
 
 -- ---- one command
 -- what is printed, the values that are applied then, and whether the run goes on

@@ -3,7 +3,6 @@
 //! It stands apart from the program so that its proofs know nothing of a command line.
 #![tactic(auto)]
 
-mod print;
 mod run;
 
 pub use run::run_script;

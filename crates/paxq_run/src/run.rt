@@ -12,10 +12,10 @@ ghost use Rattle.paxq_files.specs.Script.{submit, ask, ask_at};
 ghost use Rattle.program_reports.specs.Reports.{Ran, line_feed};
 ghost use Rattle.paxq_run.specs.Play.{turn_of, commands_run, text_run, IsTurn, IsPlayed, IsCut, IfMemory, FileRan, BytesRan};
 
-use super::print::{answer_text, behind_text, reply_text};
 use ballots::limits::POSITIONS;
 use ballots::{Request, Value};
 use paxq_files::{Command, Script, ScriptFault, read_script};
+use printed_replies::{answer_text, behind_text, reply_text};
 use program_reports::{ReadFault, cannot_read, no_memory, read_all, wrong_line};
 use sessions::{NoMemory, State};
 use std::alloc::{AllocError, Global};

@@ -75,7 +75,7 @@ pub trait Replica<J: Naming>: Absorb<Entry<J>, State = [Value; 0]> {
     /// The answer to a question of that text at a level of the language, and how many values it is over.
     ///
     /// It fails where memory is refused.
-    fn answer(&self, alloc: Global, level: u8, text: &str) -> Result<(Answer, u32), AllocError>
+    fn answer(&self, alloc: Global, level: u8, text: &str) -> Result<(Answer, u64), AllocError>
         ensures { IfOk result (λ r. IsAnswer meaning level text.now r.0 r.1 (Self.state self.now)) };
 
     /// A value that it absorbs is the last of its list then.
@@ -169,9 +169,9 @@ impl<A: Application + Drop, J: Naming + Opening> Replica<J> for StateCopy<A, J> 
         &self.sight
     }
 
-    fn answer(&self, alloc: Global, level: u8, text: &str) -> Result<(Answer, u32), AllocError> {
+    fn answer(&self, alloc: Global, level: u8, text: &str) -> Result<(Answer, u64), AllocError> {
         let answer = self.application.answer(alloc, level, text)?;
-        Ok((answer, self.application.applied()))
+        Ok((answer, self.sight.len()))
     }
 
     ghost appends = { λ values value. refl };

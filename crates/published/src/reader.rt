@@ -141,7 +141,7 @@ impl<C: Replica<J> + Drop, J: Naming> Reader<C, J> {
     ///
     /// Faults: memory was refused, and the reader may have seen more (1); the text is longer than 4,096 bytes (2); the store was closed, or
     /// nothing is shown that goes as far as the reader has seen, or the reader found no place at the store (3).
-    pub fn ask(&mut self, alloc: Global, level: u8, text: &str) -> Result<(Answer, u32), ReadFault>
+    pub fn ask(&mut self, alloc: Global, level: u8, text: &str) -> Result<(Answer, u64), ReadFault>
         ensures answer { IfOk result (λ r. IsAnswer (C.meaning) level text.now r.0 r.1 self.new.sight) }
         ensures shown { IfOk result (λ _. self.new.shown ≡ self.new.sight) }
         ensures sight { IsSight self.old.sight self.new.sight }
@@ -178,7 +178,7 @@ fn read<C: Replica<J> + Drop, J: Naming>(
     text: &str,
 ) -> (
     Place<C, J>,
-    (Sight<Value, J>, Result<(Answer, u32), ReadFault>),
+    (Sight<Value, J>, Result<(Answer, u64), ReadFault>),
 )
     ensures answer { IfOk result.1.1 (λ r. IsAnswer (C.meaning) level text.now r.0 r.1 result.1.0) }
     ensures shown { IfOk result.1.1 (λ r. known result.0.place ≡ result.1.0) }
@@ -204,7 +204,7 @@ fn look<C: Replica<J> + Drop, J: Naming>(
     alloc: Global,
     level: u8,
     text: &str,
-) -> Result<(Answer, u32), ReadFault>
+) -> Result<(Answer, u64), ReadFault>
     ensures answer { IfOk result (λ r. IsAnswer (C.meaning) level text.now r.0 r.1 sight.new) }
     ensures shown { IfOk result (λ r. sight.new ≡ C.state shown.now) }
     ensures sight { IsSight sight.old sight.new }

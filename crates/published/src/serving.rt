@@ -26,7 +26,7 @@ pub fn serve<C: Replica<J> + Drop, J: Naming, G: Gate>(
     alloc: Global,
     asks: &[(u8, String)],
     gate: &G,
-) -> (Reader<C, J>, Vec<(Answer, u32)>, Option<ReadFault>)
+) -> (Reader<C, J>, Vec<(Answer, u64)>, Option<ReadFault>)
     ensures served { (last : List ValueTerm) × Serves (C.meaning) reader.sight (take (length result.1.items) asks.now) result.1.items last
         × IsSight last result.0.sight × (result.2 ≡ None → result.0.sight ≡ last) }
     ensures shown { IsSight reader.shown result.0.shown }

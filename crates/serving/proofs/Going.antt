@@ -54,9 +54,9 @@ module _ {R A D : Type 0} (has_applied : List (List ℕ) → List Value → A �
         let one = first before h in
         let two = second (before ++ came_by ds) one.waits in
         let start : AreDone has_applied app failed eq x.place (before ++ came_by (deeds_of one.moves)) (seat_after x.seat one.moves) two.moves =
-            subst (λ l. AreDone has_applied app failed eq x.place (before ++ came_by l) (seat_after x.seat one.moves) two.moves) (sym one.are)
-            (subst (λ s. AreDone has_applied app failed eq x.place (before ++ came_by ds) s two.moves) (sym one.seat)
-            (subst (λ p. AreDone has_applied app failed eq p (before ++ came_by ds) y.seat two.moves) one.place two.done)) in
+        subst (λ l. AreDone has_applied app failed eq x.place (before ++ came_by l) (seat_after x.seat one.moves) two.moves) (sym one.are)
+        (subst (λ s. AreDone has_applied app failed eq x.place (before ++ came_by ds) s two.moves) (sym one.seat)
+        (subst (λ p. AreDone has_applied app failed eq p (before ++ came_by ds) y.seat two.moves) one.place two.done)) in
         record {
           moves = one.moves ++ two.moves;
           done = done_both x.place before x.seat one.moves two.moves one.done start;
@@ -143,16 +143,20 @@ module _ {R A D : Type 0} (has_applied : List (List ℕ) → List Value → A �
 
     -- some of what waited waits no more
     pub on_dropping : (x y : Server R A D) (v : W) → y.seat ≡ x.seat → y.place ≡ x.place → ((e : Carried D) → Has y.waiting e → Has x.waiting e) → GoesOn has_applied app failed eq was_given has_brought [] [] [] x y v v
-    on_dropping x y v seat place waits = ([], refl, λ before h. record {
-      moves = [];
-      done = tt;
-      are = refl;
-      seat = sym seat;
-      place = place;
-      waits = λ d has. has_left before [] d (h d (waits d has));
-      gives = given_none was_given v;
-      brings = given_none has_brought v;
-    })
+    on_dropping x y v seat place waits = (
+      [],
+      refl,
+      λ before h. record {
+        moves = [];
+        done = tt;
+        are = refl;
+        seat = sym seat;
+        place = place;
+        waits = λ d has. has_left before [] d (h d (waits d has));
+        gives = given_none was_given v;
+        brings = given_none has_brought v;
+      },
+    )
 
     -- what the wire brought, where that is one datagram with these bytes
     pub brought_one : (w u : W) (r : Result (Option (Arrival D)) Unheard) (a : Arrival D) (buffer bytes : List ℕ) → r ≡ Ok (Some a) → bytes ≡ take a.length buffer

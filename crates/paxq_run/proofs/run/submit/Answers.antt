@@ -2,7 +2,7 @@ use Rattle.std.proofs.Common.{◌≡◌, ◌<◌, ◌++◌, ◌∷◌, [], None,
 use Rattle.ballots.specs.declared.value.Value.TheVariants.{Request}
 use Rattle.sessions.specs.Terms.{id_of}
 use Rattle.sessions.specs.Session.{reply_in}
-use Rattle.paxq_run.specs.Play.{reply_text}
+use Rattle.printed_replies.specs.Lines.{reply_text}
 use Rattle.program_reports.proofs.Reported.{ok-gives}
 use Rattle.paxq_run.proofs.Turns.{ok-text, turn-new, turn-is}
 use Rattle.paxq_run.proofs.run.submit.Goals as goal

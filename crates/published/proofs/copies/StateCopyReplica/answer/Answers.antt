@@ -9,5 +9,5 @@ returns g c =
     let names = g.J.Opening.names in
     let values = c.self.inside.sight in
     let answer : answered c.in_ok-answer.answer ≡ (g.A.Application.meaning names).answer values c.args.level c.args.text.now = ∥∥₁_elim c.self.invariant (Prim.hlevel props) (λ h. c.in_ok-answer.ensures.means names values h) in
-    let position : c.applied.result ≡ length values = ∥∥₁_elim c.self.invariant (Prim.hlevel props) (λ h. c.applied.ensures.means names values h) in
+    let position : c.len.result ≡ length values = c.len.ensures in
     rw (← c.self.view_is) (answer, position)
