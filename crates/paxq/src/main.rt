@@ -40,24 +40,29 @@ fn run_words(rt: &HostRuntime) -> io::Result<u8> {
         [] => &[],
     };
     match read_words(rt.alloc(), words) {
-        Ok(Form::Run { script }) => run_file(rt, script.as_str()),
-        Ok(Form::Sim { events }) => sim_file(rt, events.as_str()),
-        Ok(Form::Local { members, script }) => local_file(rt, members, script.as_str()),
-        Ok(Form::Node { config, turns }) => {
-            let turns = turns.map_or(u64::MAX, u64::from);
-            run_node(rt, config.as_str(), turns, &mut rt.stderr())
-        }
-        Ok(
-            Form::Send {
-                group,
-                address,
-                line,
-            },
-        ) => send(rt, group, address.as_str(), line.as_str()),
+        Ok(form) => run_form(rt, &form),
         Err(fault) => {
             eprintln!(rt; "paxq: {fault}")?;
             Ok(status_of(fault))
         }
+    }
+}
+
+/// Runs a form.
+fn run_form(rt: &HostRuntime, form: &Form) -> io::Result<u8> {
+    match form {
+        Form::Run { script } => run_file(rt, script.as_str()),
+        Form::Sim { events } => sim_file(rt, events.as_str()),
+        Form::Local { members, script } => local_file(rt, *members, script.as_str()),
+        Form::Node { config, turns } => {
+            let turns = turns.map_or(u64::MAX, u64::from);
+            run_node(rt, config.as_str(), turns, &mut rt.stderr())
+        }
+        Form::Send {
+            group,
+            address,
+            line,
+        } => send(rt, *group, address.as_str(), line.as_str()),
     }
 }
 

@@ -2,8 +2,8 @@
 #![tactic(auto)]
 
 mod config;
-mod node;
+mod run;
 mod service;
 
-pub use node::run_node;
+pub use run::run_node;
 pub use service::{End, serve_over};
