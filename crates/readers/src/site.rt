@@ -29,7 +29,8 @@ use std::sync::Wait;
 
 /// A node, and a store in which readers see what it has applied. Contracts see it as these two.
 ///
-/// It does not end by itself: [`Site::into_node`] ends it.
+/// It does not end by itself: take it apart, and end its store by [`StoreOver::close`]. A function that took it apart would be proved, and no caller
+/// of it, since the checks don't cover one yet that takes by value what holds a node beside such a store.
 pub struct SiteOver<
     R: Records + Drop,
     A: Application + Drop,
@@ -37,8 +38,10 @@ pub struct SiteOver<
     J: Naming,
     P: Protocol<C, Known>,
 > {
-    pub(super) node: Node<R, A>,
-    pub(super) store: StoreOver<C, J, P>,
+    /// The node.
+    pub node: Node<R, A>,
+    /// The store in which readers see what it has applied.
+    pub store: StoreOver<C, J, P>,
 }
 
 /// A site of an application's state.
@@ -208,15 +211,5 @@ impl<R: Records + Drop, A: Application + Drop, J: Naming + Opening> SiteOver<
         ensures { result.now ≡ self.now.node }
     {
         &self.node
-    }
-
-    /// Ends the site, and gives its node back: readers that ask from now on are told that the store was closed. It waits for those that are
-    /// answered now.
-    pub fn into_node<W: Wait>(self, rt: &W) -> Node<R, A>
-        ensures { result ≡ self.node }
-    {
-        let SiteOver { node, store } = self;
-        store.close(rt);
-        node
     }
 }
