@@ -6,20 +6,15 @@ ghost use Rattle.std.specs.IoError.{error_kind};
 ghost use Rattle.std.specs.declared.io.ErrorKind.TheVariants.{OutOfMemory};
 
 use command_line::{Form, WordsFault, read_words};
-use paxq_local::{run_local, send_line};
+use paxq_group::{local_file, send};
 use paxq_node::run_node;
 use paxq_run::run_script;
 use paxq_sim::run_events;
-use program_reports::{cannot_read, no_network};
+use program_reports::cannot_read;
 use sessions::State;
 use std::io::{BufWriter, Write};
 use std::process::ExitCode;
-use std::time::Duration;
 use std::{fs, io};
-use wires::{UdpWire, Wire, end_towards, loopback, resolve};
-
-/// How many milliseconds a client waits for an answer before it asks again.
-const TRY: u64 = 50;
 
 /// Runs the form that the command line asks for, and ends with its exit status: 0 done, 1 a file that
 /// cannot be read or is wrong, 2 words of no form, 3 no answer, 4 want of memory, a store that failed or no network.
@@ -94,82 +89,6 @@ fn sim_file(rt: &HostRuntime, events: &str) -> io::Result<u8> {
         Err(error) if error.kind() == io::ErrorKind::OutOfMemory => return Err(error),
         Err(_) => cannot_read(rt.alloc(), events, &mut errors)?,
     };
-    output.flush()?;
-    Ok(status)
-}
-
-/// Runs the script in a file on a group of so many members, each at a socket of its own.
-fn local_file(rt: &HostRuntime, members: u8, script: &str) -> io::Result<u8> {
-    let ends = vec![in rt.alloc(); loopback(); usize::from(members) + 1]?;
-    match UdpWire::open(rt.alloc(), rt, rt, &ends, Duration::from_millis(TRY)) {
-        Ok(mut wire) => local_over(rt, members, &mut wire, script),
-        Err(error) if error.kind() == io::ErrorKind::OutOfMemory => Err(error),
-        Err(_) => no_network(&mut rt.stderr()),
-    }
-}
-
-/// Runs the script in a file on a group of so many members over a wire.
-fn local_over<W: Wire>(
-    rt: &HostRuntime,
-    members: u8,
-    wire: &mut W,
-    script: &str,
-) -> io::Result<u8> {
-    let mut output = BufWriter::new(rt.alloc(), io::writer(rt))?;
-    let mut errors = rt.stderr();
-    let status = match fs::open(rt, script) {
-        Ok(mut file) => run_local::<State, _, _, _, _>(
-            rt.alloc(),
-            members,
-            wire,
-            script,
-            &mut file,
-            &mut output,
-            &mut errors,
-        )?,
-        Err(error) if error.kind() == io::ErrorKind::OutOfMemory => return Err(error),
-        Err(_) => cannot_read(rt.alloc(), script, &mut errors)?,
-    };
-    output.flush()?;
-    Ok(status)
-}
-
-/// Sends a line to the node at an address.
-fn send(rt: &HostRuntime, group: u32, address: &str, line: &str) -> io::Result<u8> {
-    let Some(to) = resolve(rt, address) else {
-        return no_network(&mut rt.stderr());
-    };
-    match UdpWire::open(
-        rt.alloc(),
-        rt,
-        rt,
-        &[end_towards(to)],
-        Duration::from_millis(TRY),
-    ) {
-        Ok(mut wire) => send_over(rt, &mut wire, group, to, line),
-        Err(error) if error.kind() == io::ErrorKind::OutOfMemory => Err(error),
-        Err(_) => no_network(&mut rt.stderr()),
-    }
-}
-
-/// Sends a line to the node at an address, over a wire.
-fn send_over<W: Wire>(
-    rt: &HostRuntime,
-    wire: &mut W,
-    group: u32,
-    to: W::Address,
-    line: &str,
-) -> io::Result<u8> {
-    let mut output = BufWriter::new(rt.alloc(), io::writer(rt))?;
-    let status = send_line(
-        rt.alloc(),
-        wire,
-        group,
-        to,
-        line,
-        &mut output,
-        &mut rt.stderr(),
-    )?;
     output.flush()?;
     Ok(status)
 }
