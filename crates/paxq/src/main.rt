@@ -7,7 +7,6 @@ ghost use Rattle.std.specs.declared.io.ErrorKind.TheVariants.{OutOfMemory};
 
 use command_line::{Form, WordsFault, read_words};
 use paxq_group::{local_file, send};
-use paxq_node::run_node;
 use paxq_run::run_script;
 use paxq_sim::run_events;
 use program_reports::cannot_read;
@@ -49,9 +48,9 @@ fn run_form(rt: &HostRuntime, form: &Form) -> io::Result<u8> {
         Form::Run { script } => run_file(rt, script.as_str()),
         Form::Sim { events } => sim_file(rt, events.as_str()),
         Form::Local { members, script } => local_file(rt, *members, script.as_str()),
-        Form::Node { config, turns } => {
-            let turns = turns.map_or(u64::MAX, u64::from);
-            run_node(rt, config.as_str(), turns, &mut rt.stderr())
+        Form::Node { .. } => {
+            eprintln!(rt; "paxq: paxq_member runs nodes")?;
+            Ok(2)
         }
         Form::Send {
             group,
