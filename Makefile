@@ -11,7 +11,7 @@ help:
 	@echo 'make test      the gate: proves everything from nothing, runs every test, tries wrong bodies; last line "N passed, M failed"'
 	@echo 'make edits     tries every wrong body of CRATES (all, if none is named), also those that the gate leaves out for time'
 	@echo 'make refusals  runs the tests of CRATES (all that have any, if none is named) with each allocation refused in turn'
-	@echo 'make paxq      proves paxq and what it stands on, and leaves the program at bin/paxq'
+	@echo 'make paxq      proves paxq and paxq_member and what they stand on, and leaves the programs in bin/'
 	@echo 'make examples  runs bin/paxq on the examples, on those of docs/LANGUAGE.md and on input that it refuses'
 	@echo 'make measure   proves measure, which runs parts for the benchmarks, and leaves it at bin/measure'
 	@echo 'make expressions  proves query_rows, which evaluates expressions for the benchmarks, and leaves it at bin/query_rows'
@@ -21,7 +21,7 @@ help:
 	@echo '               groups of processes beside etcd, where that is installed'
 	@echo 'make kills     ends bin/record_file in the middle of its writes, again and again: each acknowledged write has to be there;'
 	@echo '               and opens files with it that the program sqlite3 made (needs sqlite3)'
-	@echo 'make cluster   runs groups of bin/paxq node processes on this machine: members that are ended by SIGKILL and started again, lost and mutated datagrams;'
+	@echo 'make cluster   runs groups of bin/paxq_member processes on this machine: members that are ended by SIGKILL and started again, lost and mutated datagrams;'
 	@echo '               CLUSTER_ENDS=1000 ends so many members, CLUSTER_DATAGRAMS=1000000 sends so many datagrams. Last line "N passed, M failed"'
 	@echo 'make sweep     runs bin/paxq with each allocation refused in turn (needs a C compiler)'
 	@echo 'make clean     removes what builds made'
@@ -40,9 +40,10 @@ refusals: bin/refuse.so
 	.ci/refusals bin/refuse.so $(CRATES)
 
 paxq:
-	.ci/prove paxq
+	.ci/prove paxq paxq_member
 	cd crates/paxq && rt run -- run "$(CURDIR)/examples/first.pxq"
-	mkdir -p bin && cp crates/paxq/out/paxq bin/paxq
+	cd crates/paxq_member && rm -f out/paxq_member && { rt run > /dev/null || true; }
+	mkdir -p bin && cp crates/paxq/out/paxq crates/paxq_member/out/paxq_member bin
 
 examples: paxq
 	examples/check bin/paxq
