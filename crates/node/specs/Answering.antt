@@ -1,12 +1,12 @@
 -- What answers of an application are.
 use Rattle.std.specs.Prelude.{◌≡◌, ℕ, List, string_bytes}
-use Rattle.std.specs.List.{All}
 use Rattle.applications.specs.Limits.{IsWithin}
 use Rattle.ballots.specs.Replies.{answered}
 use Rattle.ballots.specs.declared.reply.Answer.{Answer}
 use Rattle.ballots.specs.declared.value.Value.{Value}
 use Rattle.node.specs.declared.answers.KeptAnswer.{KeptAnswer}
 use Rattle.paxos.specs.Application.{Application}
+use Rattle.paxos.specs.Lists.{Has}
 
 module _ {A : Type 0} (has_applied : List (List ℕ) → List Value → A → Type 0) (meaning : List (List ℕ) → Application) where
   -- it is the answer to a question of that level and text, over whichever values the application has applied
@@ -16,4 +16,4 @@ module _ {A : Type 0} (has_applied : List (List ℕ) → List Value → A → Ty
 
   -- each of these is the answer to its question
   abbrev pub AreAnswers : (a : A) → List KeptAnswer → Type 0
-  AreAnswers a kept = All (λ k. IsAnswer a k.level (string_bytes k.text) k.answer) kept
+  AreAnswers a kept = (k : KeptAnswer) → Has kept k → IsAnswer a k.level (string_bytes k.text) k.answer

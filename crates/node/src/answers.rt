@@ -1,17 +1,16 @@
 //! Answers that are kept for a while.
 
-ghost use Rattle.std.specs.Prelude.{◌≡◌, ℕ, List, [], true, IfOk, IfSome, string_bytes};
+ghost use Rattle.std.specs.Prelude.{◌≡◌, ◌⊎◌, ℕ, List, [], true, IfOk, IfSome, string_bytes};
 ghost use Rattle.applications.specs.Limits.{IsWithin};
 ghost use Rattle.ballots.specs.Replies.{answered};
 ghost use Rattle.ballots.specs.declared.value.Value.{Value as ValueTerm};
 ghost use Rattle.node.specs.Answering.{AreAnswers, IsAnswer};
 ghost use Rattle.node.specs.declared.answers.KeptAnswer.{KeptAnswer as KeptAnswerTerm};
-ghost use Rattle.std.specs.List.{All};
+ghost use Rattle.paxos.specs.Lists.{Has};
 
 use applications::Application;
 use ballots::Answer;
 use std::alloc::{AllocError, Global};
-use std::collections::VecDeque;
 
 /// At most so many answers are kept.
 const MOST_ANSWERS: usize = 8;
@@ -29,7 +28,7 @@ pub(super) struct KeptAnswer {
 /// A client that gets no answer asks again, while its question may still be evaluated. What is kept answers it then at once.
 #[derive(Drop)]
 pub(super) struct Answers {
-    pub(super) kept: VecDeque<KeptAnswer>,
+    pub(super) kept: Vec<KeptAnswer>,
 }
 
 /// A copy of an answer. It fails where memory is refused.
@@ -75,7 +74,7 @@ impl Answers {
         ensures { result.kept.items ≡ [] }
     {
         Answers {
-            kept: VecDeque::new(alloc),
+            kept: Vec::new(alloc),
         }
     }
 
@@ -106,7 +105,7 @@ impl Answers {
 
     /// The answer that is kept to a question of that level and text, if one is.
     fn find(&self, level: u8, text: &str) -> Option<&KeptAnswer>
-        ensures kept { (P : KeptAnswerTerm → Type 0) → All P self.now.kept.items → IfSome result (λ k. P k.now) }
+        ensures kept { IfSome result (λ k. Has self.now.kept.items k.now) }
         ensures of { IfSome result (λ k. (k.now.level ≡ level) × (string_bytes k.now.text ≡ text.now)) }
     {
         for kept in &self.kept {
@@ -119,12 +118,19 @@ impl Answers {
 
     /// Keeps an answer, in the place of the oldest where as many are kept as may be. It is not kept where memory is refused.
     fn keep(&mut self, kept: KeptAnswer)
-        ensures { (P : KeptAnswerTerm → Type 0) → All P self.old.kept.items → P kept → All P self.new.kept.items }
+        ensures { (k : KeptAnswerTerm) → Has self.new.kept.items k → Has self.old.kept.items k ⊎ (k ≡ kept) }
+    {
+        self.make_room();
+        let _ = self.kept.push(kept);
+    }
+
+    /// Drops the oldest answer where as many are kept as may be.
+    fn make_room(&mut self)
+        ensures { (k : KeptAnswerTerm) → Has self.new.kept.items k → Has self.old.kept.items k }
     {
         if self.kept.len() >= MOST_ANSWERS {
-            let _ = self.kept.pop_front();
+            let _ = self.kept.remove(0);
         }
-        let _ = self.kept.push_back(kept);
     }
 
     /// None is kept any more.
