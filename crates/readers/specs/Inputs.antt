@@ -24,12 +24,12 @@ Comes s (input.Tick tick) i = i ≡ ticked tick
 -- bytes are no message, for this reason
 abbrev pub IsNoMessage : InputOfCode → WireFault → Type 0
 IsNoMessage (input.Bytes bytes) fault = datagram_read bytes.now ≡ Fails fault
-IsNoMessage (input.Tick tick) fault = Unit {0}
+IsNoMessage (input.Tick tick) fault = ⊥
 
 -- bytes spell a message of another group, from or about a member that there is not, or of a kind that goes to clients
 abbrev pub IsOfStranger : Setup → InputOfCode → Type 0
 IsOfStranger s (input.Bytes bytes) = (d : Datagram) × (bytes.now ≡ spelling d) × (datagram_read bytes.now ≡ Gives d []) × IsStrange s d
-IsOfStranger s (input.Tick tick) = Unit {0}
+IsOfStranger s (input.Tick tick) = ⊥
 
 -- a ballot is to begin, and positions or rounds are spent
 abbrev pub CannotBegin : {R A : Type 0} → Node R A → Running → InputOfCode → Type 0

@@ -5,7 +5,7 @@ ghost use Rattle.member.specs.Steps.{Input as InputTerm, ticked};
 ghost use Rattle.messages.specs.Reading.{Fails, Gives, datagram_read};
 ghost use Rattle.messages.specs.Spelling.{Datagram, spelling};
 ghost use Rattle.messages.specs.declared.fault.WireFault.{WireFault as WireFaultTerm};
-ghost use Rattle.node.specs.Nodes.{HasFailed, IsStrange, IsUnchanged, RunsAs};
+ghost use Rattle.node.specs.Nodes.{HasFailed, IsOfTick, IsStrange, IsUnchanged, RunsAs};
 ghost use Rattle.paxos.specs.Knowledge.{learnt as learnt_at, news, prefix};
 ghost use Rattle.paxos.specs.Step.{Running, may_begin};
 ghost use Rattle.published.specs.Stores.{Keeps, Publishes, handed_on};
@@ -119,6 +119,7 @@ impl<R: Records + Drop, A: Application + Drop, J: Naming + Opening> SiteOver<
         ensures spent { (u : Running) → RunsAs A.has_applied u self.old.node → IsErrOf result NodeFault.Spent
             → (tick ≡ Tick.Begin) × (may_begin self.old.node.setup.members self.old.node.member.acceptor.kept u ≡ false) }
         ensures unchanged { IfErr result (λ fault. (fault ≡ NodeFault.Store → ⊥) → IsUnchanged A.has_applied R.failed self.old.node self.new.node) }
+        ensures faults { IfErr result IsOfTick }
         ensures setup { self.new.node.setup ≡ self.old.node.setup }
     {
         let outbox = self.node.tick(alloc, tick)?;

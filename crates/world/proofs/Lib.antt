@@ -14,5 +14,6 @@ pub mod Delivering
 pub mod Resting
 pub mod Stopping
 pub mod Begun
+pub mod Going
 pub mod Straightly
 pub mod Alike

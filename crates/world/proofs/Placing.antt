@@ -5,7 +5,7 @@ use Rattle.std.specs.Prelude.{if◌then◌else◌}
 use Rattle.std.proofs.Math.ListN.{get_or}
 use Rattle.std.proofs.lemmas.Bool.{cases_eq}
 use Rattle.std.proofs.lemmas.Option.{none-some, same_Some, slice_get_read}
-use Rattle.records.specs.Law.{Fate, Grew, passing}
+use Rattle.records.specs.Law.{Fate, passing}
 use Rattle.ballots.specs.Messages.{Packet}
 use Rattle.ballots.specs.Terms.{Setup}
 use Rattle.ballots.specs.declared.value.Value.{Value}
@@ -29,7 +29,7 @@ use Rattle.world.proofs.Given.{if_none, if_some}
 use Rattle.world.specs.Tellings.{told_in}
 use Rattle.world.specs.Held.{IsHeld, shown}
 use Rattle.world.specs.Reached.{Follows, HaveDone, Stays, Steps, store_at}
-use Rattle.world.specs.Seats.{Did, HasFailed, IsAny, IsPlanned, IsPlannedAt, IsFit, IsSeat, MayStay, MayStep, Moves, Skips, SkipsAt, failures_of, fates_of, sent_by, store_in, told_by}
+use Rattle.world.specs.Seats.{Did, IsAny, IsPlanned, IsPlannedAt, IsFit, IsSeat, MayStay, MayStep, Moves, Skips, SkipsAt, fates_of, sent_by, store_in, told_by}
 use Rattle.world.specs.Shown.{Shows, setup_of}
 use Rattle.world.specs.declared.seat.Seat.{Seat}
 use Rattle.world.specs.declared.state.State.{State}

@@ -28,7 +28,7 @@ use Rattle.world.proofs.Leading.{leads_join}
 use Rattle.world.proofs.Lifting.{some_at}
 
 -- a list with an element more
-take_more : {A : Type 0} (xs : List A) (i : ℕ) (x : A) → slice_get xs i ≡ Some x → take (suc i) xs ≡ take i xs ++ x ∷ []
+pub take_more : {A : Type 0} (xs : List A) (i : ℕ) (x : A) → slice_get xs i ≡ Some x → take (suc i) xs ≡ take i xs ++ x ∷ []
 take_more [] i x h = absurd (none-some x h)
 take_more (y ∷ xs) zero x h = ap (λ z. z ∷ []) (same_Some y x h)
 take_more (y ∷ xs) (suc i) x h = ap (λ zs. y ∷ zs) (take_more xs i x h)

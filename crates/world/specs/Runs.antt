@@ -13,9 +13,10 @@ use Rattle.paxos.specs.Lists.{at}
 use Rattle.paxos.specs.Records.{Record}
 use Rattle.paxos.specs.Step.{Running}
 use Rattle.paxos.specs.World as protocol
+use Rattle.records.specs.Law.{Fate}
 use Rattle.paxos.specs.World.{World as Whole, Event as Happens, Run, fresh, start, told_to}
 use Rattle.straight_runs.specs.Straight.{closing}
-use Rattle.world.specs.Reached.{Reached, ReachedSmoothly}
+use Rattle.world.specs.Reached.{HasHappened, IsUnmoved, Reached, ReachedSmoothly}
 use Rattle.world.specs.Seats.{IsBehind, IsUpToDate}
 use Rattle.world.specs.Shown.{World, AreKept, Shows}
 use Rattle.world.specs.declared.fault.WorldFault.{WorldFault}
@@ -41,6 +42,21 @@ pub record LeadsSmoothly {R A : Type 0} (stands : R → Record → Record → Ty
 -- one of the members has stopped
 abbrev pub OneStopped : {R A : Type 0} → World R A → Type 0
 OneStopped {R} {A} w = (m : ℕ) × (s : Seat R A) × (at w.seats m ≡ Some s) × (s.node ≡ None)
+
+-- These events have happened one after the other, each as it says of the world before it and the one after it; and nothing else has.
+abbrev pub Ran : {R A : Type 0} → (stands : R → Record → Record → Type 0) → (is_kept : R → Type 0) → (failed : R → ℕ) → (fates : R → ℕ → Fate) → (has_applied : List (List ℕ) → List Value → A → Type 0) → Application → List Happens → (old new : World R A) → Type 0
+Ran stands is_kept failed fates has_applied app [] old new = new ≡ old
+Ran {R} {A} stands is_kept failed fates has_applied app (e ∷ events) old new =
+    (next : World R A) × HasHappened stands is_kept failed fates has_applied app e old next × Ran stands is_kept failed fates has_applied app events next new
+
+-- So have the first of them, as the fault says: as many as it counts, and then memory was refused, which has changed nothing; none; some, in the
+-- last of which a store failed and stopped its member.
+abbrev pub RanUntil : {R A : Type 0} → (stands : R → Record → Record → Type 0) → (is_kept : R → Type 0) → (failed : R → ℕ) → (fates : R → ℕ → Fate) → (has_applied : List (List ℕ) → List Value → A → Type 0) → Application → List Happens → (old new : World R A) → WorldFault → Type 0
+RanUntil {R} {A} stands is_kept failed fates has_applied app events old new (fault.Memory done) =
+    (done ≤ length events) × (last : World R A) × Ran stands is_kept failed fates has_applied app (take done events) old last × IsUnmoved stands is_kept has_applied last new
+RanUntil stands is_kept failed fates has_applied app events old new fault.Member = new ≡ old
+RanUntil stands is_kept failed fates has_applied app events old new fault.Store =
+    (done : ℕ) × (done ≤ length events) × Ran stands is_kept failed fates has_applied app (take done events) old new × OneStopped new
 
 -- Some of the events have happened, as the fault says: as many as it counts; none; some, in the last of which a store failed and stopped
 -- its member.
@@ -85,6 +101,13 @@ StopsAt stands is_kept has_applied app old new e i (fault.Memory done) =
     (done ≡ i) × LeadsTo stands is_kept has_applied app old new [] ⊎ (done ≡ suc i) × LeadsTo stands is_kept has_applied app old new (e ∷ [])
 StopsAt stands is_kept has_applied app old new e i fault.Member = ⊥
 StopsAt stands is_kept has_applied app old new e i fault.Store = LeadsTo stands is_kept has_applied app old new (e ∷ []) × OneStopped new
+
+-- The same of that event: it has not happened, and nothing has changed; or it has, and a node is short of memory then; or a store failed in it.
+abbrev pub StoppedAt : {R A : Type 0} → (stands : R → Record → Record → Type 0) → (is_kept : R → Type 0) → (failed : R → ℕ) → (fates : R → ℕ → Fate) → (has_applied : List (List ℕ) → List Value → A → Type 0) → Application → Happens → (before : ℕ) → (old new : World R A) → WorldFault → Type 0
+StoppedAt stands is_kept failed fates has_applied app e i old new (fault.Memory done) =
+    (done ≡ i) × IsUnmoved stands is_kept has_applied old new ⊎ (done ≡ suc i) × HasHappened stands is_kept failed fates has_applied app e old new
+StoppedAt stands is_kept failed fates has_applied app e i old new fault.Member = ⊥
+StoppedAt stands is_kept failed fates has_applied app e i old new fault.Store = HasHappened stands is_kept failed fates has_applied app e old new × OneStopped new
 
 -- What a straight run of a fresh world has led to: so many messages; each member was told the request at position 1, once, runs, and has
 -- applied just that.

@@ -9,7 +9,7 @@ ghost use Rattle.world.specs.Placed.{AreOf, ArePlaced, IsOf, IsPlaced, OneRefuse
 ghost use Rattle.acceptor.specs.Drafts.{IsRefused};
 ghost use Rattle.events.specs.Events.{event_of, is_for};
 ghost use Rattle.world.specs.Reached.{Reached, ReachedSmoothly};
-ghost use Rattle.world.specs.Runs.{AllRun, AreUpToDate, HasDone, IsUnwritten, LeadsTo, OneIsBehind};
+ghost use Rattle.world.specs.Runs.{AllRun, AreUpToDate, HasDone, IsUnwritten, LeadsTo, OneIsBehind, Ran, RanUntil};
 ghost use Rattle.world.specs.Shown.{AreKept};
 ghost use Rattle.ballots.specs.Ballot.{most_members};
 
@@ -169,6 +169,8 @@ impl<R: PlannedRecords + Drop, A: Application + Drop> State<R, A> {
         requires held { IsHeld self.old }
         requires named { list_all (is_for self.old.members) events.now ≡ true }
         ensures held { IsHeld self.new }
+        ensures ran { OnOk result (Ran R.stands R.is_kept R.failed R.fates A.has_applied (A.meaning self.old.names) (map event_of events.now) (shown self.old) (shown self.new)) }
+        ensures ran_until { IfErr result (RanUntil R.stands R.is_kept R.failed R.fates A.has_applied (A.meaning self.old.names) (map event_of events.now) (shown self.old) (shown self.new)) }
         ensures done { OnOk result (LeadsTo R.stands R.is_kept A.has_applied (A.meaning self.old.names) (shown self.old) (shown self.new) (map event_of events.now)) }
         ensures refused { IfErr result (λ fault. HasDone R.stands R.is_kept A.has_applied (A.meaning self.old.names) (shown self.old) (shown self.new) (map event_of events.now) fault) }
         ensures member { IsErrOf result WorldFault.Member → ⊥ }

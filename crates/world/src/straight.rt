@@ -3,7 +3,7 @@
 ghost use Rattle.std.specs.Prelude.{◌≡◌, ◌∷◌, ◌+◌, ◌*◌, ◌<◌, ◌≤◌, [], IfErr, IsErrOf, OnErr, OnOk};
 ghost use Rattle.world.specs.Held.{IsHeld, shown};
 ghost use Rattle.world.specs.Reached.{HasHappened, IsUnmoved};
-ghost use Rattle.world.specs.Runs.{HasDone, LeadsSmoothly, StopsAt, straight_event, straight_run};
+ghost use Rattle.world.specs.Runs.{HasDone, LeadsSmoothly, Ran, RanUntil, StoppedAt, StopsAt, straight_event, straight_run};
 
 use crate::fault::WorldFault;
 use crate::state::State;
@@ -75,6 +75,8 @@ impl<R: Records + Drop, A: Application + Drop> State<R, A> {
         requires most { member ≤ self.old.members }
         requires few { before < self.old.members * self.old.members + 3 * self.old.members + 3 }
         ensures held { IsHeld self.new }
+        ensures ran { OnOk result (HasHappened R.stands R.is_kept R.failed R.fates A.has_applied (A.meaning self.old.names) (straight_event self.old.members member request.now before) (shown self.old) (shown self.new)) }
+        ensures ran_until { IfErr result (StoppedAt R.stands R.is_kept R.failed R.fates A.has_applied (A.meaning self.old.names) (straight_event self.old.members member request.now before) before (shown self.old) (shown self.new)) }
         ensures done { OnOk result (LeadsSmoothly R.stands R.is_kept A.has_applied (A.meaning self.old.names) (shown self.old) (shown self.new) (straight_event self.old.members member request.now before ∷ [])) }
         ensures refused { IfErr result (λ fault. StopsAt R.stands R.is_kept A.has_applied (A.meaning self.old.names) (shown self.old) (shown self.new) (straight_event self.old.members member request.now before) before fault) }
         ensures member { IsErrOf result WorldFault.Member → ⊥ }
@@ -105,6 +107,8 @@ impl<R: Records + Drop, A: Application + Drop> State<R, A> {
         requires least { 1 ≤ member }
         requires most { member ≤ self.old.members }
         ensures held { IsHeld self.new }
+        ensures ran { OnOk result (Ran R.stands R.is_kept R.failed R.fates A.has_applied (A.meaning self.old.names) (straight_run self.old.members member request.now) (shown self.old) (shown self.new)) }
+        ensures ran_until { IfErr result (RanUntil R.stands R.is_kept R.failed R.fates A.has_applied (A.meaning self.old.names) (straight_run self.old.members member request.now) (shown self.old) (shown self.new)) }
         ensures done { OnOk result (LeadsSmoothly R.stands R.is_kept A.has_applied (A.meaning self.old.names) (shown self.old) (shown self.new) (straight_run self.old.members member request.now)) }
         ensures refused { IfErr result (λ fault. HasDone R.stands R.is_kept A.has_applied (A.meaning self.old.names) (shown self.old) (shown self.new) (straight_run self.old.members member request.now) fault) }
         ensures member { IsErrOf result WorldFault.Member → ⊥ }

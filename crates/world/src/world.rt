@@ -13,7 +13,7 @@ ghost use Rattle.paxos.specs.World.{Event as Happens, World as Whole};
 ghost use Rattle.world.specs.Placed.{AreOf, OneRefused};
 ghost use Rattle.events.specs.Events.{event_of, is_for};
 ghost use Rattle.world.specs.Reached.{HasHappened, IsUnmoved, Reached, ReachedSmoothly};
-ghost use Rattle.world.specs.Runs.{Agrees, HasDone, IsStraight, IsUnwritten, LeadsSmoothly, LeadsTo, OneIsBehind, node_at, straight_run};
+ghost use Rattle.world.specs.Runs.{Agrees, HasDone, IsStraight, IsUnwritten, LeadsSmoothly, LeadsTo, OneIsBehind, Ran, RanUntil, node_at, straight_run};
 ghost use Rattle.world.specs.Shown.{AreKept, Shows};
 ghost use Rattle.world.specs.Tellings.{told_in};
 
@@ -95,6 +95,8 @@ impl<R: Records + Drop, A: Application + Drop> World<R, A> {
         member: u8,
         request: Request,
     ) -> Result<u64, WorldFault>
+        ensures ran { OnOk result (Ran R.stands R.is_kept R.failed R.fates A.has_applied (A.meaning self.old.names) (straight_run self.old.members member request) self.old self.new) }
+        ensures ran_until { IfErr result (RanUntil R.stands R.is_kept R.failed R.fates A.has_applied (A.meaning self.old.names) (straight_run self.old.members member request) self.old self.new) }
         ensures done { OnOk result (LeadsSmoothly R.stands R.is_kept A.has_applied (A.meaning self.old.names) self.old self.new (straight_run self.old.members member request)) }
         ensures deliveries { IfOk result (λ deliveries. deliveries ≡ self.old.members * self.old.members + 3 * self.old.members + 1) }
         ensures straight { IfOk result (λ deliveries. AreKept R.is_kept self.new → ReachedSmoothly R.stands A.has_applied (A.meaning self.old.names) self.old [] → IsStraight A.has_applied self.new request deliveries) }
@@ -173,6 +175,8 @@ impl<R: PlannedRecords + Drop, A: Application + Drop> World<R, A> {
     /// Faults: memory was refused, after that many events, and the next one has changed nothing; an event names no member that there is,
     /// and none has happened. A store's failure is none of them.
     pub fn run(&mut self, alloc: Global, events: &[Event]) -> Result<(), WorldFault>
+        ensures ran { OnOk result (Ran R.stands R.is_kept R.failed R.fates A.has_applied (A.meaning self.old.names) (map event_of events.now) self.old self.new) }
+        ensures ran_until { IfErr result (RanUntil R.stands R.is_kept R.failed R.fates A.has_applied (A.meaning self.old.names) (map event_of events.now) self.old self.new) }
         ensures done { OnOk result (LeadsTo R.stands R.is_kept A.has_applied (A.meaning self.old.names) self.old self.new (map event_of events.now)) }
         ensures refused { IfErr result (λ fault. HasDone R.stands R.is_kept A.has_applied (A.meaning self.old.names) self.old self.new (map event_of events.now) fault) }
         ensures member { IsErrOf result WorldFault.Member ↔ (list_all (is_for self.old.members) events.now ≡ false) }

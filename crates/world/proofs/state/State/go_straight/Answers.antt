@@ -41,3 +41,12 @@ returns-clause-done g c =
     smoothly_one {R = g.row.R.Denot} {A = g.row.A.Denot} g.R.Records.stands g.R.Records.is_kept g.A.Application.has_applied (g.A.Application.meaning self.names) (shown self) end c.requires.held.most
     (HaveDone g.R.Records.failed g.R.Records.fates (is_cut e) self.seats.items end.seats) e held.size held.seats
     (all_found {R = g.row.R.Denot} {A = g.row.A.Denot} end (sym c.all_run.ensures ∙ c.if-not-all_run.false)) (c.all_applied.ensures.all c.if-not-all_applied.false) c.in-Ok.ensures.happened
+
+pub returns-in_default-clause-ran_until : goal.returns-in_default-clause-ran_until
+returns-in_default-clause-ran_until g c = inl (refl, c.in_default.ensures.refused)
+
+pub returns-then-not-all_run-clause-ran_until : goal.returns-then-not-all_run-clause-ran_until
+returns-then-not-all_run-clause-ran_until g c = (c.in-Ok.ensures.happened, one_stopped {R = g.row.R.Denot} {A = g.row.A.Denot} (shown c.straight_event.new.self) (sym c.all_run.ensures ∙ c.if-not-all_run.true))
+
+pub returns-then-not-all_applied-clause-ran_until : goal.returns-then-not-all_applied-clause-ran_until
+returns-then-not-all_applied-clause-ran_until g c = inr (omega arith, c.in-Ok.ensures.happened)

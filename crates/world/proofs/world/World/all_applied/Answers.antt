@@ -1,4 +1,4 @@
-use Rattle.std.proofs.Common.{◌≡◌, ℕ, length, subst}
+use Rattle.std.proofs.Common.{ℕ, subst}
 use Rattle.paxos.specs.Records.{Record}
 use Rattle.paxos.specs.Smooth.{AllApplied}
 use Rattle.paxos.specs.World.{World as Whole}

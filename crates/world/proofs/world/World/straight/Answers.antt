@@ -2,7 +2,7 @@ use Rattle.std.proofs.Common.{◌+◌, ◌*◌, ◌∙◌, arith, [], sym, subst
 use Rattle.std.proofs.lemmas.Result.{err_from_is_err_and}
 use Rattle.world.specs.Held.{shown}
 use Rattle.world.specs.Reached.{ReachedSmoothly}
-use Rattle.world.specs.Runs.{HasDone, IsStraight, straight_run}
+use Rattle.world.specs.Runs.{HasDone, IsStraight, RanUntil, straight_run}
 use Rattle.world.specs.Shown.{World}
 use Rattle.world.proofs.Straightly.{ends_straight, no_reply}
 use Rattle.world.proofs.world.World.straight.Goals as goal
@@ -12,6 +12,12 @@ returns-in_err-straight-clause-refused g c =
     let p = err_from_is_err_and c.from_residual.result c.from_residual.ensures.1 in
     rw (p.1, p.2) (subst (λ (w : World g.row.R.Denot g.row.A.Denot). HasDone {R = g.row.R.Denot} {A = g.row.A.Denot} g.R.Records.stands g.R.Records.is_kept g.A.Application.has_applied (g.A.Application.meaning w.names) w (shown c.straight.new.self) (straight_run w.members c.args.member c.args.request) c.in_err-straight.field-0.0)
     c.self.view_is c.in_err-straight.ensures.refused)
+
+pub returns-in_err-straight-clause-ran_until : goal.returns-in_err-straight-clause-ran_until
+returns-in_err-straight-clause-ran_until g c =
+    let p = err_from_is_err_and c.from_residual.result c.from_residual.ensures.1 in
+    rw (p.1, p.2) (subst (λ (w : World g.row.R.Denot g.row.A.Denot). RanUntil {R = g.row.R.Denot} {A = g.row.A.Denot} g.R.Records.stands g.R.Records.is_kept g.R.Records.failed g.R.Records.fates g.A.Application.has_applied (g.A.Application.meaning w.names) (straight_run w.members c.args.member c.args.request) w (shown c.straight.new.self) c.in_err-straight.field-0.0)
+    c.self.view_is c.in_err-straight.ensures.ran_until)
 
 pub returns-clause-straight : goal.returns-clause-straight
 returns-clause-straight g c = λ kept fresh.
