@@ -7,6 +7,7 @@ use super::row::Row;
 use super::sites::{Asked, Served};
 use super::steps::{given, put, shows, step};
 use super::watching::beside;
+use applications::Application;
 use member::Tick;
 use published::{Board, Note, Opening, ReadFault};
 use readers::Input;
@@ -20,11 +21,15 @@ use std::thread::Threads;
 const MOST_CALLS: u32 = 1_000;
 
 /// Makes the calls of a site, up to its end.
-pub(super) fn all_called<J: Naming + Opening + Send + Sync, R: Threads + Wait + Sync>(
+pub(super) fn all_called<
+    A: Application + Drop + Send + Sync,
+    J: Naming + Opening + Send + Sync,
+    R: Threads + Wait + Sync,
+>(
     rt: &R,
     alloc: Global,
-    site: &mut Served<J>,
-    readers: &mut Vec<Asked<J>>,
+    site: &mut Served<A, J>,
+    readers: &mut Vec<Asked<A, J>>,
     row: &mut Row<'_>,
 ) -> Result<(), RowFault> {
     let mut board = site.board();
@@ -42,9 +47,9 @@ pub(super) fn all_called<J: Naming + Opening + Send + Sync, R: Threads + Wait + 
 }
 
 /// Makes the calls of the readers of a site that was ended.
-pub(super) fn all_asked<J: Naming + Opening>(
+pub(super) fn all_asked<A: Application + Drop, J: Naming + Opening>(
     alloc: Global,
-    readers: &mut Vec<Asked<J>>,
+    readers: &mut Vec<Asked<A, J>>,
     row: &mut Row<'_>,
 ) -> Result<(), RowFault> {
     for _ in 0..MOST_CALLS {
@@ -61,11 +66,15 @@ pub(super) fn all_asked<J: Naming + Opening>(
 }
 
 /// What a call gives.
-fn called<J: Naming + Opening + Send + Sync, R: Threads + Wait + Sync>(
+fn called<
+    A: Application + Drop + Send + Sync,
+    J: Naming + Opening + Send + Sync,
+    R: Threads + Wait + Sync,
+>(
     rt: &R,
     alloc: Global,
-    site: &mut Served<J>,
-    readers: &mut Vec<Asked<J>>,
+    site: &mut Served<A, J>,
+    readers: &mut Vec<Asked<A, J>>,
     board: &mut Board<J>,
     name: &str,
     row: &mut Row<'_>,
@@ -88,9 +97,9 @@ fn called<J: Naming + Opening + Send + Sync, R: Threads + Wait + Sync>(
 }
 
 /// What a call of a site without its readers gives.
-fn called_alone<J: Naming + Opening>(
+fn called_alone<A: Application + Drop, J: Naming + Opening>(
     alloc: Global,
-    site: &mut Served<J>,
+    site: &mut Served<A, J>,
     name: &str,
     row: &mut Row<'_>,
 ) -> Result<String, RowFault> {
@@ -107,9 +116,9 @@ fn called_alone<J: Naming + Opening>(
 }
 
 /// How much a site has applied once it was handed an input and what it sends to itself then, or the fault of the input.
-fn stepped<J: Naming + Opening>(
+fn stepped<A: Application + Drop, J: Naming + Opening>(
     alloc: Global,
-    site: &mut Served<J>,
+    site: &mut Served<A, J>,
     input: Input<'_>,
     row: &mut Row<'_>,
 ) -> Result<String, RowFault> {
@@ -118,9 +127,9 @@ fn stepped<J: Naming + Opening>(
 }
 
 /// `HEX`: the bytes that it stands for, `-` for none.
-fn received<J: Naming + Opening>(
+fn received<A: Application + Drop, J: Naming + Opening>(
     alloc: Global,
-    site: &mut Served<J>,
+    site: &mut Served<A, J>,
     row: &mut Row<'_>,
 ) -> Result<String, RowFault> {
     let bytes = match row.words.plain()? {
@@ -131,9 +140,9 @@ fn received<J: Naming + Opening>(
 }
 
 /// `NUMBER TEXT`: a request of client 1.
-fn submitted<J: Naming + Opening>(
+fn submitted<A: Application + Drop, J: Naming + Opening>(
     alloc: Global,
-    site: &mut Served<J>,
+    site: &mut Served<A, J>,
     row: &mut Row<'_>,
 ) -> Result<String, RowFault> {
     let number = row.words.number()?;
@@ -143,9 +152,9 @@ fn submitted<J: Naming + Opening>(
 }
 
 /// `COUNT`: so many requests of client 2.
-fn put_all<J: Naming + Opening>(
+fn put_all<A: Application + Drop, J: Naming + Opening>(
     alloc: Global,
-    site: &mut Served<J>,
+    site: &mut Served<A, J>,
     row: &mut Row<'_>,
 ) -> Result<String, RowFault> {
     let count = row.number()?;
@@ -156,7 +165,10 @@ fn put_all<J: Naming + Opening>(
 }
 
 /// How much a site has applied, handed on, and shows.
-fn seen<J: Naming + Opening>(alloc: Global, site: &Served<J>) -> Result<String, RowFault> {
+fn seen<A: Application + Drop, J: Naming + Opening>(
+    alloc: Global,
+    site: &Served<A, J>,
+) -> Result<String, RowFault> {
     let (applied, handed_on, published) = (
         site.applied(),
         site.store.handed_on(),
@@ -166,11 +178,11 @@ fn seen<J: Naming + Opening>(alloc: Global, site: &Served<J>) -> Result<String, 
 }
 
 /// Shows what is pending, again where memory is refused: then nothing may have changed, and the first reader is answered as before.
-fn published<J: Naming + Opening, R: Wait>(
+fn published<A: Application + Drop, J: Naming + Opening, R: Wait>(
     rt: &R,
     alloc: Global,
-    site: &mut Served<J>,
-    readers: &mut Vec<Asked<J>>,
+    site: &mut Served<A, J>,
+    readers: &mut Vec<Asked<A, J>>,
     row: &mut Row<'_>,
 ) -> Result<String, RowFault> {
     for _ in 0..row.tries {
@@ -188,9 +200,9 @@ fn published<J: Naming + Opening, R: Wait>(
 }
 
 /// Whether the first reader is answered over so many values.
-fn is_answered_at<J: Naming + Opening>(
+fn is_answered_at<A: Application + Drop, J: Naming + Opening>(
     alloc: Global,
-    readers: &mut Vec<Asked<J>>,
+    readers: &mut Vec<Asked<A, J>>,
     position: u64,
 ) -> Result<bool, RowFault> {
     match readers.first_mut() {
@@ -212,9 +224,9 @@ fn place(row: &mut Row<'_>) -> Result<usize, RowFault> {
 }
 
 /// `N`: how much a reader has seen once it has learnt of a note.
-fn learnt<J: Naming + Opening>(
+fn learnt<A: Application + Drop, J: Naming + Opening>(
     alloc: Global,
-    readers: &mut Vec<Asked<J>>,
+    readers: &mut Vec<Asked<A, J>>,
     note: Note<J>,
     row: &mut Row<'_>,
 ) -> Result<String, RowFault> {
@@ -226,9 +238,9 @@ fn learnt<J: Naming + Opening>(
 }
 
 /// `N TEXT`: what a reader is answered, who is asked again where memory is refused: then it has seen no less.
-fn asked<J: Naming + Opening>(
+fn asked<A: Application + Drop, J: Naming + Opening>(
     alloc: Global,
-    readers: &mut Vec<Asked<J>>,
+    readers: &mut Vec<Asked<A, J>>,
     row: &mut Row<'_>,
 ) -> Result<String, RowFault> {
     let place = place(row)?;

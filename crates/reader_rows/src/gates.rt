@@ -4,10 +4,10 @@ use super::nodes::LEVEL;
 use super::printing::{answered, read_fault};
 use super::row::Row;
 use super::sites::Asked;
+use applications::Application;
 use ballots::Answer;
 use published::{Gate, Opening, ReadFault, serve};
 use rows::RowFault;
-use sessions::State;
 use sight::Naming;
 use std::alloc::Global;
 use std::sync::atomic::{AtomicU64, Ordering};
@@ -55,14 +55,18 @@ impl Gate for Pair {
 }
 
 /// A reader that was served, its answers with the number of values that each is over, and the fault that ended it.
-type Served<J> = (Asked<J>, Vec<(Answer, u64)>, Option<ReadFault>);
+type Answered<A, J> = (Asked<A, J>, Vec<(Answer, u64)>, Option<ReadFault>);
 
 /// `TEXT`: what both readers are answered, each in a thread of its own, and whether the first has seen that the second has answered. Where memory is refused
 /// both are asked again.
-pub(super) fn together<J: Naming + Opening + Send + Sync, R: Threads + Sync>(
+pub(super) fn together<
+    A: Application + Drop + Send + Sync,
+    J: Naming + Opening + Send + Sync,
+    R: Threads + Sync,
+>(
     rt: &R,
     alloc: Global,
-    readers: &mut Vec<Asked<J>>,
+    readers: &mut Vec<Asked<A, J>>,
     row: &mut Row<'_>,
 ) -> Result<String, RowFault> {
     let asks = [(LEVEL, row.words.text(alloc)?)];
@@ -86,9 +90,9 @@ pub(super) fn together<J: Naming + Opening + Send + Sync, R: Threads + Sync>(
 }
 
 /// `TEXT`: the same, where both are asked in one thread, the first one first.
-pub(super) fn in_turn<J: Naming + Opening>(
+pub(super) fn in_turn<A: Application + Drop, J: Naming + Opening>(
     alloc: Global,
-    readers: &mut Vec<Asked<J>>,
+    readers: &mut Vec<Asked<A, J>>,
     row: &mut Row<'_>,
 ) -> Result<String, RowFault> {
     let asks = [(LEVEL, row.words.text(alloc)?)];
@@ -101,9 +105,9 @@ pub(super) fn in_turn<J: Naming + Opening>(
 }
 
 /// Both readers. Fault: `NotARow` where there are not two.
-fn pair<J: Naming + Opening>(
-    readers: &mut Vec<Asked<J>>,
-) -> Result<(Asked<J>, Asked<J>), RowFault> {
+fn pair<A: Application + Drop, J: Naming + Opening>(
+    readers: &mut Vec<Asked<A, J>>,
+) -> Result<(Asked<A, J>, Asked<A, J>), RowFault> {
     if readers.len() != 2 {
         return Err(RowFault::NotARow);
     }
@@ -114,11 +118,11 @@ fn pair<J: Naming + Opening>(
 }
 
 /// What both readers were answered, who are put back.
-fn both<J: Naming + Opening>(
+fn both<A: Application + Drop, J: Naming + Opening>(
     alloc: Global,
-    readers: &mut Vec<Asked<J>>,
-    first: Served<J>,
-    second: Served<J>,
+    readers: &mut Vec<Asked<A, J>>,
+    first: Answered<A, J>,
+    second: Answered<A, J>,
 ) -> Result<String, RowFault> {
     let (one, answers, fault) = first;
     let (two, others, other_fault) = second;

@@ -26,6 +26,7 @@ mod watching;
 
 use row::Row;
 use rows::{Answers, RowFault, Words, run_table};
+use sessions::State;
 use std::alloc::Global;
 use std::process::ExitCode;
 use std::sync::Wait;
@@ -54,7 +55,7 @@ impl<R: Threads + Wait + Sync> Answers for ReaderRows<'_, R> {
             _ => return Err(RowFault::NotARow),
         };
         let mut row = Row::new(alloc, words, tries);
-        sites::played(self.rt, alloc, &mut row)?;
+        sites::played::<State, R>(self.rt, alloc, &mut row)?;
         row.ended()
     }
 }

@@ -1,5 +1,6 @@
 //! The node of a group of one member, and the bytes that come to it.
 
+use applications::Application;
 use ballots::{Request, RequestFault, Setup, SetupFault};
 use clients::request;
 use document_names::NamesFault;
@@ -7,7 +8,6 @@ use line_parts::read_names;
 use node::Node;
 use records::MemRecords;
 use rows::RowFault;
-use sessions::State;
 use std::alloc::Global;
 
 /// The group, and the language level of its requests and questions.
@@ -18,8 +18,8 @@ pub(super) const LEVEL: u8 = 1;
 /// The question that is answered by the number that was written last, and so by the position at which that was.
 pub(super) const WRITTEN: &str = "string(doc(\"db\")/a/@k)";
 
-/// A node over the application's state.
-pub(super) type Held = Node<MemRecords, State>;
+/// A node over an application's state, whose records are in memory.
+pub(super) type Held<A> = Node<MemRecords, A>;
 
 /// What the node is told when it is set up.
 fn setup(alloc: Global) -> Result<Setup, RowFault> {
@@ -36,7 +36,7 @@ fn setup(alloc: Global) -> Result<Setup, RowFault> {
 }
 
 /// A node that has never done anything.
-pub(super) fn opened(alloc: Global) -> Result<Held, RowFault> {
+pub(super) fn opened<A: Application + Drop>(alloc: Global) -> Result<Held<A>, RowFault> {
     match Node::open(alloc, setup(alloc)?, MemRecords::new(alloc)) {
         Ok(node) => Ok(node),
         Err(_) => Err(RowFault::Memory),

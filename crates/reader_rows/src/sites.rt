@@ -5,12 +5,12 @@ ghost use Rattle.std.specs.Prelude.{◌≡◌};
 use super::calls::{all_asked, all_called};
 use super::nodes::{Held, opened};
 use super::row::Row;
+use applications::Application;
 use ballots::Value;
 use published::{Opening, Reader};
 use readers::{Site, SiteFault, SiteOver};
 use records::MemRecords;
 use rows::RowFault;
-use sessions::State;
 use sight::{Naming, Opened};
 use std::alloc::Global;
 use std::marker::Brand;
@@ -20,26 +20,26 @@ use std::thread::Threads;
 /// How many sites a row opens at most.
 const MOST_SITES: u32 = 1_000;
 
-/// A site of a node over the application's state.
-pub(super) type Served<J> = Site<MemRecords, State, J>;
+/// A site of a node over an application's state.
+pub(super) type Served<A, J> = Site<MemRecords, A, J>;
 
 /// A reader of such a site.
-pub(super) type Asked<J> = Reader<State, J>;
+pub(super) type Asked<A, J> = Reader<A, J>;
 
 /// Plays a row: opens sites over a node that has never done anything, one after the other, and makes the calls of each.
-pub(super) fn played<R: Threads + Wait + Sync>(
+pub(super) fn played<A: Application + Drop + Send + Sync, R: Threads + Wait + Sync>(
     rt: &R,
     alloc: Global,
     row: &mut Row<'_>,
 ) -> Result<(), RowFault> {
-    all_opened(rt, alloc, opened(alloc)?, row)
+    all_opened(rt, alloc, opened::<A>(alloc)?, row)
 }
 
 /// Opens the sites of a row over a node.
-fn all_opened<R: Threads + Wait + Sync>(
+fn all_opened<A: Application + Drop + Send + Sync, R: Threads + Wait + Sync>(
     rt: &R,
     alloc: Global,
-    node: Held,
+    node: Held<A>,
     row: &mut Row<'_>,
 ) -> Result<(), RowFault> {
     let mut node = node;
@@ -64,17 +64,17 @@ fn readers_of(row: &mut Row<'_>) -> Result<u32, RowFault> {
 }
 
 /// Opens the next site, again where memory is refused, and makes its calls. Gives the node back.
-fn next_opened<R: Threads + Wait + Sync>(
+fn next_opened<A: Application + Drop + Send + Sync, R: Threads + Wait + Sync>(
     rt: &R,
     alloc: Global,
-    node: Held,
+    node: Held<A>,
     readers: u32,
     row: &mut Row<'_>,
-) -> (Held, Result<(), RowFault>) {
+) -> (Held<A>, Result<(), RowFault>) {
     let mut node = node;
     for _ in 0..row.tries {
         let applied = node.applied();
-        let (back, done) = over::<Brand, R>(rt, alloc, Opened::new(), node, readers, row);
+        let (back, done) = over::<A, Brand, R>(rt, alloc, Opened::new(), node, readers, row);
         node = back;
         match done {
             Ok(None) => return (node, Ok(())),
@@ -94,14 +94,18 @@ fn next_opened<R: Threads + Wait + Sync>(
 }
 
 /// Opens a site over a node, makes its calls, ends it, and asks its readers then. Gives the node back, and why no site was opened, if none was.
-fn over<J: Naming + Opening + Send + Sync, R: Threads + Wait + Sync>(
+fn over<
+    A: Application + Drop + Send + Sync,
+    J: Naming + Opening + Send + Sync,
+    R: Threads + Wait + Sync,
+>(
     rt: &R,
     alloc: Global,
     opened: Opened<Value>,
-    node: Held,
+    node: Held<A>,
     readers: u32,
     row: &mut Row<'_>,
-) -> (Held, Result<Option<SiteFault>, RowFault>)
+) -> (Held<A>, Result<Option<SiteFault>, RowFault>)
     requires list { opened ≡ J.book }
     requires names { node.setup.names ≡ J.names }
 {
@@ -119,10 +123,10 @@ fn over<J: Naming + Opening + Send + Sync, R: Threads + Wait + Sync>(
 }
 
 /// Asks the readers of a site that was ended, where its calls were well.
-fn ended<J: Naming + Opening>(
+fn ended<A: Application + Drop, J: Naming + Opening>(
     alloc: Global,
     called: Result<(), RowFault>,
-    readers: &mut Vec<Asked<J>>,
+    readers: &mut Vec<Asked<A, J>>,
     row: &mut Row<'_>,
 ) -> Result<Option<SiteFault>, RowFault> {
     called?;

@@ -4,6 +4,7 @@ use super::nodes::writing_bytes;
 use super::printing::node_fault;
 use super::row::Row;
 use super::sites::Served;
+use applications::Application;
 use member::{Target, Tick};
 use node::{NodeFault, Outbox, Sent};
 use published::Opening;
@@ -28,7 +29,7 @@ pub(super) struct Shows {
 }
 
 /// What shows of a site.
-pub(super) fn shows<J: Naming + Opening>(site: &Served<J>) -> Shows {
+pub(super) fn shows<A: Application + Drop, J: Naming + Opening>(site: &Served<A, J>) -> Shows {
     Shows {
         applied: site.applied(),
         prefix: site.prefix(),
@@ -38,9 +39,9 @@ pub(super) fn shows<J: Naming + Opening>(site: &Served<J>) -> Shows {
 }
 
 /// How much a site has applied, or a fault.
-pub(super) fn given<J: Naming + Opening>(
+pub(super) fn given<A: Application + Drop, J: Naming + Opening>(
     alloc: Global,
-    site: &Served<J>,
+    site: &Served<A, J>,
     fault: Option<NodeFault>,
 ) -> Result<String, RowFault> {
     match fault {
@@ -53,9 +54,9 @@ pub(super) fn given<J: Naming + Opening>(
 }
 
 /// Hands a site a request that writes the number of the next position. Where memory was refused and it isn't applied and handed on, a resend makes up for it.
-pub(super) fn put<J: Naming + Opening>(
+pub(super) fn put<A: Application + Drop, J: Naming + Opening>(
     alloc: Global,
-    site: &mut Served<J>,
+    site: &mut Served<A, J>,
     row: &mut Row<'_>,
 ) -> Result<(), RowFault> {
     let number = u64::from(site.applied()) + 1;
@@ -74,9 +75,9 @@ pub(super) fn put<J: Naming + Opening>(
 }
 
 /// Hands a site an input, and then all that it sends to itself, in order. Gives the fault of the input, if it has one.
-pub(super) fn step<J: Naming + Opening>(
+pub(super) fn step<A: Application + Drop, J: Naming + Opening>(
     alloc: Global,
-    site: &mut Served<J>,
+    site: &mut Served<A, J>,
     input: Input<'_>,
     row: &mut Row<'_>,
 ) -> Result<Option<NodeFault>, RowFault> {
@@ -94,9 +95,9 @@ pub(super) fn step<J: Naming + Opening>(
 
 /// Hands a site an input, again where memory is refused: then nothing may have changed. Keeps the messages to itself, and gives the fault of the input, if it has
 /// one.
-fn hand<J: Naming + Opening>(
+fn hand<A: Application + Drop, J: Naming + Opening>(
     alloc: Global,
-    site: &mut Served<J>,
+    site: &mut Served<A, J>,
     input: Input<'_>,
     own: &mut Vec<Vec<u8>>,
     row: &mut Row<'_>,

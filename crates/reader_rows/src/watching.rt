@@ -5,6 +5,7 @@ use super::printing::said;
 use super::row::Row;
 use super::sites::{Asked, Served};
 use super::steps::put;
+use applications::Application;
 use node::Reading;
 use published::{Board, Opening, ReadFault};
 use rows::RowFault;
@@ -80,25 +81,29 @@ impl<T: Drop> From<AllocFailed<T>> for Wrong {
 }
 
 /// A reader that has asked, and what it was answered.
-type Watched<J> = (Asked<J>, Result<Answers, Wrong>);
+type Watched<A, J> = (Asked<A, J>, Result<Answers, Wrong>);
 
 /// `COUNT`: so many requests are put and published, each in turn, while all readers ask. Gives whether each had come halfway when half of them were
 /// published; and of each reader, whether each answer was the one that the node gave at its position, and none over fewer values than one before,
 /// and where it is answered in the end.
-pub(super) fn beside<J: Naming + Opening + Send + Sync, R: Threads + Wait + Sync>(
+pub(super) fn beside<
+    A: Application + Drop + Send + Sync,
+    J: Naming + Opening + Send + Sync,
+    R: Threads + Wait + Sync,
+>(
     rt: &R,
     alloc: Global,
-    site: &mut Served<J>,
-    readers: &mut Vec<Asked<J>>,
+    site: &mut Served<A, J>,
+    readers: &mut Vec<Asked<A, J>>,
     is_told: bool,
     row: &mut Row<'_>,
 ) -> Result<String, RowFault> {
     let count = row.number()?;
-    let first = site.published();
+    let first = site.publish(rt)?;
     let watch = Watch {
         board: Mutex::new(site.board()),
         is_done: AtomicU64::new(0),
-        halfway: first + u64::from(count / 2),
+        halfway: first.saturating_add(u64::from(count / 2)),
         have_come: AtomicU64::new(0),
         is_told,
     };
@@ -109,27 +114,14 @@ pub(super) fn beside<J: Naming + Opening + Send + Sync, R: Threads + Wait + Sync
         || map_vec(rt, asked, &|reader| watched(rt, alloc, reader, &watch)),
         || taken(rt, alloc, site, (count, many), &watch, row),
     );
-    let taken = taken?;
-    let mut said = String::from_str(
-        alloc,
-        if taken.is_halfway {
-            "all halfway"
-        } else {
-            "not all halfway"
-        },
-    )?;
-    for watched in watched? {
-        let told = compared(alloc, site, watched, first, &taken.expected, readers)?;
-        said.push_str(&told)?;
-    }
-    Ok(said)
+    all_compared(alloc, site, watched?, &taken?, first, readers)
 }
 
 /// Takes all requests, and says then that all were taken, whatever came of it.
-fn taken<J: Naming + Opening, R: Wait>(
+fn taken<A: Application + Drop, J: Naming + Opening, R: Wait>(
     rt: &R,
     alloc: Global,
-    site: &mut Served<J>,
+    site: &mut Served<A, J>,
     (count, readers): (u32, u64),
     watch: &Watch<J>,
     row: &mut Row<'_>,
@@ -140,10 +132,10 @@ fn taken<J: Naming + Opening, R: Wait>(
 }
 
 /// Takes so many requests, and waits for so many readers when half of them are published.
-fn take_all<J: Naming + Opening, R: Wait>(
+fn take_all<A: Application + Drop, J: Naming + Opening, R: Wait>(
     rt: &R,
     alloc: Global,
-    site: &mut Served<J>,
+    site: &mut Served<A, J>,
     (count, readers): (u32, u64),
     watch: &Watch<J>,
     row: &mut Row<'_>,
@@ -165,10 +157,10 @@ fn take_all<J: Naming + Opening, R: Wait>(
 }
 
 /// Takes the next request, and publishes it.
-fn take<J: Naming + Opening, R: Wait>(
+fn take<A: Application + Drop, J: Naming + Opening, R: Wait>(
     rt: &R,
     alloc: Global,
-    site: &mut Served<J>,
+    site: &mut Served<A, J>,
     watch: &Watch<J>,
     row: &mut Row<'_>,
 ) -> Result<(), RowFault> {
@@ -179,7 +171,10 @@ fn take<J: Naming + Opening, R: Wait>(
 }
 
 /// What a site's node answers.
-fn written<J: Naming + Opening>(alloc: Global, site: &Served<J>) -> Result<String, RowFault> {
+fn written<A: Application + Drop, J: Naming + Opening>(
+    alloc: Global,
+    site: &Served<A, J>,
+) -> Result<String, RowFault> {
     match site.node().answer(alloc, 0, LEVEL, WRITTEN) {
         Ok(Reading::At(_, answer)) => Ok(said(alloc, answer)?),
         Ok(Reading::Behind(_)) => Err(RowFault::NotARow),
@@ -188,12 +183,12 @@ fn written<J: Naming + Opening>(alloc: Global, site: &Served<J>) -> Result<Strin
 }
 
 /// A reader asks until all requests are taken, and once more then.
-fn watched<J: Naming + Opening, R: Wait>(
+fn watched<A: Application + Drop, J: Naming + Opening, R: Wait>(
     rt: &R,
     alloc: Global,
-    reader: Asked<J>,
+    reader: Asked<A, J>,
     watch: &Watch<J>,
-) -> Watched<J> {
+) -> Watched<A, J> {
     let mut reader = reader;
     let mut answers = Vec::new(alloc);
     for _ in 0..u64::MAX {
@@ -210,10 +205,10 @@ fn watched<J: Naming + Opening, R: Wait>(
 }
 
 /// A reader asks once.
-fn look<J: Naming + Opening, R: Wait>(
+fn look<A: Application + Drop, J: Naming + Opening, R: Wait>(
     rt: &R,
     alloc: Global,
-    reader: &mut Asked<J>,
+    reader: &mut Asked<A, J>,
     watch: &Watch<J>,
     answers: &mut Answers,
 ) -> Result<(), Wrong> {
@@ -229,12 +224,20 @@ fn look<J: Naming + Opening, R: Wait>(
     if position < seen {
         return Err(Wrong::Back);
     }
-    let had_come = answers.last().is_some_and(|(at, _)| *at >= watch.halfway);
+    let had_come = has_come(answers, watch.halfway);
     keep(answers, position, said(alloc, answer)?)?;
     if !had_come && position >= watch.halfway {
         watch.have_come.fetch_add(1, Ordering::SeqCst);
     }
     Ok(())
+}
+
+/// Whether there is an answer at that position or later.
+fn has_come(answers: &Answers, halfway: u64) -> bool {
+    match answers.last() {
+        Some((at, _)) => *at >= halfway,
+        None => false,
+    }
 }
 
 /// Keeps an answer, where there is none at its position yet; else it is to be the same.
@@ -265,14 +268,36 @@ fn unlike(answers: &Answers, first: u64, expected: &[String]) -> Option<Wrong> {
     None
 }
 
-/// How a reader was answered, and at which position it is once it has learnt of what is shown. It is put back to the others.
-fn compared<J: Naming + Opening>(
+/// Whether all readers had come halfway, and then how each was answered. They are put back.
+fn all_compared<A: Application + Drop, J: Naming + Opening>(
     alloc: Global,
-    site: &Served<J>,
-    (reader, answers): Watched<J>,
+    site: &Served<A, J>,
+    watched: Vec<Watched<A, J>>,
+    taken: &Taken,
+    first: u64,
+    readers: &mut Vec<Asked<A, J>>,
+) -> Result<String, RowFault> {
+    let halfway = if taken.is_halfway {
+        "all halfway"
+    } else {
+        "not all halfway"
+    };
+    let mut said = String::from_str(alloc, halfway)?;
+    for one in watched {
+        let told = compared(alloc, site, one, first, &taken.expected, readers)?;
+        said.push_str(&told)?;
+    }
+    Ok(said)
+}
+
+/// How a reader was answered, and at which position it is once it has learnt of what is shown. It is put back to the others.
+fn compared<A: Application + Drop, J: Naming + Opening>(
+    alloc: Global,
+    site: &Served<A, J>,
+    (reader, answers): Watched<A, J>,
     first: u64,
     expected: &[String],
-    readers: &mut Vec<Asked<J>>,
+    readers: &mut Vec<Asked<A, J>>,
 ) -> Result<String, RowFault> {
     let mut reader = reader;
     let wrong = match answers {
