@@ -5,7 +5,7 @@ use super::nodes::{LEVEL, request_bytes};
 use super::printing::{answered, read_fault};
 use super::row::Row;
 use super::sites::{Asked, Served};
-use super::steps::{given, put, shows, step};
+use super::steps::{given, put, step, what_shows};
 use super::watching::beside;
 use applications::Application;
 use member::Tick;
@@ -186,11 +186,13 @@ fn published<A: Application + Drop, J: Naming + Opening, R: Wait>(
     row: &mut Row<'_>,
 ) -> Result<String, RowFault> {
     for _ in 0..row.tries {
-        let before = shows(site);
+        let before = what_shows(site);
         match site.publish(rt) {
             Ok(position) => return Ok(format!(in alloc; "shows {position}")?),
             Err(_) => {
-                if shows(site) != before || !is_answered_at(alloc, readers, site.published())? {
+                if what_shows(site) != before
+                    || !is_answered_at(alloc, readers, site.published())?
+                {
                     row.is_changed = true;
                 }
             }

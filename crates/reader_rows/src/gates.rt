@@ -73,7 +73,7 @@ pub(super) fn together<
     for left in 0..row.tries {
         let is_last = left + 1 == row.tries;
         let gate = Pair::new();
-        let (one, two) = pair(readers)?;
+        let (one, two) = both_of(readers)?;
         // the second is asked in the new thread: where none can be made, it is asked last
         let (second, first) = join(
             rt,
@@ -97,7 +97,7 @@ pub(super) fn in_turn<A: Application + Drop, J: Naming + Opening>(
 ) -> Result<String, RowFault> {
     let asks = [(LEVEL, row.words.text(alloc)?)];
     let gate = Pair::new();
-    let (one, two) = pair(readers)?;
+    let (one, two) = both_of(readers)?;
     let first = serve(one, alloc, &asks, &gate);
     let second = serve(two, alloc, &asks, &gate);
     let said = both(alloc, readers, first, second)?;
@@ -105,7 +105,7 @@ pub(super) fn in_turn<A: Application + Drop, J: Naming + Opening>(
 }
 
 /// Both readers. Fault: `NotARow` where there are not two.
-fn pair<A: Application + Drop, J: Naming + Opening>(
+fn both_of<A: Application + Drop, J: Naming + Opening>(
     readers: &mut Vec<Asked<A, J>>,
 ) -> Result<(Asked<A, J>, Asked<A, J>), RowFault> {
     if readers.len() != 2 {

@@ -109,7 +109,7 @@ fn over<
     requires list { opened ≡ J.book }
     requires names { node.setup.names ≡ J.names }
 {
-    match Served::<J>::new(alloc, opened, node, readers) {
+    match Served::<A, J>::new(alloc, opened, node, readers) {
         Ok((site, readers)) => {
             let mut site = site;
             let mut readers = readers;

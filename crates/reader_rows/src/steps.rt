@@ -29,7 +29,7 @@ pub(super) struct Shows {
 }
 
 /// What shows of a site.
-pub(super) fn shows<A: Application + Drop, J: Naming + Opening>(site: &Served<A, J>) -> Shows {
+pub(super) fn what_shows<A: Application + Drop, J: Naming + Opening>(site: &Served<A, J>) -> Shows {
     Shows {
         applied: site.applied(),
         prefix: site.prefix(),
@@ -103,14 +103,14 @@ fn hand<A: Application + Drop, J: Naming + Opening>(
     row: &mut Row<'_>,
 ) -> Result<Option<NodeFault>, RowFault> {
     for _ in 0..row.tries {
-        let before = shows(site);
+        let before = what_shows(site);
         match site.turn(alloc, input) {
             Ok(outbox) => {
                 keep_own(own, &outbox)?;
                 return Ok(None);
             }
             Err(NodeFault::Memory) => {
-                if shows(site) != before {
+                if what_shows(site) != before {
                     row.is_changed = true;
                 }
             }

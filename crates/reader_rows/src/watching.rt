@@ -112,13 +112,13 @@ pub(super) fn beside<
     let (watched, taken) = join(
         rt,
         || map_vec(rt, asked, &|reader| watched(rt, alloc, reader, &watch)),
-        || taken(rt, alloc, site, (count, many), &watch, row),
+        || take_beside(rt, alloc, site, (count, many), &watch, row),
     );
     all_compared(alloc, site, watched?, &taken?, first, readers)
 }
 
 /// Takes all requests, and says then that all were taken, whatever came of it.
-fn taken<A: Application + Drop, J: Naming + Opening, R: Wait>(
+fn take_beside<A: Application + Drop, J: Naming + Opening, R: Wait>(
     rt: &R,
     alloc: Global,
     site: &mut Served<A, J>,
