@@ -193,47 +193,60 @@ module _ {R A D : Type 0} (has_applied : List (List ℕ) → List Value → A �
 
     module _ (stands : R → Record → Record → Type 0) (is_kept : R → Type 0) where
       -- the node stopped at once
-      pub halts_at_once : (x z : Server R A D) (v w : W) → Halts has_applied app failed stands is_kept x.seat z.seat → ((ds : List (Carried D)) → was_given v ds → was_given w ds) → Halted has_applied app failed eq was_given has_brought stands is_kept x z v w
-      halts_at_once x z v w halts silent = record { last = x; wire = v; deeds = []; brought = []; goes = goes_none x v; halts = halts; silent = silent }
+      pub halts_at_once : (x z : Server R A D) (v w : W) → Halts has_applied app failed stands is_kept x.seat z.seat → ((ds : List (Carried D)) → was_given v ds → was_given w ds) → ((ds : List (Carried D)) → has_brought v ds → has_brought w ds) → Halted has_applied app failed eq was_given has_brought stands is_kept [] x z v w
+      halts_at_once x z v w halts silent idle = record { last = x; wire = v; deeds = []; goes = goes_none x v; halts = halts; silent = silent; idle = idle }
 
       -- it went on, and then until it stopped
-      pub halts_after : (x y z : Server R A D) (v w u : W) (ds : List (Deed D)) (bs : List (Carried D)) → Goes has_applied app failed eq was_given has_brought x y v w ds bs → Halted has_applied app failed eq was_given has_brought stands is_kept y z w u → Halted has_applied app failed eq was_given has_brought stands is_kept x z v u
-      halts_after x y z v w u ds bs first h = record {
+      pub halts_after : (x y z : Server R A D) (v w u : W) (ds : List (Deed D)) (bs cs : List (Carried D)) → Goes has_applied app failed eq was_given has_brought x y v w ds bs → Halted has_applied app failed eq was_given has_brought stands is_kept cs y z w u → Halted has_applied app failed eq was_given has_brought stands is_kept (bs ++ cs) x z v u
+      halts_after x y z v w u ds bs cs first h = record {
         last = h.last;
         wire = h.wire;
         deeds = ds ++ h.deeds;
-        brought = bs ++ h.brought;
-        goes = goes_both x y h.last v w h.wire ds h.deeds bs h.brought first h.goes;
+        goes = goes_both x y h.last v w h.wire ds h.deeds bs cs first h.goes;
         halts = h.halts;
         silent = h.silent;
+        idle = h.idle;
       }
 
       -- the same, by whatever deeds
-      pub halts_later : (fs : List (Deed D)) (cs bs : List (Carried D)) (x y z : Server R A D) (v w u : W) → GoesOn has_applied app failed eq was_given has_brought fs cs bs x y v w → Halted has_applied app failed eq was_given has_brought stands is_kept y z w u → Halted has_applied app failed eq was_given has_brought stands is_kept x z v u
-      halts_later fs cs bs x y z v w u first h = halts_after x y z v w u (fs ++ first.0) bs first.2 h
+      pub halts_later : (fs : List (Deed D)) (cs bs es : List (Carried D)) (x y z : Server R A D) (v w u : W) → GoesOn has_applied app failed eq was_given has_brought fs cs bs x y v w → Halted has_applied app failed eq was_given has_brought stands is_kept es y z w u → Halted has_applied app failed eq was_given has_brought stands is_kept (bs ++ es) x z v u
+      halts_later fs cs bs es x y z v w u first h = halts_after x y z v w u (fs ++ first.0) bs es first.2 h
 
       -- the one, and then the other as far as it went
       pub went_both : {T : Type 0} (r : Result T ServeFault) (fs : List (Deed D)) (cs ds bs es : List (Carried D)) (x y z : Server R A D) (v w u : W)
           → GoesOn has_applied app failed eq was_given has_brought fs cs bs x y v w → Went has_applied app failed eq was_given has_brought stands is_kept r [] ds es y z w u → Went has_applied app failed eq was_given has_brought stands is_kept r fs (cs ++ ds) (bs ++ es) x z v u
       went_both (Ok t) fs cs ds bs es x y z v w u first second = on_both fs cs ds bs es x y z v w u first second
-      went_both (Err e) fs cs ds bs es x y z v w u first second = halts_later fs cs bs x y z v w u first second
+      went_both (Err e) fs cs ds bs es x y z v w u first second = halts_later fs cs bs es x y z v w u first second
 
       -- it stopped, and that is the result
-      pub went_err : {T : Type 0} (r : Result T ServeFault) (fs : List (Deed D)) (cs bs : List (Carried D)) (x z : Server R A D) (v w : W) → IsErr r → Halted has_applied app failed eq was_given has_brought stands is_kept x z v w → Went has_applied app failed eq was_given has_brought stands is_kept r fs cs bs x z v w
+      pub went_err : {T : Type 0} (r : Result T ServeFault) (fs : List (Deed D)) (cs bs : List (Carried D)) (x z : Server R A D) (v w : W) → IsErr r → Halted has_applied app failed eq was_given has_brought stands is_kept bs x z v w → Went has_applied app failed eq was_given has_brought stands is_kept r fs cs bs x z v w
       went_err (Ok t) fs cs bs x z v w is h = absurd (let e : false ≡ true = is in cc)
       went_err (Err e) fs cs bs x z v w is h = h
 
       -- the same of what the wire brings
-      pub passed_err : {T : Type 0} (r : Result T ServeFault) (x z : Server R A D) (v w : W) → IsErr r → Halted has_applied app failed eq was_given has_brought stands is_kept x z v w → Passed has_applied app failed eq was_given has_brought stands is_kept r x z v w
-      passed_err (Ok t) x z v w is h = absurd (let e : false ≡ true = is in cc)
-      passed_err (Err e) x z v w is h = h
+      pub passed_err : {T : Type 0} (r : Result T ServeFault) (bs : List (Carried D)) (x z : Server R A D) (v w : W) → IsErr r → Halted has_applied app failed eq was_given has_brought stands is_kept bs x z v w → Passed has_applied app failed eq was_given has_brought stands is_kept r x z v w
+      passed_err (Ok t) bs x z v w is h = absurd (let e : false ≡ true = is in cc)
+      passed_err (Err e) bs x z v w is h = (bs, h)
 
       -- the one, and then the other as far as it went
       pub passed_both : {T : Type 0} (r : Result T ServeFault) (x y z : Server R A D) (v w u : W) (cs : List (Carried D)) → GoesOn has_applied app failed eq was_given has_brought [] cs cs x y v w → Passed has_applied app failed eq was_given has_brought stands is_kept r y z w u → Passed has_applied app failed eq was_given has_brought stands is_kept r x z v u
       passed_both (Ok t) x y z v w u cs first second = (cs ++ second.0, on_both [] cs second.0 cs second.0 x y z v w u first second.1)
-      passed_both (Err e) x y z v w u cs first second = halts_later [] cs cs x y z v w u first second
+      passed_both (Err e) x y z v w u cs first second = (cs ++ second.0, halts_later [] cs cs second.0 x y z v w u first second.1)
 
       -- just that was done, and nothing came
       pub went_by : {T : Type 0} (r : Result T ServeFault) (ds : List (Deed D)) (x y : Server R A D) (v w : W) → came_by ds ≡ [] → WentBy has_applied app failed eq was_given has_brought stands is_kept r ds x y v w → Went has_applied app failed eq was_given has_brought stands is_kept r [] [] [] x y v w
       went_by (Ok t) ds x y v w none h = on_any ds [] [] x y v w (on_just ds [] x y v w none h)
       went_by (Err e) ds x y v w none h = h
+
+      -- as much as the wire had brought, it has brought still, where it stopped at once
+      halted_keeps : (x z : Server R A D) (v w : W) → Halted has_applied app failed eq was_given has_brought stands is_kept [] x z v w → (ds : List (Carried D)) → has_brought v ds → has_brought w ds
+      halted_keeps x z v w h ds b = subst (has_brought w) (append-nil ds) (h.idle (ds ++ []) ((h.goes x.waiting (λ d has. has)).brings ds b))
+
+      -- the wire brought nothing
+      pub went_keeps : {T : Type 0} (r : Result T ServeFault) (fs : List (Deed D)) (cs : List (Carried D)) (x y : Server R A D) (v w : W) → Went has_applied app failed eq was_given has_brought stands is_kept r fs cs [] x y v w → (ds : List (Carried D)) → has_brought v ds → has_brought w ds
+      went_keeps (Ok t) fs cs x y v w h ds b = subst (has_brought w) (append-nil ds) ((h.2 x.waiting (λ d has. has)).brings ds b)
+      went_keeps (Err e) fs cs x y v w h ds b = halted_keeps x y v w h ds b
+
+      pub went_by_keeps : {T : Type 0} (r : Result T ServeFault) (ds : List (Deed D)) (x y : Server R A D) (v w : W) → WentBy has_applied app failed eq was_given has_brought stands is_kept r ds x y v w → (es : List (Carried D)) → has_brought v es → has_brought w es
+      went_by_keeps (Ok t) ds x y v w h es b = subst (has_brought w) (append-nil es) ((h x.waiting (λ d has. has)).brings es b)
+      went_by_keeps (Err e) ds x y v w h es b = halted_keeps x y v w h es b

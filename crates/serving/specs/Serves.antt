@@ -47,27 +47,27 @@ module _ {R A D W : Type 0} (has_applied : List (List ℕ) → List Value → A 
   GoesOn first came brought x y v w = (rest : List (Deed D)) × (came_by (first ++ rest) ≡ came) × Goes x y v w (first ++ rest) brought
 
   module _ (stands : R → Record → Record → Type 0) (is_kept : R → Type 0) where
-    -- The server went on until its node stopped, since its store failed; nothing was given since.
-    pub record Halted (x z : Server R A D) (v w : W) : Type 0 where
+    -- The server went on until its node stopped, since its store failed, and the wire brought these; nothing was given or brought since.
+    pub record Halted (brought : List (Carried D)) (x z : Server R A D) (v w : W) : Type 0 where
       pub last : Server R A D
       pub wire : W
       pub deeds : List (Deed D)
-      pub brought : List (Carried D)
       pub goes : Goes x last v wire deeds brought
       pub halts : Halts has_applied app failed stands is_kept last.seat z.seat
       pub silent : (ds : List (Carried D)) → was_given wire ds → was_given w ds
+      pub idle : (ds : List (Carried D)) → has_brought wire ds → has_brought w ds
 
     -- the server went on, by these deeds first, or until its node stopped
     abbrev pub Went : {T : Type 0} → Result T ServeFault → (first : List (Deed D)) (came brought : List (Carried D)) (x y : Server R A D) (v w : W) → Type 0
     Went (Ok done) first came brought x y v w = GoesOn first came brought x y v w
-    Went (Err fault) first came brought x y v w = Halted x y v w
+    Went (Err fault) first came brought x y v w = Halted brought x y v w
 
     -- the server went on by just these deeds, or until its node stopped
     abbrev pub WentBy : {T : Type 0} → Result T ServeFault → (deeds : List (Deed D)) → (x y : Server R A D) (v w : W) → Type 0
     WentBy (Ok done) deeds x y v w = Goes x y v w deeds []
-    WentBy (Err fault) deeds x y v w = Halted x y v w
+    WentBy (Err fault) deeds x y v w = Halted [] x y v w
 
     -- It went on, and just what the wire brought came to it; or until its node stopped.
     abbrev pub Passed : {T : Type 0} → Result T ServeFault → (x y : Server R A D) (v w : W) → Type 0
     Passed (Ok done) x y v w = (ds : List (Carried D)) × GoesOn [] ds ds x y v w
-    Passed (Err fault) x y v w = Halted x y v w
+    Passed (Err fault) x y v w = (ds : List (Carried D)) × Halted ds x y v w

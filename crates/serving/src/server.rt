@@ -1,8 +1,9 @@
 //! A server: a node that serves over a wire.
 
-ghost use Rattle.std.specs.Prelude.{◌≡◌, false, [], ◌∷◌};
+ghost use Rattle.std.specs.Prelude.{◌≡◌, false, List, [], ◌∷◌};
 ghost use Rattle.serving.specs.Serves.{Passed, Went, WentBy};
 ghost use Rattle.serving.specs.Serving.{Ticked, Took};
+ghost use Rattle.wires.specs.Wires.{Carried};
 
 use super::fault::ServeFault;
 use super::place::Place;
@@ -81,7 +82,8 @@ impl<R: Records + Drop, A: Application + Drop, D: Copy + Eq + Drop> Server<R, A,
         alloc: Global,
         wire: &mut W,
     ) -> Result<(), ServeFault>
-        ensures { WentBy A.has_applied A.meaning R.failed D.eq W.was_given W.has_brought R.stands R.is_kept result (Ticked Tick.Begin ∷ []) self.old self.new wire.old wire.new }
+        ensures went { WentBy A.has_applied A.meaning R.failed D.eq W.was_given W.has_brought R.stands R.is_kept result (Ticked Tick.Begin ∷ []) self.old self.new wire.old wire.new }
+        ensures brought { (ds : List (Carried D)) → W.has_brought wire.old ds → W.has_brought wire.new ds }
     {
         self.state.begin(alloc, wire)
     }
@@ -95,7 +97,8 @@ impl<R: Records + Drop, A: Application + Drop, D: Copy + Eq + Drop> Server<R, A,
         alloc: Global,
         wire: &mut W,
     ) -> Result<(), ServeFault>
-        ensures { Went A.has_applied A.meaning R.failed D.eq W.was_given W.has_brought R.stands R.is_kept result (Ticked Tick.Resend ∷ Ticked Tick.CatchUp ∷ []) [] [] self.old self.new wire.old wire.new }
+        ensures went { Went A.has_applied A.meaning R.failed D.eq W.was_given W.has_brought R.stands R.is_kept result (Ticked Tick.Resend ∷ Ticked Tick.CatchUp ∷ []) [] [] self.old self.new wire.old wire.new }
+        ensures brought { (ds : List (Carried D)) → W.has_brought wire.old ds → W.has_brought wire.new ds }
     {
         self.state.tick(alloc, wire)
     }
@@ -110,7 +113,8 @@ impl<R: Records + Drop, A: Application + Drop, D: Copy + Eq + Drop> Server<R, A,
         arrival: Arrival<D>,
         bytes: &[u8],
     ) -> Result<(), ServeFault>
-        ensures { Went A.has_applied A.meaning R.failed D.eq W.was_given W.has_brought R.stands R.is_kept result (Took (record { end = arrival.end; peer = arrival.from; bytes = bytes.now }) ∷ []) (record { end = arrival.end; peer = arrival.from; bytes = bytes.now } ∷ []) [] self.old self.new wire.old wire.new }
+        ensures went { Went A.has_applied A.meaning R.failed D.eq W.was_given W.has_brought R.stands R.is_kept result (Took (record { end = arrival.end; peer = arrival.from; bytes = bytes.now }) ∷ []) (record { end = arrival.end; peer = arrival.from; bytes = bytes.now } ∷ []) [] self.old self.new wire.old wire.new }
+        ensures brought { (ds : List (Carried D)) → W.has_brought wire.old ds → W.has_brought wire.new ds }
     {
         self.state.take(alloc, wire, arrival, bytes)
     }

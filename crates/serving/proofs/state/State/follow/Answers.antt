@@ -6,7 +6,7 @@ pub returns-in_err-place_waiting : goal.returns-in_err-place_waiting
 returns-in_err-place_waiting g c =
     let r = c.from_residual-in_err-place_waiting in
     went_err {R = g.row.R.Denot} {A = g.row.A.Denot} {D = g.row.D.Denot} g.A.Application.has_applied g.A.Application.meaning g.R.Records.failed g.D.PartialEq.eq {W = g.row.W.Denot} g.W.Wire.was_given g.W.Wire.has_brought g.R.Records.stands g.R.Records.is_kept r.result _ _ _ _ _ _ _ r.ensures.0
-    (halts_later {R = g.row.R.Denot} {A = g.row.A.Denot} {D = g.row.D.Denot} g.A.Application.has_applied g.A.Application.meaning g.R.Records.failed g.D.PartialEq.eq {W = g.row.W.Denot} g.W.Wire.was_given g.W.Wire.has_brought g.R.Records.stands g.R.Records.is_kept [] [] [] _ _ _ _ _ _ c.in_ok-tell_applied.ensures c.in_err-place_waiting.ensures)
+    (halts_later {R = g.row.R.Denot} {A = g.row.A.Denot} {D = g.row.D.Denot} g.A.Application.has_applied g.A.Application.meaning g.R.Records.failed g.D.PartialEq.eq {W = g.row.W.Denot} g.W.Wire.was_given g.W.Wire.has_brought g.R.Records.stands g.R.Records.is_kept [] [] [] [] _ _ _ _ _ _ c.in_ok-tell_applied.ensures c.in_err-place_waiting.ensures)
 
 pub returns-then-saturating_sub-lt-AT_ONCE : goal.returns-then-saturating_sub-lt-AT_ONCE
 returns-then-saturating_sub-lt-AT_ONCE g c = on_both {R = g.row.R.Denot} {A = g.row.A.Denot} {D = g.row.D.Denot} g.A.Application.has_applied g.A.Application.meaning g.R.Records.failed g.D.PartialEq.eq {W = g.row.W.Denot} g.W.Wire.was_given g.W.Wire.has_brought [] [] [] [] [] _ _ _ _ _ _ c.in_ok-tell_applied.ensures c.in_ok-place_waiting.ensures

@@ -11,13 +11,13 @@ pub returns-in_err-tick_once-2 : goal.returns-in_err-tick_once-2
 returns-in_err-tick_once-2 g c =
     let r = c.from_residual-in_err-tick_once-2 in
     went_err {R = g.row.R.Denot} {A = g.row.A.Denot} {D = g.row.D.Denot} g.A.Application.has_applied g.A.Application.meaning g.R.Records.failed g.D.PartialEq.eq {W = g.row.W.Denot} g.W.Wire.was_given g.W.Wire.has_brought g.R.Records.stands g.R.Records.is_kept r.result _ _ _ _ _ _ _ r.ensures.0
-    (halts_after {R = g.row.R.Denot} {A = g.row.A.Denot} {D = g.row.D.Denot} g.A.Application.has_applied g.A.Application.meaning g.R.Records.failed g.D.PartialEq.eq {W = g.row.W.Denot} g.W.Wire.was_given g.W.Wire.has_brought g.R.Records.stands g.R.Records.is_kept _ _ _ _ _ _ _ [] c.in_ok-tick_once.ensures c.in_err-tick_once-2.ensures)
+    (halts_after {R = g.row.R.Denot} {A = g.row.A.Denot} {D = g.row.D.Denot} g.A.Application.has_applied g.A.Application.meaning g.R.Records.failed g.D.PartialEq.eq {W = g.row.W.Denot} g.W.Wire.was_given g.W.Wire.has_brought g.R.Records.stands g.R.Records.is_kept _ _ _ _ _ _ _ [] [] c.in_ok-tick_once.ensures c.in_err-tick_once-2.ensures)
 
 pub returns-in_err-tell_applied : goal.returns-in_err-tell_applied
 returns-in_err-tell_applied g c =
     let r = c.from_residual-in_err-tell_applied in
     went_err {R = g.row.R.Denot} {A = g.row.A.Denot} {D = g.row.D.Denot} g.A.Application.has_applied g.A.Application.meaning g.R.Records.failed g.D.PartialEq.eq {W = g.row.W.Denot} g.W.Wire.was_given g.W.Wire.has_brought g.R.Records.stands g.R.Records.is_kept r.result _ _ _ _ _ _ _ r.ensures.0
-    (halts_after {R = g.row.R.Denot} {A = g.row.A.Denot} {D = g.row.D.Denot} g.A.Application.has_applied g.A.Application.meaning g.R.Records.failed g.D.PartialEq.eq {W = g.row.W.Denot} g.W.Wire.was_given g.W.Wire.has_brought g.R.Records.stands g.R.Records.is_kept _ _ _ _ _ _ _ [] (goes_both {R = g.row.R.Denot} {A = g.row.A.Denot} {D = g.row.D.Denot} g.A.Application.has_applied g.A.Application.meaning g.R.Records.failed g.D.PartialEq.eq {W = g.row.W.Denot} g.W.Wire.was_given g.W.Wire.has_brought _ _ _ _ _ _ _ _ [] [] c.in_ok-tick_once.ensures c.in_ok-tick_once-2.ensures) c.in_err-tell_applied.ensures)
+    (halts_after {R = g.row.R.Denot} {A = g.row.A.Denot} {D = g.row.D.Denot} g.A.Application.has_applied g.A.Application.meaning g.R.Records.failed g.D.PartialEq.eq {W = g.row.W.Denot} g.W.Wire.was_given g.W.Wire.has_brought g.R.Records.stands g.R.Records.is_kept _ _ _ _ _ _ _ [] [] (goes_both {R = g.row.R.Denot} {A = g.row.A.Denot} {D = g.row.D.Denot} g.A.Application.has_applied g.A.Application.meaning g.R.Records.failed g.D.PartialEq.eq {W = g.row.W.Denot} g.W.Wire.was_given g.W.Wire.has_brought _ _ _ _ _ _ _ _ [] [] c.in_ok-tick_once.ensures c.in_ok-tick_once-2.ensures) c.in_err-tell_applied.ensures)
 
 pub returns : goal.returns
 returns g c =

@@ -10,8 +10,8 @@ returns-then-not-has_while_passed g c = ([], on_hearing {R = g.row.R.Denot} {A =
 
 pub returns-in_err-tick : goal.returns-in_err-tick
 returns-in_err-tick g c =
-    passed_err {R = g.row.R.Denot} {A = g.row.A.Denot} {D = g.row.D.Denot} g.A.Application.has_applied g.A.Application.meaning g.R.Records.failed g.D.PartialEq.eq {W = g.row.W.Denot} g.W.Wire.was_given g.W.Wire.has_brought g.R.Records.stands g.R.Records.is_kept c.from_residual.result _ _ _ _ c.from_residual.ensures.0
-    (halts_after {R = g.row.R.Denot} {A = g.row.A.Denot} {D = g.row.D.Denot} g.A.Application.has_applied g.A.Application.meaning g.R.Records.failed g.D.PartialEq.eq {W = g.row.W.Denot} g.W.Wire.was_given g.W.Wire.has_brought g.R.Records.stands g.R.Records.is_kept _ _ _ _ _ _ [] []
+    passed_err {R = g.row.R.Denot} {A = g.row.A.Denot} {D = g.row.D.Denot} g.A.Application.has_applied g.A.Application.meaning g.R.Records.failed g.D.PartialEq.eq {W = g.row.W.Denot} g.W.Wire.was_given g.W.Wire.has_brought g.R.Records.stands g.R.Records.is_kept c.from_residual.result _ _ _ _ _ c.from_residual.ensures.0
+    (halts_after {R = g.row.R.Denot} {A = g.row.A.Denot} {D = g.row.D.Denot} g.A.Application.has_applied g.A.Application.meaning g.R.Records.failed g.D.PartialEq.eq {W = g.row.W.Denot} g.W.Wire.was_given g.W.Wire.has_brought g.R.Records.stands g.R.Records.is_kept _ _ _ _ _ _ [] [] []
     (goes_hearing {R = g.row.R.Denot} {A = g.row.A.Denot} {D = g.row.D.Denot} g.A.Application.has_applied g.A.Application.meaning g.R.Records.failed g.D.PartialEq.eq {W = g.row.W.Denot} g.W.Wire.was_given g.W.Wire.has_brought _ _ _ [] c.has_while_passed.ensures.given (λ ds b. given_none g.W.Wire.has_brought _ ds (c.has_while_passed.ensures.brought ds b))) c.in_err-tick.ensures)
 
 pub returns : goal.returns
