@@ -1,6 +1,6 @@
 //! A member.
 
-ghost use Rattle.std.specs.Prelude.{◌≡◌, ◌<◌, ◌≤◌, ◌⊎◌, ◌↔◌, ℕ, false, true, IfOk, IfErr, OnOk, OnErr, IsErrOf};
+ghost use Rattle.std.specs.Prelude.{◌≡◌, ◌<◌, ◌≤◌, ◌⊎◌, ◌↔◌, ℕ, false, true, is_some, IfOk, IfErr, OnOk, OnErr, IsErrOf};
 ghost use Rattle.paxos.specs.Records.{Record as RecordTerm};
 ghost use Rattle.paxos.specs.Knowledge.{learnt as learnt_at, news, prefix};
 ghost use Rattle.paxos.specs.Step.{Running, may_begin};
@@ -13,6 +13,7 @@ ghost use Rattle.records.specs.Law.{Went};
 ghost use Rattle.acceptor.specs.Steps.{IsAsWas, Stopped};
 ghost use Rattle.ballots.specs.Messages.{Accept, Accepted, CatchUp, Chosen, Prepare, Promise, Submit, body_of, packet, window_of};
 ghost use Rattle.paxos.specs.Application.{Application};
+ghost use Rattle.proposer.specs.Following.{is_followed};
 ghost use Rattle.proposer.specs.Hearing.{IsWindow};
 ghost use Rattle.ballots.specs.Ballot.{below, last_round, most_members};
 ghost use Rattle.ballots.specs.Values.{positions};
@@ -115,6 +116,20 @@ impl<R: Records + Drop> Member<R> {
         ensures { result ≡ self.now.acceptor.kept.promise }
     {
         self.acceptor.promised()
+    }
+
+    /// Whether it leads: it has begun a ballot, and has not yielded to a higher one since.
+    pub fn leads(&self) -> bool
+        ensures { (u : Running) → IsThis u self.now → result ≡ is_some u.leader }
+    {
+        self.proposer.leads().is_some()
+    }
+
+    /// Whether it leads, and a majority of the members has promised its ballot.
+    pub fn is_followed(&self) -> bool
+        ensures { (u : Running) → IsThis u self.now → result ≡ is_followed self.now.members u.heard u.leader }
+    {
+        self.proposer.is_followed()
     }
 
     /// Whether its store has failed, since when nothing may come to it.

@@ -1,3 +1,4 @@
+pub mod Answered
 pub mod Going
 pub mod Spelt
 pub mod SpeltBack

@@ -17,7 +17,7 @@ use Rattle.messages.specs.Reading.{Gives, datagram_read}
 use Rattle.messages.specs.Spelling.{AreInRange, Datagram, Fits, HasFields, spelling}
 use Rattle.node.specs.declared.draft.Draft.{Draft}
 use Rattle.node.specs.declared.fault.NodeFault.{NodeFault}
-use Rattle.node.specs.declared.fault.NodeFault.TheVariants.{Memory, Spent, Store}
+use Rattle.node.specs.declared.fault.NodeFault.TheVariants.{Memory, Spent, Store, Stranger, Wire}
 use Rattle.node.specs.declared.fault.OpenFault.{OpenFault}
 use Rattle.node.specs.declared.fault.OpenFault.TheVariants as opening
 use Rattle.node.specs.declared.outbox.Outbox.{Outbox}
@@ -167,6 +167,12 @@ abbrev pub HasFailed : {R A : Type 0} → (stands : R → Record → Record → 
     → Application → Input → (old new : Node R A) → Type 0
 HasFailed stands is_kept failed has_applied app i old new = (write : Write) × Stopped stands is_kept failed old.member.acceptor new.member.acceptor write
     × ((u : Running) → RunsAs has_applied u old → write ≡ (effect_of app old.setup.members old.setup.member old.member.acceptor.kept u i).write)
+
+-- a fault that a tick may have: no message comes with it
+abbrev pub IsOfTick : NodeFault → Type 0
+IsOfTick (Wire f) = ⊥
+IsOfTick Stranger = ⊥
+IsOfTick fault = Unit {0}
 
 -- how its write went, where it made one: its store failed, or memory was refused
 abbrev pub of_records : {T : Type 0} → Result T NodeFault → Result T RecordsFault

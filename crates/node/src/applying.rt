@@ -2,10 +2,12 @@
 
 ghost use Rattle.std.specs.Prelude.{◌≡◌, ◌<◌, ℕ, suc, List};
 ghost use Rattle.member.specs.Steps.{IsThis};
+ghost use Rattle.node.specs.Answering.{AreAnswers};
 ghost use Rattle.node.specs.Applying.{HasGone, IsAt};
 ghost use Rattle.paxos.specs.Knowledge.{news, prefix};
 ghost use Rattle.paxos.specs.Step.{Running};
 
+use super::answers::Answers;
 use applications::Application;
 use ballots::limits::POSITIONS;
 use member::Member;
@@ -52,17 +54,21 @@ fn apply_next<R: Records + Drop, A: Application + Drop>(
 }
 
 /// Applies what is learnt from the next position on without a gap, while memory is found, and says whether it stopped short for want of it.
+/// What the application answered before is forgotten.
 #[tactic(auto, unfolding(ballots::specs::Values::positions))]
 pub(super) fn apply_learnt<R: Records + Drop, A: Application + Drop>(
     alloc: Global,
     member: &Member<R>,
     application: &mut A,
+    answers: &mut Answers,
 ) -> bool
+    requires answers { AreAnswers A.has_applied A.meaning application.old answers.old.kept.items }
     ensures gone { HasGone A.has_applied member.now application.old application.new result }
+    ensures answers { AreAnswers A.has_applied A.meaning application.new answers.new.kept.items }
 {
     for _turn in 0..POSITIONS {
         match apply_next(alloc, member, application) {
-            Turn::Applied => {}
+            Turn::Applied => answers.forget(),
             Turn::Done => return false,
             Turn::Short => return true,
         }

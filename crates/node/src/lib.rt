@@ -1,6 +1,7 @@
 //! One node of a group: from received bytes to sent bytes, over any records and any application. Nothing here waits, sends or receives.
 #![tactic(auto)]
 
+mod answers;
 mod applying;
 mod draft;
 mod fault;

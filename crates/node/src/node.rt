@@ -1,6 +1,6 @@
 //! A node.
 
-ghost use Rattle.std.specs.Prelude.{◌≡◌, ◌≤◌, ◌⊎◌, ◌↔◌, ℕ, [], false, true, map, IfOk, IfErr, OnErr, OnOk, IsErrOf, None};
+ghost use Rattle.std.specs.Prelude.{◌≡◌, ◌≤◌, ◌⊎◌, ◌↔◌, ℕ, [], false, true, is_some, map, IfOk, IfErr, OnErr, OnOk, IsErrOf, None};
 ghost use Rattle.std.specs.Option.{option_copied};
 ghost use Rattle.acceptor.specs.Drafts.{IsRefused};
 ghost use Rattle.acceptor.specs.Steps.{IsAsWas, Stopped};
@@ -11,15 +11,17 @@ ghost use Rattle.member.specs.Steps.{Input as InputTerm, Hears, IsNew, IsNoQuest
 ghost use Rattle.messages.specs.Reading.{Fails, Gives, datagram_read};
 ghost use Rattle.messages.specs.Spelling.{AreInRange, Datagram, Fits, IsDatagram, spelling};
 ghost use Rattle.messages.specs.declared.fault.WireFault.{WireFault as WireFaultTerm};
-ghost use Rattle.node.specs.Nodes.{AreAll, HasFailed, HasStayed, IsDrafted, IsForClients, IsFrom, IsPlanned, IsSpent, IsStrange, IsUnchanged, Reads, ReadsBack, RunsAs, Steps, of_records, posted, records_fault, spelt};
+ghost use Rattle.node.specs.Nodes.{AreAll, HasFailed, HasStayed, IsDrafted, IsForClients, IsFrom, IsOfTick, IsPlanned, IsSpent, IsStrange, IsUnchanged, Reads, ReadsBack, RunsAs, Steps, of_records, posted, records_fault, spelt};
 ghost use Rattle.paxos.specs.Knowledge.{learnt as learnt_at, news, prefix};
 ghost use Rattle.paxos.specs.Lists.{Has};
 ghost use Rattle.paxos.specs.Records.{Record as RecordTerm, writes, written};
 ghost use Rattle.paxos.specs.Step.{Running, may_begin, values_of};
 ghost use Rattle.paxos.specs.WellFormed.{IsMessage, IsRecord, IsSender};
 ghost use Rattle.paxos.specs.World.{started};
+ghost use Rattle.proposer.specs.Following.{is_followed};
 ghost use Rattle.records.specs.Law.{Went};
 
+use super::answers::Answers;
 use super::applying::apply_learnt;
 use super::draft::Draft;
 use super::fault::{NodeFault, OpenFault};
@@ -40,18 +42,22 @@ pub struct Node<R: Records + Drop, A: Application + Drop> {
     setup: Setup,
     member: Member<R>,
     application: A,
+    /// The latest answers of the application as it is.
+    answers: Answers,
 }
 
 impl<R: Records + Drop, A: Application + Drop> Model for Node<R, A> {
     ghost use Rattle.std.specs.Prelude.{◌≡◌, ◌≤◌};
     ghost use Rattle.ballots.specs.Terms.{IsPlace};
+    ghost use Rattle.node.specs.Answering.{AreAnswers};
     ghost use Rattle.node.specs.Nodes.{Node as NodeTerm};
 
     ghost Value = { NodeTerm R A };
 
     ghost view = { λ x. record { setup = x.setup; member = x.member; application = x.application } };
 
-    ghost invariant = { λ x. (x.member.members ≡ x.setup.members) × (x.member.number ≡ x.setup.member) × IsPlace x.setup.member x.setup.members };
+    ghost invariant = { λ x. (x.member.members ≡ x.setup.members) × (x.member.number ≡ x.setup.member) × IsPlace x.setup.member x.setup.members
+        × AreAnswers A.has_applied A.meaning x.application x.answers.kept.items };
 }
 
 /// Why a node does not open over records that are refused.
@@ -95,6 +101,7 @@ impl<R: Records + Drop, A: Application + Drop> Node<R, A> {
                 setup,
                 member,
                 application,
+                answers: Answers::new(alloc),
             }),
             Err((fault, records)) => Err((open_fault(fault), setup, records)),
         }
@@ -231,8 +238,9 @@ impl<R: Records + Drop, A: Application + Drop> Node<R, A> {
     }
 
     /// What comes of a question: its answer, or how far the node is where that is less than the floor.
-    fn draft_question(&self, alloc: Global, ask: &Ask) -> Result<MemberDraft, NodeFault>
-        ensures planned { IfOk result (λ d. IsPlanned A.has_applied (A.meaning self.now.setup.names) (Hears (packet_of 0 (Asks ask.now) self.now.setup.member)) self.now d) }
+    fn draft_question(&mut self, alloc: Global, ask: &Ask) -> Result<MemberDraft, NodeFault>
+        ensures planned { IfOk result (λ d. IsPlanned A.has_applied (A.meaning self.old.setup.names) (Hears (packet_of 0 (Asks ask.now) self.old.setup.member)) self.old d) }
+        ensures same { self.new ≡ self.old }
         ensures fault { IfErr result (λ fault. fault ≡ NodeFault.Memory) }
     {
         let id = ask.id();
@@ -241,7 +249,9 @@ impl<R: Records + Drop, A: Application + Drop> Node<R, A> {
             let behind = Message::Behind(id.client, id.number, applied);
             return Ok(MemberDraft::to_client(alloc, behind)?);
         }
-        let answer = self.application.answer(alloc, ask.level(), ask.text())?;
+        let answer = self
+            .answers
+            .answer(alloc, &self.application, ask.level(), ask.text())?;
         let answer = Message::Answer(id.client, id.number, applied, answer);
         Ok(MemberDraft::to_client(alloc, answer)?)
     }
@@ -268,7 +278,12 @@ impl<R: Records + Drop, A: Application + Drop> Node<R, A> {
         let Draft { member, sent } = draft;
         match self.member.commit(alloc, member) {
             Ok(outcome) => {
-                let is_short = apply_learnt(alloc, &self.member, &mut self.application);
+                let is_short = apply_learnt(
+                    alloc,
+                    &self.member,
+                    &mut self.application,
+                    &mut self.answers,
+                );
                 Ok(Outbox {
                     sent,
                     tells: outcome.tells,
@@ -345,10 +360,26 @@ impl<R: Records + Drop, A: Application + Drop> Node<R, A> {
         ensures spent { (u : Running) → RunsAs A.has_applied u self.old → IsErrOf result NodeFault.Spent
             → (tick ≡ Tick.Begin) × (may_begin self.old.setup.members self.old.member.acceptor.kept u ≡ false) }
         ensures refused { IfErr result (λ fault. (fault ≡ NodeFault.Store → ⊥) → IsUnchanged A.has_applied R.failed self.old self.new) }
+        ensures begins { OnOk result ((u : Running) → RunsAs A.has_applied u self.old → IsSpent self.old u (ticked tick) → ⊥) }
+        ensures faults { IfErr result IsOfTick }
         ensures setup { self.new.setup ≡ self.old.setup }
     {
         let draft = self.draft_tick(alloc, tick)?;
         self.commit(alloc, draft)
+    }
+
+    /// Whether it leads: it has begun a ballot, and has not yielded to a higher one since.
+    pub fn leads(&self) -> bool
+        ensures { (u : Running) → RunsAs A.has_applied u self.now → result ≡ is_some u.leader }
+    {
+        self.member.leads()
+    }
+
+    /// Whether it leads, and a majority of the members has promised its ballot.
+    pub fn is_followed(&self) -> bool
+        ensures { (u : Running) → RunsAs A.has_applied u self.now → result ≡ is_followed self.now.setup.members u.heard u.leader }
+    {
+        self.member.is_followed()
     }
 
     /// How many positions it has applied, from 1 on.

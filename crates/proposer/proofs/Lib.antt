@@ -11,3 +11,4 @@ pub mod Hears
 pub mod Taken
 pub mod Promised
 pub mod Learned
+pub mod Followed

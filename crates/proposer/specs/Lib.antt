@@ -8,3 +8,4 @@ pub mod Taking
 pub mod Hearing
 pub mod Beginning
 pub mod Submitting
+pub mod Following

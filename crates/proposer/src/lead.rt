@@ -1,6 +1,6 @@
 //! What a proposer has while it leads.
 
-ghost use Rattle.std.specs.Prelude.{◌≡◌, ◌≤◌, ◌<◌, ◌+◌, ℕ, [], ◌∷◌, length, nat_le, flat_map, is_some, replicate, ◌++◌, IfOk, OnOk};
+ghost use Rattle.std.specs.Prelude.{◌≡◌, ◌≤◌, ◌<◌, ◌+◌, ℕ, [], ◌∷◌, length, nat_le, nat_lt, flat_map, is_some, replicate, ◌++◌, IfOk, OnOk};
 ghost use Rattle.ballots.specs.Terms.{Request};
 ghost use Rattle.std.specs.Option.{option_copied};
 ghost use Rattle.std.specs.Vec.{vec_capacity};
@@ -12,6 +12,7 @@ ghost use Rattle.paxos.specs.Proposing.{has_free_place, has_open, has_place, sti
 ghost use Rattle.position_map.specs.Slots.{filled, value_at, HasSlot};
 ghost use Rattle.proposer.specs.Beginning.{is_in, IsBegun};
 ghost use Rattle.proposer.specs.Knowing.{asked_of, IsAcceptOf, IsAgain};
+ghost use Rattle.proposer.specs.Following.{is_followed_of};
 ghost use Rattle.proposer.specs.Inside.{IsLastKnown};
 ghost use Rattle.proposer.specs.Merging.{HaveRoom, HavePlaces, IsCovering, IsLearning, IsMerged, advanced, with_learnt, with_proposals, with_reports};
 ghost use Rattle.proposer.specs.Taking.{CanTake, HasTaken, IsAsWas, IsSaid, Tells, left_open, view_of};
@@ -402,6 +403,27 @@ impl Lead {
             })?;
         }
         Ok(())
+    }
+
+    /// Whether a majority of the members has promised its ballot.
+    pub(super) fn is_followed(&self, members: Members) -> bool
+        ensures { result ≡ is_followed_of members self.now }
+    {
+        2 * self.followers(members) > members.count()
+    }
+
+    /// How many members have promised its ballot: their windows cover more than was learnt when it began.
+    fn followers(&self, members: Members) -> u8
+        ensures count { result ≡ count members (λ m. nat_lt self.now.base (cover_of self.now m)) }
+        ensures most { result ≤ members }
+    {
+        let mut found = 0;
+        for before in 0..members.count() {
+            if self.base < self.cover(before + 1) {
+                found += 1;
+            }
+        }
+        found
     }
 
     /// Whether a request of this client and number is open.

@@ -11,6 +11,7 @@ ghost use Rattle.paxos.specs.Knowledge.{Heard, newly, news, news_of, prefix};
 ghost use Rattle.paxos.specs.Records.{Record};
 ghost use Rattle.paxos.specs.Step.{Leader, begins, on_new_request, on_news, on_promise, on_resend, yields};
 ghost use Rattle.proposer.specs.Beginning.{IsBegun, IsFresh};
+ghost use Rattle.proposer.specs.Following.{is_followed};
 ghost use Rattle.proposer.specs.Hearing.{IsUnchanged, IsWindow, TakesLearnt, TakesPromise};
 ghost use Rattle.proposer.specs.Knowing.{IsStopped, Knows, TookPart, accepts_first, prepares_first};
 ghost use Rattle.proposer.specs.declared.draft.News.{News};
@@ -80,6 +81,16 @@ impl Proposer {
         match &self.lead {
             Some(lead) => Some(lead.ballot),
             None => None,
+        }
+    }
+
+    /// Whether it leads, and a majority of the members has promised its ballot.
+    pub fn is_followed(&self) -> bool
+        ensures { (heard : List Packet) (leader : Option Leader) → Knows heard leader self.now → result ≡ is_followed self.now.members heard leader }
+    {
+        match &self.lead {
+            Some(lead) => lead.is_followed(self.members),
+            None => false,
         }
     }
 
