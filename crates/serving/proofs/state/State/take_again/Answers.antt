@@ -14,9 +14,9 @@ returns-in_err-told g c =
 pub returns-then-eq : goal.returns-then-eq
 returns-then-eq g c =
     let h = c.in_ok-told.ensures.heard c.in-Some.held.now.end in
-    goes_again_with {R = g.row.R.Denot} {A = g.row.A.Denot} {D = g.row.D.Denot} g.A.Application.has_applied g.A.Application.meaning g.R.Records.failed g.D.PartialEq.eq {W = g.row.W.Denot} g.W.Wire.was_given g.W.Wire.has_brought _ _ _ _ c.in-Some.held.now c.as_slice.result.now h.0 c.as_slice.ensures.value c.in-Some.ensures h.1 refl c.drop_request.ensures h.2 c.hear.ensures.brought
+    goes_again_with {R = g.row.R.Denot} {A = g.row.A.Denot} {D = g.row.D.Denot} g.A.Application.has_applied g.A.Application.meaning g.R.Records.failed g.D.PartialEq.eq {W = g.row.W.Denot} g.W.Wire.was_given g.W.Wire.has_brought _ _ _ _ c.in-Some.held.now c.as_slice.result.now h.0 c.as_slice.ensures.value c.in-Some.ensures h.1 refl refl c.drop_request.ensures h.2 c.hear.ensures.brought
 
 pub returns-else-eq : goal.returns-else-eq
 returns-else-eq g c =
     let h = c.in_ok-told.ensures.heard c.in-Some.held.now.end in
-    goes_again_with {R = g.row.R.Denot} {A = g.row.A.Denot} {D = g.row.D.Denot} g.A.Application.has_applied g.A.Application.meaning g.R.Records.failed g.D.PartialEq.eq {W = g.row.W.Denot} g.W.Wire.was_given g.W.Wire.has_brought _ _ _ _ c.in-Some.held.now c.as_slice.result.now h.0 c.as_slice.ensures.value c.in-Some.ensures h.1 refl (λ e has. has) h.2 c.hear.ensures.brought
+    goes_again_with {R = g.row.R.Denot} {A = g.row.A.Denot} {D = g.row.D.Denot} g.A.Application.has_applied g.A.Application.meaning g.R.Records.failed g.D.PartialEq.eq {W = g.row.W.Denot} g.W.Wire.was_given g.W.Wire.has_brought _ _ _ _ c.in-Some.held.now c.as_slice.result.now h.0 c.as_slice.ensures.value c.in-Some.ensures h.1 refl refl (λ e has. has) h.2 c.hear.ensures.brought
