@@ -3,8 +3,8 @@
 //! Scripts on a group of N members: `local N BYTES` over sockets, and in memory `scripted N BYTES`, `prints N BYTES gives BYTES`, `failing N BYTES` (each
 //! send and each receive fails in turn), `unsent N BYTES` (all sends fail), `unheard N BYTES` (all receives do), and `forged N HEX BYTES` (a datagram
 //! that nobody sent comes to the client first). Lines to one node: `send GROUP LINE FROM HEX ..` is given what comes, and `udp GROUP LINE` has a node over
-//! sockets. `node GROUP MEMBER MEMBERS TICKS TURNS FROM HEX ..` is a node that begins (`begins`) or does not (`waits`) and serves for some turns: it is
-//! given what comes, and gives what it sends. `taken` opens a second socket at an address, and `named TEXT` resolves one.
+//! sockets. `node GROUP MEMBER MEMBERS START TURNS FROM HEX ..` is a node that begins (`begins`), is told to lead (`leads`) or neither
+//! (`waits`), and serves for some turns: it is given what comes, and gives what it sends. `taken` opens a second socket at an address, and `named TEXT` resolves one.
 #![tactic(auto)]
 
 mod nodes;

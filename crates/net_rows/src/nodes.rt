@@ -63,12 +63,12 @@ pub(super) fn node(alloc: Global, words: &mut Words<'_>) -> Result<String, RowFa
     let group = word(words)?;
     let member = small(words)?;
     let members = small(words)?;
-    let begins = begins(words)?;
+    let start = start(words)?;
     let turns = u64::from(word(words)?);
     let mut wire = TableWire::new(alloc, member);
     wire.bring(words)?;
     let server = server_of(alloc, group, member, members)?;
-    if served(alloc, server, &mut wire, begins, turns)? {
+    if served(alloc, server, &mut wire, start, turns)? {
         sent_text(alloc, wire.sent())
     } else {
         Ok(format!(in alloc; "store failed")?)
@@ -82,11 +82,23 @@ fn server_of(alloc: Global, group: u32, member: u8, members: u8) -> Result<Serve
     Ok(Server::new(alloc, node, 0, peers))
 }
 
-/// Whether it begins.
-fn begins(words: &mut Words<'_>) -> Result<bool, RowFault> {
+/// What a node does before it serves.
+#[derive(Clone, Copy, PartialEq, Eq, Debug)]
+enum Start {
+    /// It begins a ballot.
+    Begins,
+    /// It is told to lead.
+    Leads,
+    /// Nothing.
+    Waits,
+}
+
+/// What it does before it serves.
+fn start(words: &mut Words<'_>) -> Result<Start, RowFault> {
     match words.plain()? {
-        "begins" => Ok(true),
-        "waits" => Ok(false),
+        "begins" => Ok(Start::Begins),
+        "leads" => Ok(Start::Leads),
+        "waits" => Ok(Start::Waits),
         _ => Err(RowFault::NotARow),
     }
 }
@@ -96,12 +108,18 @@ fn served(
     alloc: Global,
     mut server: Served<u8>,
     wire: &mut TableWire,
-    begins: bool,
+    start: Start,
     turns: u64,
 ) -> Result<bool, AllocError> {
     let mut buffer = vec![in alloc; 0u8; MOST_BYTES]?;
-    if begins && server.begin(alloc, wire).is_err() {
-        return Ok(false);
+    match start {
+        Start::Begins => {
+            if server.begin(alloc, wire).is_err() {
+                return Ok(false);
+            }
+        }
+        Start::Leads => server.lead(),
+        Start::Waits => {}
     }
     Ok(server.serve(alloc, wire, &mut buffer, turns).is_ok())
 }

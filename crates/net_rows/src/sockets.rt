@@ -126,7 +126,7 @@ fn served<W: Wire<Address = SocketAddr>>(
         return Err(RowFault::NotARow);
     }
     match server.serve(alloc, wire, &mut buffer, TURNS) {
-        Ok(()) => Ok(()),
+        Ok(_) => Ok(()),
         Err(_) => Err(RowFault::NotARow),
     }
 }

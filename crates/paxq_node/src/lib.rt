@@ -1,4 +1,4 @@
-//! `paxq node CONFIG`: one node of a group, over a socket, with its records in a file or in memory.
+//! `paxq_member node CONFIG`: one node of a group, over a socket, with its records in a file or in memory.
 #![tactic(auto)]
 
 mod config;

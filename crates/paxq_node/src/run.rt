@@ -139,14 +139,14 @@ fn run_over<S: Alter + Drop, W: Wire>(
     setup: Setup,
     wire: &mut W,
     peers: Vec<W::Address>,
-    begins: bool,
+    leads: bool,
     turns: u64,
 ) -> End {
     let Ok(connection) = connection else {
         return End::Store;
     };
     match SqlRecords::open(alloc, connection, &setup) {
-        Ok(records) => serve_state(alloc, setup, records, wire, peers, begins, turns),
+        Ok(records) => serve_state(alloc, setup, records, wire, peers, leads, turns),
         Err((OpenFault::Memory, _)) => End::Memory,
         Err((_, _)) => End::Store,
     }
@@ -159,8 +159,8 @@ fn serve_state<R: Records + Drop, W: Wire>(
     records: R,
     wire: &mut W,
     peers: Vec<W::Address>,
-    begins: bool,
+    leads: bool,
     turns: u64,
 ) -> End {
-    serve_over::<R, State, W>(alloc, setup, records, wire, peers, begins, turns)
+    serve_over::<R, State, W>(alloc, setup, records, wire, peers, leads, turns)
 }

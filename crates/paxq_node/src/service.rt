@@ -1,7 +1,8 @@
-//! A node's service: it opens, begins where it is told to, and serves.
+//! A node's service: it opens, leads where it is told to, and serves.
 
-ghost use Rattle.std.specs.Prelude.{◌≡◌, []};
-ghost use Rattle.serving.specs.Serves.{Passed, Went};
+ghost use Rattle.std.specs.Prelude.{◌≡◌, ◌≤◌, IfOk, if◌then◌else◌};
+ghost use Rattle.serving.specs.Serves.{Passed, told_to_lead};
+ghost use Rattle.serving.specs.Serving.{AreTurns};
 
 use applications::Application;
 use ballots::Setup;
@@ -22,7 +23,7 @@ pub enum End {
     Store,
 }
 
-/// Opens a node over its records, which stands at the first end of a wire among members at these addresses, has it begin where it is told to, and
+/// Opens a node over its records, which stands at the first end of a wire among members at these addresses, tells it to lead where it is to, and
 /// serves for so many turns.
 pub fn serve_over<R: Records + Drop, A: Application + Drop, W: Wire>(
     alloc: Global,
@@ -30,7 +31,7 @@ pub fn serve_over<R: Records + Drop, A: Application + Drop, W: Wire>(
     records: R,
     wire: &mut W,
     peers: Vec<W::Address>,
-    begins: bool,
+    leads: bool,
     turns: u64,
 ) -> End {
     let Ok(mut buffer) = vec![in alloc; 0u8; MOST_BYTES] else {
@@ -39,7 +40,7 @@ pub fn serve_over<R: Records + Drop, A: Application + Drop, W: Wire>(
     match Node::<R, A>::open(alloc, setup, records) {
         Ok(node) => {
             let server = Server::new(alloc, node, 0, peers);
-            serve_to_the_end(alloc, server, wire, begins, turns, &mut buffer)
+            serve_to_the_end(alloc, server, wire, leads, turns, &mut buffer)
         }
         Err((OpenFault::Memory, _, _)) => End::Memory,
         Err((OpenFault::Store, _, _)) => End::Store,
@@ -51,42 +52,40 @@ fn serve_to_the_end<R: Records + Drop, A: Application + Drop, W: Wire>(
     alloc: Global,
     mut server: Server<R, A, W::Address>,
     wire: &mut W,
-    begins: bool,
+    leads: bool,
     turns: u64,
     buffer: &mut [u8],
 ) -> End {
-    match serve_from_the_start(alloc, &mut server, wire, begins, turns, buffer) {
-        Ok(()) => End::Done,
+    match serve_from_the_start(alloc, &mut server, wire, leads, turns, buffer) {
+        Ok(_) => End::Done,
         Err(ServeFault::Store) => End::Store,
     }
 }
 
-/// Has a server begin where it is told to, and serve for so many turns.
+/// Has a server lead where it is to, and serve for so many turns. Says how many it took.
 fn serve_from_the_start<R: Records + Drop, A: Application + Drop, W: Wire>(
     alloc: Global,
     server: &mut Server<R, A, W::Address>,
     wire: &mut W,
-    begins: bool,
+    leads: bool,
     turns: u64,
     buffer: &mut [u8],
-) -> Result<(), ServeFault>
-    ensures { Passed A.has_applied A.meaning R.failed W.Address.eq W.was_given W.has_brought R.stands R.is_kept result server.old server.new wire.old wire.new }
+) -> Result<u64, ServeFault>
+    ensures took { Passed A.has_applied A.meaning R.failed W.Address.eq W.was_given W.has_brought R.stands R.is_kept AreTurns result (if leads then told_to_lead server.old else server.old) server.new wire.old wire.new }
+    ensures most { IfOk result (λ taken. taken ≤ turns) }
 {
-    begin_if(alloc, server, wire, begins)?;
+    lead_if(server, leads);
     server.serve(alloc, wire, buffer, turns)
 }
 
-/// Has a server begin, if it is to.
-fn begin_if<R: Records + Drop, A: Application + Drop, W: Wire>(
-    alloc: Global,
-    server: &mut Server<R, A, W::Address>,
-    wire: &mut W,
-    begins: bool,
-) -> Result<(), ServeFault>
-    ensures { Went A.has_applied A.meaning R.failed W.Address.eq W.was_given W.has_brought R.stands R.is_kept result [] [] [] server.old server.new wire.old wire.new }
+/// Tells a server to lead, if it is to.
+fn lead_if<R: Records + Drop, A: Application + Drop, D: Copy + Eq + Drop>(
+    server: &mut Server<R, A, D>,
+    leads: bool,
+)
+    ensures { server.new ≡ (if leads then told_to_lead server.old else server.old) }
 {
-    if !begins {
-        return Ok(());
+    if leads {
+        server.lead();
     }
-    server.begin(alloc, wire)
 }

@@ -4,3 +4,4 @@ pub mod HeldLemmas
 pub mod Outcomes
 pub mod Seats
 pub mod SenderLemmas
+pub mod Words

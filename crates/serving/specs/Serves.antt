@@ -5,21 +5,29 @@ use Rattle.paxos.specs.Application.{Application}
 use Rattle.paxos.specs.Lists.{Has}
 use Rattle.paxos.specs.Records.{Record}
 use Rattle.serving.specs.Held.{held_in}
-use Rattle.serving.specs.Serving.{AreDone, Deed, Halts, Move, Place, came_by, deeds_of, given_in, seat_after}
+use Rattle.serving.specs.Leading.{is_told}
+use Rattle.serving.specs.Serving.{AreDone, BeginsIfTold, Deed, Halts, Move, Place, came_by, deeds_of, given_in, seat_after}
 use Rattle.serving.specs.declared.fault.ServeFault.{ServeFault}
+use Rattle.serving.specs.declared.leading.Word.{Word}
+use Rattle.serving.specs.declared.leading.Word.TheVariants.{Said}
 use Rattle.serving.specs.declared.seat.Seat.{Seat}
 use Rattle.serving.specs.declared.state.State.{State}
 use Rattle.wires.specs.Wires.{Carried}
 
--- its node, where it stands, and the datagrams that wait for a reply
+-- its node, where it stands, the datagrams that wait for a reply, and how far the word to lead has come
 pub record Server (R A D : Type 0) : Type 0 where
   pub seat : Seat R A
   pub place : Place D
   pub waiting : List (Carried D)
+  pub word : Word
 
 -- the server that is held
 abbrev pub shown : {R A D : Type 0} → State R A D → Server R A D
-shown x = record { seat = x.seat; place = x.place; waiting = held_in x.waiting.requests.entries }
+shown x = record { seat = x.seat; place = x.place; waiting = held_in x.waiting.requests.entries; word = x.word }
+
+-- it is told to lead
+abbrev pub told_to_lead : {R A D : Type 0} → Server R A D → Server R A D
+told_to_lead x = record x { word = Said }
 
 -- each of these datagrams is one of those that came before
 abbrev pub HaveCome : {D : Type 0} → (before : List (Carried D)) → List (Carried D) → Type 0
@@ -34,6 +42,7 @@ module _ {R A D W : Type 0} (has_applied : List (List ℕ) → List Value → A 
     pub are : deeds_of moves ≡ deeds
     pub seat : seat_after x.seat moves ≡ y.seat
     pub place : y.place ≡ x.place
+    pub told : is_told y.word ≡ is_told x.word
     pub waits : HaveCome (before ++ came_by deeds) y.waiting
     pub gives : (ds : List (Carried D)) → was_given v ds → was_given w (ds ++ given_in moves)
     pub brings : (ds : List (Carried D)) → has_brought v ds → has_brought w (ds ++ brought)
@@ -42,32 +51,35 @@ module _ {R A D W : Type 0} (has_applied : List (List ℕ) → List Value → A 
   abbrev pub Goes : (x y : Server R A D) (v w : W) (deeds : List (Deed D)) (brought : List (Carried D)) → Type 0
   Goes x y v w deeds brought = (before : List (Carried D)) → HaveCome before x.waiting → Turned before x y v w deeds brought
 
-  -- It went on by these deeds first, whatever else it did; these datagrams came to it, and the wire brought these.
+  -- It went on by these deeds first, whatever else it did; these datagrams came to it, and the wire brought these. It began a ballot only if it was told
+  -- to lead.
   abbrev pub GoesOn : (first : List (Deed D)) (came brought : List (Carried D)) (x y : Server R A D) (v w : W) → Type 0
-  GoesOn first came brought x y v w = (rest : List (Deed D)) × (came_by (first ++ rest) ≡ came) × Goes x y v w (first ++ rest) brought
+  GoesOn first came brought x y v w = (rest : List (Deed D)) × (came_by (first ++ rest) ≡ came) × BeginsIfTold (is_told x.word) (first ++ rest) × Goes x y v w (first ++ rest) brought
 
   module _ (stands : R → Record → Record → Type 0) (is_kept : R → Type 0) where
-    -- The server went on until its node stopped, since its store failed; nothing was given since.
-    pub record Halted (x z : Server R A D) (v w : W) : Type 0 where
+    -- The server went on until its node stopped, since its store failed, and the wire brought these; nothing was given or brought since.
+    pub record Halted (brought : List (Carried D)) (x z : Server R A D) (v w : W) : Type 0 where
       pub last : Server R A D
       pub wire : W
       pub deeds : List (Deed D)
-      pub brought : List (Carried D)
+      pub begins : BeginsIfTold (is_told x.word) deeds
       pub goes : Goes x last v wire deeds brought
       pub halts : Halts has_applied app failed stands is_kept last.seat z.seat
       pub silent : (ds : List (Carried D)) → was_given wire ds → was_given w ds
+      pub idle : (ds : List (Carried D)) → has_brought wire ds → has_brought w ds
 
     -- the server went on, by these deeds first, or until its node stopped
     abbrev pub Went : {T : Type 0} → Result T ServeFault → (first : List (Deed D)) (came brought : List (Carried D)) (x y : Server R A D) (v w : W) → Type 0
     Went (Ok done) first came brought x y v w = GoesOn first came brought x y v w
-    Went (Err fault) first came brought x y v w = Halted x y v w
+    Went (Err fault) first came brought x y v w = Halted brought x y v w
 
     -- the server went on by just these deeds, or until its node stopped
     abbrev pub WentBy : {T : Type 0} → Result T ServeFault → (deeds : List (Deed D)) → (x y : Server R A D) (v w : W) → Type 0
     WentBy (Ok done) deeds x y v w = Goes x y v w deeds []
-    WentBy (Err fault) deeds x y v w = Halted x y v w
+    WentBy (Err fault) deeds x y v w = Halted [] x y v w
 
-    -- It went on, and just what the wire brought came to it; or until its node stopped.
-    abbrev pub Passed : {T : Type 0} → Result T ServeFault → (x y : Server R A D) (v w : W) → Type 0
-    Passed (Ok done) x y v w = (ds : List (Carried D)) × GoesOn [] ds ds x y v w
-    Passed (Err fault) x y v w = Halted x y v w
+    -- It went on by deeds of which this holds, and just what the wire brought came to it; or until its node stopped. It began a ballot only if it was
+    -- told to lead.
+    abbrev pub Passed : {T : Type 0} → (AreSo : T → List (Deed D) → Type 0) → Result T ServeFault → (x y : Server R A D) (v w : W) → Type 0
+    Passed AreSo (Ok done) x y v w = (deeds : List (Deed D)) × AreSo done deeds × BeginsIfTold (is_told x.word) deeds × Goes x y v w deeds (came_by deeds)
+    Passed AreSo (Err fault) x y v w = (brought : List (Carried D)) × Halted brought x y v w

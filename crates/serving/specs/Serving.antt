@@ -1,5 +1,5 @@
 -- What a server does: its node takes steps, one after the other, and its wire is given what they send.
-use Rattle.std.specs.Prelude.{◌≡◌, ◌⊎◌, ℕ, zero, suc, Bool, true, false, List, [], ◌∷◌, ◌++◌, map, flat_map, Option, Some, None, slice_get}
+use Rattle.std.specs.Prelude.{◌≡◌, ◌⊎◌, ℕ, zero, suc, ◌+◌, Bool, true, false, List, [], ◌∷◌, ◌++◌, map, flat_map, Option, Some, None, slice_get}
 use Rattle.ballots.specs.Messages.{Packet}
 use Rattle.ballots.specs.Terms.{Setup}
 use Rattle.ballots.specs.declared.value.Value.{Value}
@@ -45,6 +45,20 @@ came_with (Ticked t) = []
 -- the datagrams that come with these deeds, in order
 abbrev pub came_by : {D : Type 0} → List (Deed D) → List (Carried D)
 came_by ds = flat_map came_with ds
+
+-- The deeds of a turn: a datagram is taken as it comes, or the node ticks, since the wire was waited for in vain. Whatever follows, no other datagram is
+-- taken as it comes.
+abbrev pub IsTurn : {D : Type 0} → List (Deed D) → Type 0
+IsTurn {D} ds = (rest : List (Deed D)) × (came_by rest ≡ []) × (((d : Carried D) × (ds ≡ Took d ∷ rest)) ⊎ (ds ≡ Ticked tick.Resend ∷ Ticked tick.CatchUp ∷ rest))
+
+-- the deeds of so many turns, one after the other
+pub data AreTurns {D : Type 0} : ℕ → List (Deed D) → Type 0 where
+  no_turn : AreTurns 0 []
+  one_more : (n : ℕ) (ds es : List (Deed D)) → AreTurns n ds → IsTurn es → AreTurns (n + 1) (ds ++ es)
+
+-- a ballot begins among these deeds only where that was told
+abbrev pub BeginsIfTold : {D : Type 0} → (is_told : Bool) → List (Deed D) → Type 0
+BeginsIfTold is_told ds = Has ds (Ticked tick.Begin) → is_told ≡ true
 
 -- what was done, in order
 abbrev pub deeds_of : {R A D : Type 0} → List (Move R A D) → List (Deed D)

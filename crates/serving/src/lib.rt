@@ -4,6 +4,7 @@
 #![tactic(auto)]
 
 mod fault;
+mod leading;
 mod place;
 mod requests;
 mod seat;

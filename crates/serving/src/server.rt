@@ -1,10 +1,12 @@
 //! A server: a node that serves over a wire.
 
-ghost use Rattle.std.specs.Prelude.{◌≡◌, false, [], ◌∷◌};
-ghost use Rattle.serving.specs.Serves.{Passed, Went, WentBy};
-ghost use Rattle.serving.specs.Serving.{Ticked, Took};
+ghost use Rattle.std.specs.Prelude.{◌≡◌, ◌≤◌, false, List, [], ◌∷◌, IfOk};
+ghost use Rattle.serving.specs.Serves.{Passed, Went, WentBy, told_to_lead};
+ghost use Rattle.serving.specs.Serving.{AreTurns, Ticked, Took};
+ghost use Rattle.wires.specs.Wires.{Carried};
 
 use super::fault::ServeFault;
+use super::leading::Word;
 use super::place::Place;
 use super::seat::Seat;
 use super::state::State;
@@ -45,10 +47,12 @@ impl<R: Records + Drop, A: Application + Drop, D: Copy + Eq + Drop> Server<R, A,
         ensures lost { result.seat.has_lost ≡ false }
         ensures place { result.place ≡ record { end = end; peers = peers.items } }
         ensures waiting { result.waiting ≡ [] }
+        ensures word { result.word ≡ Word.Unsaid }
     {
         Server {
             state: State {
                 told: 0,
+                word: Word::Unsaid,
                 seat: Seat {
                     node,
                     has_lost: false,
@@ -73,6 +77,17 @@ impl<R: Records + Drop, A: Application + Drop, D: Copy + Eq + Drop> Server<R, A,
         self.state.seat.has_lost
     }
 
+    /// From now on it is to lead: its ticks begin ballots. It first learns what the others tell it, and begins at the first tick before which a while
+    /// brought it nothing new; while nobody follows it, it begins again after 10 ticks, and then after 20, 40 and each further 64. Once it is followed, or
+    /// has yielded to another member, that is over, until it is told again.
+    ///
+    /// Nothing is done at once.
+    pub fn lead(&mut self)
+        ensures { self.new ≡ told_to_lead self.old }
+    {
+        self.state.word = Word::Said;
+    }
+
     /// Begins a ballot, so that the node leads once a majority has promised it; nothing happens where positions or rounds are spent.
     ///
     /// The fault: the store failed, and the node has stopped. Nothing was sent.
@@ -81,13 +96,14 @@ impl<R: Records + Drop, A: Application + Drop, D: Copy + Eq + Drop> Server<R, A,
         alloc: Global,
         wire: &mut W,
     ) -> Result<(), ServeFault>
-        ensures { WentBy A.has_applied A.meaning R.failed D.eq W.was_given W.has_brought R.stands R.is_kept result (Ticked Tick.Begin ∷ []) self.old self.new wire.old wire.new }
+        ensures went { WentBy A.has_applied A.meaning R.failed D.eq W.was_given W.has_brought R.stands R.is_kept result (Ticked Tick.Begin ∷ []) self.old self.new wire.old wire.new }
+        ensures brought { (ds : List (Carried D)) → W.has_brought wire.old ds → W.has_brought wire.new ds }
     {
         self.state.begin(alloc, wire)
     }
 
     /// Ticks: the node sends again what it waits for where it leads, and asks the others for what it has not learnt. Where another member leads
-    /// now, clients whose requests wait are told so.
+    /// now, clients whose requests wait are told so. Where it was told to lead, a ballot may begin.
     ///
     /// The fault: the store failed, and the node has stopped. Nothing was sent since.
     pub fn tick<W: Wire<Address = D>>(
@@ -95,7 +111,8 @@ impl<R: Records + Drop, A: Application + Drop, D: Copy + Eq + Drop> Server<R, A,
         alloc: Global,
         wire: &mut W,
     ) -> Result<(), ServeFault>
-        ensures { Went A.has_applied A.meaning R.failed D.eq W.was_given W.has_brought R.stands R.is_kept result (Ticked Tick.Resend ∷ Ticked Tick.CatchUp ∷ []) [] [] self.old self.new wire.old wire.new }
+        ensures went { Went A.has_applied A.meaning R.failed D.eq W.was_given W.has_brought R.stands R.is_kept result (Ticked Tick.Resend ∷ Ticked Tick.CatchUp ∷ []) [] [] self.old self.new wire.old wire.new }
+        ensures brought { (ds : List (Carried D)) → W.has_brought wire.old ds → W.has_brought wire.new ds }
     {
         self.state.tick(alloc, wire)
     }
@@ -110,13 +127,15 @@ impl<R: Records + Drop, A: Application + Drop, D: Copy + Eq + Drop> Server<R, A,
         arrival: Arrival<D>,
         bytes: &[u8],
     ) -> Result<(), ServeFault>
-        ensures { Went A.has_applied A.meaning R.failed D.eq W.was_given W.has_brought R.stands R.is_kept result (Took (record { end = arrival.end; peer = arrival.from; bytes = bytes.now }) ∷ []) (record { end = arrival.end; peer = arrival.from; bytes = bytes.now } ∷ []) [] self.old self.new wire.old wire.new }
+        ensures went { Went A.has_applied A.meaning R.failed D.eq W.was_given W.has_brought R.stands R.is_kept result (Took (record { end = arrival.end; peer = arrival.from; bytes = bytes.now }) ∷ []) (record { end = arrival.end; peer = arrival.from; bytes = bytes.now } ∷ []) [] self.old self.new wire.old wire.new }
+        ensures brought { (ds : List (Carried D)) → W.has_brought wire.old ds → W.has_brought wire.new ds }
     {
         self.state.take(alloc, wire, arrival, bytes)
     }
 
     /// Serves for so many turns. In each it takes one datagram, or ticks where the wire brought none for a while; and it ticks too where a while has
-    /// passed since it last did.
+    /// passed since it last did. Says how many turns it took: all of them, unless the wire fails to say what came more often
+    /// than can be.
     ///
     /// The buffer holds one datagram, [`MOST_BYTES`] of it. The fault: the store failed, and the node has stopped.
     /// Nothing was sent since.
@@ -126,8 +145,9 @@ impl<R: Records + Drop, A: Application + Drop, D: Copy + Eq + Drop> Server<R, A,
         wire: &mut W,
         buffer: &mut [u8],
         turns: u64,
-    ) -> Result<(), ServeFault>
-        ensures { Passed A.has_applied A.meaning R.failed D.eq W.was_given W.has_brought R.stands R.is_kept result self.old self.new wire.old wire.new }
+    ) -> Result<u64, ServeFault>
+        ensures took { Passed A.has_applied A.meaning R.failed D.eq W.was_given W.has_brought R.stands R.is_kept AreTurns result self.old self.new wire.old wire.new }
+        ensures most { IfOk result (λ taken. taken ≤ turns) }
     {
         self.state.serve(alloc, wire, buffer, turns)
     }

@@ -1,13 +1,15 @@
 //! What a server holds, and how it goes on.
 
-ghost use Rattle.std.specs.Prelude.{◌≡◌, ◌⊎◌, [], ◌∷◌};
+ghost use Rattle.std.specs.Prelude.{◌≡◌, ◌≤◌, ◌⊎◌, [], ◌∷◌, true, IfOk};
 ghost use Rattle.paxos.specs.Lists.{Has};
 ghost use Rattle.serving.specs.Held.{held_in};
+ghost use Rattle.serving.specs.Leading.{is_told};
 ghost use Rattle.serving.specs.Serves.{Passed, Went, WentBy, shown};
-ghost use Rattle.serving.specs.Serving.{Ticked, Took};
+ghost use Rattle.serving.specs.Serving.{AreTurns, Ticked, Took};
 ghost use Rattle.wires.specs.Wires.{Carried};
 
 use super::fault::ServeFault;
+use super::leading::Word;
 use super::place::Place;
 use super::requests::request_in;
 use super::seat::{Seat, Told};
@@ -23,13 +25,15 @@ use wires::{Arrival, Unheard, Wire};
 /// How far a message has to bring a member on for it to ask at once for what comes next: as many positions as one message tells.
 const AT_ONCE: u32 = 8;
 
-/// A node at its seat and its place, the requests that wait for replies, and up to which position these were told of what was applied.
+/// A node at its seat and its place, the requests that wait for replies, up to which position these were told of what was applied, and the word to
+/// lead.
 #[derive(Drop)]
 pub(super) struct State<R: Records + Drop, A: Application + Drop, D: Copy + Eq + Drop> {
     pub(super) seat: Seat<R, A>,
     pub(super) place: Place<D>,
     pub(super) waiting: Waiting<D>,
     pub(super) told: u32,
+    pub(super) word: Word,
 }
 
 impl<R: Records + Drop, A: Application + Drop, D: Copy + Eq + Drop> State<R, A, D> {
@@ -58,6 +62,7 @@ impl<R: Records + Drop, A: Application + Drop, D: Copy + Eq + Drop> State<R, A, 
     fn keep(&mut self, alloc: Global, arrival: Arrival<D>, bytes: &[u8], has_place: bool)
         ensures seat { self.new.seat ≡ self.old.seat }
         ensures place { self.new.place ≡ self.old.place }
+        ensures word { self.new.word ≡ self.old.word }
         ensures waiting { (d : Carried D) → Has (held_in self.new.waiting.requests.entries) d → Has (held_in self.old.waiting.requests.entries) d ⊎ (record { end = arrival.end; peer = arrival.from; bytes = bytes.now } ≡ d) }
     {
         let Some(id) = request_in(bytes) else {
@@ -255,7 +260,40 @@ impl<R: Records + Drop, A: Application + Drop, D: Copy + Eq + Drop> State<R, A, 
         self.tick_once(alloc, wire, Tick::Resend)?;
         self.tick_once(alloc, wire, Tick::CatchUp)?;
         self.tell_applied(alloc, wire)?;
-        self.answer_waiting(alloc, wire)
+        self.answer_waiting(alloc, wire)?;
+        self.begin_if_due(alloc, wire)
+    }
+
+    /// Begins a ballot where the word to lead says so at this tick.
+    fn begin_if_due<W: Wire<Address = D>>(
+        &mut self,
+        alloc: Global,
+        wire: &mut W,
+    ) -> Result<(), ServeFault>
+        ensures { Went A.has_applied A.meaning R.failed D.eq W.was_given W.has_brought R.stands R.is_kept result [] [] [] (shown self.old) (shown self.new) wire.old wire.new }
+    {
+        if !self.is_due() {
+            return Ok(());
+        }
+        self.begin(alloc, wire)?;
+        self.word = self.word.unless_begun(self.seat.node.leads());
+        Ok(())
+    }
+
+    /// Whether a ballot begins at this tick, by the word to lead.
+    fn is_due(&mut self) -> bool
+        ensures seat { self.new.seat ≡ self.old.seat }
+        ensures place { self.new.place ≡ self.old.place }
+        ensures waiting { self.new.waiting ≡ self.old.waiting }
+        ensures told { is_told self.new.word ≡ is_told self.old.word }
+        ensures begins { result ≡ true → is_told self.old.word ≡ true }
+    {
+        let node = &self.seat.node;
+        let (word, begins) = self
+            .word
+            .at_tick(node.prefix(), node.leads(), node.is_followed());
+        self.word = word;
+        begins
     }
 
     /// Begins a ballot, if there is one left.
@@ -269,77 +307,77 @@ impl<R: Records + Drop, A: Application + Drop, D: Copy + Eq + Drop> State<R, A, 
         self.tick_once(alloc, wire, Tick::Begin)
     }
 
-    /// Waits for a datagram and takes it, or ticks where none comes. Says whether either was done: a wire may fail to say whether one has come.
-    fn take_next<W: Wire<Address = D>>(
-        &mut self,
-        alloc: Global,
-        wire: &mut W,
-        buffer: &mut [u8],
-    ) -> Result<bool, ServeFault>
-        ensures { Passed A.has_applied A.meaning R.failed D.eq W.was_given W.has_brought R.stands R.is_kept result (shown self.old) (shown self.new) wire.old wire.new }
-    {
-        match wire.receive(buffer) {
-            Ok(Some(arrival)) => {
-                self.take(alloc, wire, arrival, &buffer[..arrival.length])?;
-                Ok(true)
-            }
-            Ok(None) => {
-                self.tick(alloc, wire)?;
-                Ok(true)
-            }
-            Err(Unheard) => Ok(false),
-        }
-    }
-
     /// Ticks where a while has passed since it last did, so that no number of datagrams keeps it from that.
     fn tick_if_due<W: Wire<Address = D>>(
         &mut self,
         alloc: Global,
         wire: &mut W,
-    ) -> Result<bool, ServeFault>
-        ensures { Passed A.has_applied A.meaning R.failed D.eq W.was_given W.has_brought R.stands R.is_kept result (shown self.old) (shown self.new) wire.old wire.new }
+    ) -> Result<(), ServeFault>
+        ensures { Went A.has_applied A.meaning R.failed D.eq W.was_given W.has_brought R.stands R.is_kept result [] [] [] (shown self.old) (shown self.new) wire.old wire.new }
     {
         if !wire.has_while_passed() {
-            return Ok(false);
+            return Ok(());
         }
-        self.tick(alloc, wire)?;
-        Ok(true)
+        self.tick(alloc, wire)
     }
 
-    /// Takes a turn: one datagram, or one wait in vain. Says whether it did.
+    /// Takes a datagram as it comes, and ticks where that is due.
+    fn take_in_time<W: Wire<Address = D>>(
+        &mut self,
+        alloc: Global,
+        wire: &mut W,
+        arrival: Arrival<D>,
+        bytes: &[u8],
+    ) -> Result<(), ServeFault>
+        ensures { Went A.has_applied A.meaning R.failed D.eq W.was_given W.has_brought R.stands R.is_kept result (Took (record { end = arrival.end; peer = arrival.from; bytes = bytes.now }) ∷ []) (record { end = arrival.end; peer = arrival.from; bytes = bytes.now } ∷ []) [] (shown self.old) (shown self.new) wire.old wire.new }
+    {
+        self.take(alloc, wire, arrival, bytes)?;
+        self.tick_if_due(alloc, wire)
+    }
+
+    /// Waits for a datagram and takes it, or ticks where none comes. Says how many turns that are: one, or none where the wire fails to say whether
+    /// one has come.
     fn turn<W: Wire<Address = D>>(
         &mut self,
         alloc: Global,
         wire: &mut W,
         buffer: &mut [u8],
-    ) -> Result<bool, ServeFault>
-        ensures { Passed A.has_applied A.meaning R.failed D.eq W.was_given W.has_brought R.stands R.is_kept result (shown self.old) (shown self.new) wire.old wire.new }
+    ) -> Result<u64, ServeFault>
+        ensures took { Passed A.has_applied A.meaning R.failed D.eq W.was_given W.has_brought R.stands R.is_kept AreTurns result (shown self.old) (shown self.new) wire.old wire.new }
+        ensures most { IfOk result (λ taken. taken ≤ 1) }
     {
-        let has_turned = self.take_next(alloc, wire, buffer)?;
-        self.tick_if_due(alloc, wire)?;
-        Ok(has_turned)
+        match wire.receive(buffer) {
+            Ok(Some(arrival)) => {
+                self.take_in_time(alloc, wire, arrival, &buffer[..arrival.length])?;
+                Ok(1)
+            }
+            Ok(None) => {
+                self.tick(alloc, wire)?;
+                Ok(1)
+            }
+            Err(Unheard) => Ok(0),
+        }
     }
 
-    /// Takes so many turns.
+    /// Takes so many turns, and says how many it took: fewer only where the wire failed to say what came, again and again.
     pub(super) fn serve<W: Wire<Address = D>>(
         &mut self,
         alloc: Global,
         wire: &mut W,
         buffer: &mut [u8],
         turns: u64,
-    ) -> Result<(), ServeFault>
-        ensures { Passed A.has_applied A.meaning R.failed D.eq W.was_given W.has_brought R.stands R.is_kept result (shown self.old) (shown self.new) wire.old wire.new }
+    ) -> Result<u64, ServeFault>
+        ensures took { Passed A.has_applied A.meaning R.failed D.eq W.was_given W.has_brought R.stands R.is_kept AreTurns result (shown self.old) (shown self.new) wire.old wire.new }
+        ensures most { IfOk result (λ taken. taken ≤ turns) }
     {
-        let mut left = turns;
+        let mut taken = 0u64;
         // What the wire fails to say is no turn.
         for _try in 0..u64::MAX {
-            if left == 0 {
+            if taken >= turns {
                 break;
             }
-            if self.turn(alloc, wire, buffer)? {
-                left -= 1;
-            }
+            taken += self.turn(alloc, wire, buffer)?;
         }
-        Ok(())
+        Ok(taken)
     }
 }

@@ -5,4 +5,4 @@ use Rattle.serving.proofs.Going.{on_dropping}
 use Rattle.serving.proofs.state.State.place_next.Goals as goal
 
 pub returns-in_default : goal.returns-in_default
-returns-in_default g c = on_dropping {R = g.row.R.Denot} {A = g.row.A.Denot} {D = g.row.D.Denot} g.A.Application.has_applied g.A.Application.meaning g.R.Records.failed g.D.PartialEq.eq {W = g.row.W.Denot} g.W.Wire.was_given g.W.Wire.has_brought _ _ _ refl refl (λ e has. subst (λ rs. Has (held_in rs.entries) e) c.take_unplaced.ensures has)
+returns-in_default g c = on_dropping {R = g.row.R.Denot} {A = g.row.A.Denot} {D = g.row.D.Denot} g.A.Application.has_applied g.A.Application.meaning g.R.Records.failed g.D.PartialEq.eq {W = g.row.W.Denot} g.W.Wire.was_given g.W.Wire.has_brought _ _ _ refl refl refl (λ e has. subst (λ rs. Has (held_in rs.entries) e) c.take_unplaced.ensures has)

@@ -1,18 +1,17 @@
-use Rattle.std.proofs.Common.{[], ◌++◌}
-use Rattle.serving.proofs.Going.{halts_later, on_both, on_none, passed_err}
+use Rattle.std.proofs.Common.{arith}
+use Rattle.serving.specs.Serving.{AreTurns}
+use Rattle.serving.proofs.Going.{goes_none, passed_both, passed_none, passed_stops}
 use Rattle.serving.proofs.state.State.serve.Goals as goal
 
 pub loop-try-init : goal.loop-try-init
-loop-try-init g c = ([], on_none {R = g.row.R.Denot} {A = g.row.A.Denot} {D = g.row.D.Denot} g.A.Application.has_applied g.A.Application.meaning g.R.Records.failed g.D.PartialEq.eq {W = g.row.W.Denot} g.W.Wire.was_given g.W.Wire.has_brought _ _)
+loop-try-init g c = (omega arith, passed_none {R = g.row.R.Denot} {A = g.row.A.Denot} {D = g.row.D.Denot} g.A.Application.has_applied g.A.Application.meaning g.R.Records.failed g.D.PartialEq.eq {W = g.row.W.Denot} g.W.Wire.was_given g.W.Wire.has_brought g.R.Records.stands g.R.Records.is_kept _ _ _ (goes_none {R = g.row.R.Denot} {A = g.row.A.Denot} {D = g.row.D.Denot} g.A.Application.has_applied g.A.Application.meaning g.R.Records.failed g.D.PartialEq.eq {W = g.row.W.Denot} g.W.Wire.was_given g.W.Wire.has_brought _ _))
 
 pub loop-try-preserved : goal.loop-try-preserved
-loop-try-preserved g c =
-    let h = c.loop-try.invariant in
-    let i = c.in_ok-turn.ensures in
-    (h.0 ++ i.0, on_both {R = g.row.R.Denot} {A = g.row.A.Denot} {D = g.row.D.Denot} g.A.Application.has_applied g.A.Application.meaning g.R.Records.failed g.D.PartialEq.eq {W = g.row.W.Denot} g.W.Wire.was_given g.W.Wire.has_brought [] h.0 i.0 h.0 i.0 _ _ _ _ _ _ h.1 i.1)
+loop-try-preserved g c = (
+  omega (arith, c.if-taken-turns.false, c.in_ok-taken.ensures.most),
+  passed_both {R = g.row.R.Denot} {A = g.row.A.Denot} {D = g.row.D.Denot} g.A.Application.has_applied g.A.Application.meaning g.R.Records.failed g.D.PartialEq.eq {W = g.row.W.Denot} g.W.Wire.was_given g.W.Wire.has_brought g.R.Records.stands g.R.Records.is_kept c.loop-try.taken _ _ _ _ _ _ _ c.loop-try.invariant.1 c.in_ok-taken.ensures.took,
+)
 
-pub returns-in_err-turn : goal.returns-in_err-turn
-returns-in_err-turn g c =
-    let h = c.loop-try.invariant in
-    passed_err {R = g.row.R.Denot} {A = g.row.A.Denot} {D = g.row.D.Denot} g.A.Application.has_applied g.A.Application.meaning g.R.Records.failed g.D.PartialEq.eq {W = g.row.W.Denot} g.W.Wire.was_given g.W.Wire.has_brought g.R.Records.stands g.R.Records.is_kept c.from_residual.result _ _ _ _ c.from_residual.ensures.0
-    (halts_later {R = g.row.R.Denot} {A = g.row.A.Denot} {D = g.row.D.Denot} g.A.Application.has_applied g.A.Application.meaning g.R.Records.failed g.D.PartialEq.eq {W = g.row.W.Denot} g.W.Wire.was_given g.W.Wire.has_brought g.R.Records.stands g.R.Records.is_kept [] h.0 h.0 _ _ _ _ _ _ h.1 c.in_err-turn.ensures)
+pub returns-in_err-taken-clause-took : goal.returns-in_err-taken-clause-took
+returns-in_err-taken-clause-took g c =
+    passed_stops {R = g.row.R.Denot} {A = g.row.A.Denot} {D = g.row.D.Denot} g.A.Application.has_applied g.A.Application.meaning g.R.Records.failed g.D.PartialEq.eq {W = g.row.W.Denot} g.W.Wire.was_given g.W.Wire.has_brought g.R.Records.stands g.R.Records.is_kept AreTurns c.from_residual.result _ _ _ _ _ _ _ _ c.from_residual.ensures.0 c.loop-try.invariant.1 c.in_err-taken.ensures.took.1

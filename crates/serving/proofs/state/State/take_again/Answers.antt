@@ -9,14 +9,14 @@ pub returns-in_err-told : goal.returns-in_err-told
 returns-in_err-told g c =
     let h = c.in_err-told.ensures.halted in
     went_err {R = g.row.R.Denot} {A = g.row.A.Denot} {D = g.row.D.Denot} g.A.Application.has_applied g.A.Application.meaning g.R.Records.failed g.D.PartialEq.eq {W = g.row.W.Denot} g.W.Wire.was_given g.W.Wire.has_brought g.R.Records.stands g.R.Records.is_kept c.from_residual.result _ _ _ _ _ _ _ c.from_residual.ensures.0
-    (halts_at_once {R = g.row.R.Denot} {A = g.row.A.Denot} {D = g.row.D.Denot} g.A.Application.has_applied g.A.Application.meaning g.R.Records.failed g.D.PartialEq.eq {W = g.row.W.Denot} g.W.Wire.was_given g.W.Wire.has_brought g.R.Records.stands g.R.Records.is_kept _ _ _ _ h.0 h.1)
+    (halts_at_once {R = g.row.R.Denot} {A = g.row.A.Denot} {D = g.row.D.Denot} g.A.Application.has_applied g.A.Application.meaning g.R.Records.failed g.D.PartialEq.eq {W = g.row.W.Denot} g.W.Wire.was_given g.W.Wire.has_brought g.R.Records.stands g.R.Records.is_kept _ _ _ _ h.0 h.1 c.hear.ensures.brought)
 
 pub returns-then-eq : goal.returns-then-eq
 returns-then-eq g c =
     let h = c.in_ok-told.ensures.heard c.in-Some.held.now.end in
-    goes_again_with {R = g.row.R.Denot} {A = g.row.A.Denot} {D = g.row.D.Denot} g.A.Application.has_applied g.A.Application.meaning g.R.Records.failed g.D.PartialEq.eq {W = g.row.W.Denot} g.W.Wire.was_given g.W.Wire.has_brought _ _ _ _ c.in-Some.held.now c.as_slice.result.now h.0 c.as_slice.ensures.value c.in-Some.ensures h.1 refl c.drop_request.ensures h.2 c.hear.ensures.brought
+    goes_again_with {R = g.row.R.Denot} {A = g.row.A.Denot} {D = g.row.D.Denot} g.A.Application.has_applied g.A.Application.meaning g.R.Records.failed g.D.PartialEq.eq {W = g.row.W.Denot} g.W.Wire.was_given g.W.Wire.has_brought _ _ _ _ c.in-Some.held.now c.as_slice.result.now h.0 c.as_slice.ensures.value c.in-Some.ensures h.1 refl refl c.drop_request.ensures h.2 c.hear.ensures.brought
 
 pub returns-else-eq : goal.returns-else-eq
 returns-else-eq g c =
     let h = c.in_ok-told.ensures.heard c.in-Some.held.now.end in
-    goes_again_with {R = g.row.R.Denot} {A = g.row.A.Denot} {D = g.row.D.Denot} g.A.Application.has_applied g.A.Application.meaning g.R.Records.failed g.D.PartialEq.eq {W = g.row.W.Denot} g.W.Wire.was_given g.W.Wire.has_brought _ _ _ _ c.in-Some.held.now c.as_slice.result.now h.0 c.as_slice.ensures.value c.in-Some.ensures h.1 refl (λ e has. has) h.2 c.hear.ensures.brought
+    goes_again_with {R = g.row.R.Denot} {A = g.row.A.Denot} {D = g.row.D.Denot} g.A.Application.has_applied g.A.Application.meaning g.R.Records.failed g.D.PartialEq.eq {W = g.row.W.Denot} g.W.Wire.was_given g.W.Wire.has_brought _ _ _ _ c.in-Some.held.now c.as_slice.result.now h.0 c.as_slice.ensures.value c.in-Some.ensures h.1 refl refl (λ e has. has) h.2 c.hear.ensures.brought
