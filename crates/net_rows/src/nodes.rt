@@ -63,7 +63,7 @@ pub(super) fn node(alloc: Global, words: &mut Words<'_>) -> Result<String, RowFa
     let group = word(words)?;
     let member = small(words)?;
     let members = small(words)?;
-    let start = start(words)?;
+    let start = start_of(words)?;
     let turns = u64::from(word(words)?);
     let mut wire = TableWire::new(alloc, member);
     wire.bring(words)?;
@@ -94,7 +94,7 @@ enum Start {
 }
 
 /// What it does before it serves.
-fn start(words: &mut Words<'_>) -> Result<Start, RowFault> {
+fn start_of(words: &mut Words<'_>) -> Result<Start, RowFault> {
     match words.plain()? {
         "begins" => Ok(Start::Begins),
         "leads" => Ok(Start::Leads),
