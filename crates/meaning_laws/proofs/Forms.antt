@@ -262,24 +262,24 @@ module _ (R : Run → Run → Type 0) (s : IsQuiet R) where
   all_found : (found : paths.Found) (xs : List Item) → K (paths.all_found found xs)
   all_found found xs = each_keeps R s {f = λ _ given x. come_to (paths.found_within (paths.and_found given x))} (λ n given x. come (paths.found_within (paths.and_found given x))) 0 xs found
 
-  concluded : (is : List ℕ) (values : List Atom) → K (paths.concluded is values)
-  concluded is [] = seen_keeps R s (λ ts. operators.nodes (filter (λ i. is_in i is) (identities ts)))
-  concluded [] (a ∷ more) = pure_ (map (λ x. item.Atomic x) (a ∷ more))
-  concluded (i ∷ is) (a ∷ more) = come (Err code.XPTY0018)
+  concluded : (mixed : Code) (is : List ℕ) (values : List Atom) → K (paths.concluded mixed is values)
+  concluded mixed is [] = seen_keeps R s (λ ts. operators.nodes (filter (λ i. is_in i is) (identities ts)))
+  concluded mixed [] (a ∷ more) = pure_ (map (λ x. item.Atomic x) (a ∷ more))
+  concluded mixed (i ∷ is) (a ∷ more) = come (Err mixed)
 
-  segment : (m : Meaning) → Good m → (env : Environment) (items : List Item) → K (paths.segment env items m)
-  segment m g env items =
+  segment : (mixed : Code) (m : Meaning) → Good m → (env : Environment) (items : List Item) → K (paths.segment mixed env items m)
+  segment mixed m g env items =
       step (come (operators.all_nodes code.XPTY0019 items)) (λ _.
       step (each_keeps R s {f = λ i found x. turn (m (with_focus x (i + 1) (length items) env) >>= paths.all_found found)}
       (λ i found x. turn_keeps R s (step (g (with_focus x (i + 1) (length items) env)) (λ xs. all_found found xs))) 0 items (record { nodes = []; atoms = [] }))
-      (λ (found : paths.Found). concluded found.nodes found.atoms))
+      (λ (found : paths.Found). concluded mixed found.nodes found.atoms))
 
-  segments : (env : Environment) (n : ℕ) (ms : List Meaning) → Each Good ms → (items : List Item) → K (each (λ _. paths.segment env) n ms items)
-  segments env n [] gs items = pure_ items
-  segments env n (m ∷ ms) gs items = step (segment m gs.0 env items) (λ more. segments env (suc n) ms gs.1 more)
+  segments : (steps : ℕ) (env : Environment) (n : ℕ) (ms : List Meaning) → Each Good ms → (items : List Item) → K (each (λ i. paths.segment (paths.mixed_code steps i) env) n ms items)
+  segments steps env n [] gs items = pure_ items
+  segments steps env n (m ∷ ms) gs items = step (segment (paths.mixed_code steps n) m gs.0 env items) (λ more. segments steps env (suc n) ms gs.1 more)
 
   pub path : (m : Meaning) (ms : List Meaning) → Good m → Each Good ms → Good (paths.path m ms)
-  path m ms g gs env = step (g env) (λ items. segments env 0 ms gs items)
+  path m ms g gs env = step (g env) (λ items. segments (length ms) env 0 ms gs items)
 
   -- Functions.
 

@@ -511,26 +511,26 @@ all_found {r = r} found xs h =
     loop {P = Any} {f = λ _ given x. come_to (paths.found_within (paths.and_found given x))} any_up found_up
     (λ n b given x q p. come (paths.found_within (paths.and_found given x)) (λ g e c k. found_if (paths.and_found given x) g (nat_le (length (paths.and_found given x).nodes + length (paths.and_found given x).atoms) most_items) refl e)) 0 r xs (all_any r xs) found h
 
-concluded : {r : Run} (is : List ℕ) (values : List Atom) → length is + length values ≤ most_items → Holds r (List Item) Given (paths.concluded is values)
-concluded is [] h = see (λ ts. operators.nodes (filter (λ i. is_in i is) (identities ts))) (λ b s k. record {
+concluded : {r : Run} (mixed : Code) (is : List ℕ) (values : List Atom) → length is + length values ≤ most_items → Holds r (List Item) Given (paths.concluded mixed is values)
+concluded mixed is [] h = see (λ ts. operators.nodes (filter (λ i. is_in i is) (identities ts))) (λ b s k. record {
   few =
       (let m = members is (identities (trees_of b)) (λ i. subst (λ n. n ≤ 1) (sym (held-identities i (trees_of b))) (s i)) in
       let l = length-map (filter (λ i. is_in i is) (identities (trees_of b))) (λ i. item.Node i) in omega (arith, m, l, h));
   stand = nodes_stand (trees_of b) _ (in_filter (trees_of b) (λ i. is_in i is) (identities (trees_of b)) (listed (trees_of b)));
 })
-concluded [] (a ∷ more) h = pure_ (map (λ x. item.Atomic x) (a ∷ more)) (λ b k. record { few = (let l = length-map (a ∷ more) (λ x. item.Atomic x) in omega (arith, l, h)); stand = atoms_stand (trees_of b) (λ x. x) (a ∷ more) })
-concluded (i ∷ is) (a ∷ more) h = come (Err code.XPTY0018) (λ x e c k. absurd (no_value code.XPTY0018 x e))
+concluded mixed [] (a ∷ more) h = pure_ (map (λ x. item.Atomic x) (a ∷ more)) (λ b k. record { few = (let l = length-map (a ∷ more) (λ x. item.Atomic x) in omega (arith, l, h)); stand = atoms_stand (trees_of b) (λ x. x) (a ∷ more) })
+concluded mixed (i ∷ is) (a ∷ more) h = come (Err mixed) (λ x e c k. absurd (no_value mixed x e))
 
-segment : (m : Meaning) → Good m → (r : Run) (env : Environment) (items : List Item) → Knows r env → Given r items → Holds r (List Item) Given (paths.segment env items m)
-segment m g r env items h q =
+segment : (mixed : Code) (m : Meaning) → Good m → (r : Run) (env : Environment) (items : List Item) → Knows r env → Given r items → Holds r (List Item) Given (paths.segment mixed env items m)
+segment mixed m g r env items h q =
     bind (come_any (operators.all_nodes code.XPTY0019 items)) (λ b k _ _.
     bind (loop {f = λ i found x. turn (m (with_focus x (i + 1) (length items) env) >>= paths.all_found found)} (around_up env) found_up
     (λ i c found x v w. turn_ (bind (g c (with_focus x (i + 1) (length items) env) (knows_focus x (i + 1) (length items) w.1 w.0)) (λ d j xs z. all_found found xs v)))
     0 b items (around b env (knows_up r b env k h) items (stand_up r b items k q.stand)) (record { nodes = []; atoms = [] }) (omega arith))
-    (λ c j (found : paths.Found) v. concluded found.nodes found.atoms v))
+    (λ c j (found : paths.Found) v. concluded mixed found.nodes found.atoms v))
 
 pub path : (m : Meaning) (ms : List Meaning) → Good m → Each Good ms → Good (paths.path m ms)
-path m ms g gs r env h = bind (g r env h) (λ b k items q. loop {f = λ _. paths.segment env} (among_up Good env) given_up (λ n c given m v w. segment m w.1 c env given w.0 v) 0 b ms (among Good b env (knows_up r b env k h) ms gs) items q)
+path m ms g gs r env h = bind (g r env h) (λ b k items q. loop {f = λ i. paths.segment (paths.mixed_code (length ms) i) env} (among_up Good env) given_up (λ n c given m v w. segment (paths.mixed_code (length ms) n) m w.1 c env given w.0 v) 0 b ms (among Good b env (knows_up r b env k h) ms gs) items q)
 
 -- Functions.
 

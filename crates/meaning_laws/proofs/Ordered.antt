@@ -38,18 +38,18 @@ after_step {A = A} {B = B} Q m f holds run p h = of (m run) h
 abbrev pub IsConcluded : List Item × Run → Type 0
 IsConcluded p = IsInOrder (trees_of p.1) p.0 ⊎ IsAtomic p.0
 
-concluded : (is : List ℕ) (values : List Atom) → Gives IsConcluded (paths.concluded is values)
-concluded is [] run q h = is_value IsConcluded (operators.nodes (filter (λ i. is_in i is) (identities (trees_of run))), run) q (Ok (operators.nodes (filter (λ i. is_in i is) (identities (trees_of run))), run)) (inl (is, refl)) refl h
-concluded [] (a ∷ more) run q h = is_value IsConcluded (map (λ x. item.Atomic x) (a ∷ more), run) q (Ok (map (λ x. item.Atomic x) (a ∷ more), run)) (inr (a ∷ more, refl)) refl h
-concluded (i ∷ is) (a ∷ more) run q h = absurd (no_value code.XPTY0018 q h)
+concluded : (mixed : Code) (is : List ℕ) (values : List Atom) → Gives IsConcluded (paths.concluded mixed is values)
+concluded mixed is [] run q h = is_value IsConcluded (operators.nodes (filter (λ i. is_in i is) (identities (trees_of run))), run) q (Ok (operators.nodes (filter (λ i. is_in i is) (identities (trees_of run))), run)) (inl (is, refl)) refl h
+concluded mixed [] (a ∷ more) run q h = is_value IsConcluded (map (λ x. item.Atomic x) (a ∷ more), run) q (Ok (map (λ x. item.Atomic x) (a ∷ more), run)) (inr (a ∷ more, refl)) refl h
+concluded mixed (i ∷ is) (a ∷ more) run q h = absurd (no_value mixed q h)
 
-segment : (m : Meaning) (env : Environment) (items : List Item) → Gives IsConcluded (paths.segment env items m)
-segment m env items =
+segment : (mixed : Code) (m : Meaning) (env : Environment) (items : List Item) → Gives IsConcluded (paths.segment mixed env items m)
+segment mixed m env items =
     after_step IsConcluded (come_to (operators.all_nodes code.XPTY0019 items)) _ (λ _.
-    after_step IsConcluded (each (λ i f x. turn (m (with_focus x (i + 1) (length items) env) >>= paths.all_found f)) 0 items (record { nodes = []; atoms = [] })) _ (λ (found : paths.Found). concluded found.nodes found.atoms))
+    after_step IsConcluded (each (λ i f x. turn (m (with_focus x (i + 1) (length items) env) >>= paths.all_found f)) 0 items (record { nodes = []; atoms = [] })) _ (λ (found : paths.Found). concluded mixed found.nodes found.atoms))
 
-segments : (env : Environment) (n : ℕ) (m : Meaning) (ms : List Meaning) (items : List Item) → Gives IsConcluded (each (λ _. paths.segment env) n (m ∷ ms) items)
-segments env n m [] items = last_of (paths.segment env items m) (segment m env items)
+segments : (steps : ℕ) (env : Environment) (n : ℕ) (m : Meaning) (ms : List Meaning) (items : List Item) → Gives IsConcluded (each (λ i. paths.segment (paths.mixed_code steps i) env) n (m ∷ ms) items)
+segments steps env n m [] items = last_of (paths.segment (paths.mixed_code steps n) env items m) (segment (paths.mixed_code steps n) m env items)
   where
     last_of : (m : M (List Item)) → Gives IsConcluded m → Gives IsConcluded (m >>= pure)
     last_of m holds run q h = of (m run) refl h
@@ -57,7 +57,7 @@ segments env n m [] items = last_of (paths.segment env items m) (segment m env i
         of : (r : Result (List Item × Run) Code) → m run ≡ r → and_then r pure ≡ Ok q → IsConcluded q
         of (Ok a) e g = is_value IsConcluded a q (Ok a) (holds run a e) refl g
         of (Err e) e' g = absurd (no_value e q g)
-segments env n m (k ∷ ms) items = after_step IsConcluded (paths.segment env items m) _ (λ more. segments env (suc n) k ms more)
+segments steps env n m (k ∷ ms) items = after_step IsConcluded (paths.segment (paths.mixed_code steps n) env items m) _ (λ more. segments steps env (suc n) k ms more)
 
 pub path_in_order : (m n : Meaning) (ms : List Meaning) (env : Environment) → Gives IsConcluded (paths.path m (n ∷ ms) env)
-path_in_order m n ms env = after_step IsConcluded (m env) _ (λ items. segments env 0 n ms items)
+path_in_order m n ms env = after_step IsConcluded (m env) _ (λ items. segments (length (n ∷ ms)) env 0 n ms items)

@@ -1,5 +1,5 @@
 -- Steps, predicates, filters and paths (XQuery 1.0, sections 3.2 and 3.3.2).
-use Rattle.std.specs.Prelude.{ℕ, ◌+◌, pos, Bool, true, false, ◌&&◌, nat_le, if◌then◌else◌, List, [], ◌∷◌, ◌++◌, length, filter, reverse, map, Option, Some, None, Result, Ok, Err}
+use Rattle.std.specs.Prelude.{ℕ, ◌+◌, ◌==◌, pos, Bool, true, false, ◌&&◌, nat_le, if◌then◌else◌, List, [], ◌∷◌, ◌++◌, length, filter, reverse, map, Option, Some, None, Result, Ok, Err}
 use Rattle.std.specs.Ordering.{is_eq, int_cmp}
 use Rattle.std.specs.Str.{bytes_eq}
 use Rattle.data_model.specs.Trees.{Trees, Place, Content, find}
@@ -123,18 +123,22 @@ found_within f = if nat_le (length f.nodes + length f.atoms) most_items then Ok 
 abbrev pub all_found : Found → List Item → M Found
 all_found f xs = each (λ _ given x. come_to (found_within (and_found given x))) 0 xs f
 
--- nodes in document order, or atomic values in their order; never both
-abbrev pub concluded : List ℕ → List Atom → M (List Item)
-concluded is [] = seen (λ ts. nodes (filter (λ i. is_in i is) (identities ts)))
-concluded [] (a ∷ more) = pure (map (λ x. item.Atomic x) (a ∷ more))
-concluded (i ∷ is) (a ∷ more) = come_to (Err XPTY0018)
+-- nodes in document order, or atomic values in their order; both are a fault of this code
+abbrev pub concluded : (mixed : Code) → List ℕ → List Atom → M (List Item)
+concluded mixed is [] = seen (λ ts. nodes (filter (λ i. is_in i is) (identities ts)))
+concluded mixed [] (a ∷ more) = pure (map (λ x. item.Atomic x) (a ∷ more))
+concluded mixed (i ∷ is) (a ∷ more) = come_to (Err mixed)
 
 -- `a/b` (section 3.2): b for each node that a gives, which takes a turn
-abbrev pub segment : Environment → List Item → Meaning → M (List Item)
-segment env items m = do
+abbrev pub segment : (mixed : Code) → Environment → List Item → Meaning → M (List Item)
+segment mixed env items m = do
   _ ← come_to (all_nodes XPTY0019 items)
   found ← each (λ i f x. turn (m (with_focus x (i + 1) (length items) env) >>= all_found f)) 0 items (record { nodes = []; atoms = [] })
-  concluded found.nodes found.atoms
+  concluded mixed found.nodes found.atoms
+
+-- The code of a step, of so many, that gives nodes and atomic values: XPTY0018 is that of the last step; any other must not give an atomic value.
+abbrev pub mixed_code : (steps before : ℕ) → Code
+mixed_code steps before = if before + 1 == steps then XPTY0018 else XPTY0019
 
 abbrev pub path : Meaning → List Meaning → Meaning
-path m ms = λ env. m env >>= each (λ _. segment env) 0 ms
+path m ms = λ env. m env >>= each (λ i. segment (mixed_code (length ms) i) env) 0 ms

@@ -103,6 +103,8 @@ pub fn paths()
     ensures last { below_r (any axis.Child (call (codes "last") [] ∷ []) ∷ []) ≡ Ok (codes "element a {text {\"3\"}}" ∷ []) }
     // $r/(a, 1)
     ensures mixed { below_r (list (child (codes "a") ∷ int 1 ∷ []) ∷ []) ≡ Err XPTY0018 }
+    // $r/(a, 1)/b
+    ensures mixed_before_the_last { below_r (list (child (codes "a") ∷ int 1 ∷ []) ∷ child (codes "b") ∷ []) ≡ Err XPTY0019 }
     // (1, $r)/a
     ensures atomic { said (with_r (path (list ((int 1) ∷ (var (codes "r")) ∷ [])) (child (codes "a") ∷ []))) ≡ Err XPTY0019 }
     // 1[a]

@@ -14,15 +14,17 @@ use Rattle.values.specs.declared.fault.ValueFault.{ValueFault}
 use Rattle.values.specs.declared.fault.ValueFault.TheVariants as fault
 use Rattle.query_meaning.specs.Environment.{Environment, with_focus}
 use Rattle.query_meaning.specs.Operators.{all_nodes, nodes}
-use Rattle.query_meaning.specs.Paths.{Found, all_found, and_found, found_within, concluded, segment}
-use Rattle.query_meaning.specs.Running.{M, Run, and_then, ◌>>=◌, come_to, trees_of, turn, within, most_items}
+use Rattle.query_meaning.specs.Meaning.{mean}
+use Rattle.query_meaning.specs.Paths.{Found, all_found, and_found, found_within, concluded, mixed_code, segment}
+use Rattle.query_meaning.specs.Running.{M, Run, and_then, ◌>>=◌, come_to, each, trees_of, turn, within, most_items}
 use Rattle.query_meaning.specs.Sequences.{Meaning}
 use Rattle.evaluation.specs.Gives.{Fails, Gives, GivesIn, Says, Stand, Turns}
 use Rattle.evaluation.proofs.Each.{grows_refl, then_gives}
 use Rattle.query_steps.proofs.Ancestors.{held-once}
 use Rattle.query_steps.proofs.Members.{filtered-stand, not-too-many, within-is}
 use Rattle.query_paths.proofs.Counts.{members}
-use Rattle.query_paths.specs.Gathered.{IsFew, IsFewIn, one_found, found_in, gathered}
+use Rattle.query_grammar.specs.declared.ast.Expr.{Expr}
+use Rattle.query_paths.specs.Gathered.{IsFew, IsFewIn, followed, one_found, found_in, gathered}
 
 -- one item more
 pub one_gives : (f : Found) (x : Item) (run : Run) (r : Result Found ValueFault) → Says (found_within (and_found f x)) r → IfOk r IsFew → GivesIn IsFewIn (one_found f x) run r run
@@ -57,24 +59,24 @@ found_gives m env n i f x old mid new items seen r turns value same all =
     turn_gives IsFewIn (own >>= all_found f) old mid new r turns (then_gives Stand IsFewIn own (all_found f) mid new new items r value (subst P same (all new)))
 
 -- the segment, by its two halves
-module _ (env : Environment) (items : List Item) (m : Meaning) (old : Run) (all : IsOk (all_nodes XPTY0019 items)) where
+module _ (mixed : Code) (env : Environment) (items : List Item) (m : Meaning) (old : Run) (all : IsOk (all_nodes XPTY0019 items)) where
   abbrev rest : M (List Item)
-  rest = gathered env items m >>= (λ f. concluded f.nodes f.atoms)
+  rest = gathered env items m >>= (λ f. concluded mixed f.nodes f.atoms)
 
-  same : segment env items m old ≡ rest old
+  same : segment mixed env items m old ≡ rest old
   same = by (all_nodes XPTY0019 items) all
     where
       by : (r : Result (List ℕ) Code) → IsOk r → (come_to r >>= (λ _. rest)) old ≡ rest old
       by (Ok is) h = refl
       by (Err code) h = cc
 
-  pub segment_gives : (mid : Run) (f : Found) (r : Result (List Item) ValueFault) → GivesIn IsFewIn (gathered env items m) old (Ok f) mid → Gives (concluded f.nodes f.atoms) mid r mid → Gives (segment env items m) old r mid
+  pub segment_gives : (mid : Run) (f : Found) (r : Result (List Item) ValueFault) → GivesIn IsFewIn (gathered env items m) old (Ok f) mid → Gives (concluded mixed f.nodes f.atoms) mid r mid → Gives (segment mixed env items m) old r mid
   segment_gives mid f r found end =
-      same_gives Stand (segment env items m) rest old mid r same (then_gives IsFewIn Stand (gathered env items m) (λ f. concluded f.nodes f.atoms) old mid mid f r found end)
+      same_gives Stand (segment mixed env items m) rest old mid r same (then_gives IsFewIn Stand (gathered env items m) (λ f. concluded mixed f.nodes f.atoms) old mid mid f r found end)
 
-  pub segment_fails : (e : ValueFault) → Fails (gathered env items m old) e → Fails (segment env items m old) e
+  pub segment_fails : (e : ValueFault) → Fails (gathered env items m old) e → Fails (segment mixed env items m old) e
   segment_fails fault.Memory failed = tt
-  segment_fails (fault.Code code) failed = same ∙ ap (λ o. and_then o (λ f. concluded f.nodes f.atoms)) failed
+  segment_fails (fault.Code code) failed = same ∙ ap (λ o. and_then o (λ f. concluded mixed f.nodes f.atoms)) failed
 
 -- items that are not too many are given
 few_gives : (m : M (List Item)) (xs : List Item) (run : Run) (r : Result (List Item) ValueFault) → m run ≡ Ok (xs, run) → Stand xs run → length xs ≤ 10000 → Says (within xs) r → Gives m run r run
@@ -96,12 +98,12 @@ nodes_few ns vs run d few =
     let whole : length (nodes (listed ns run)) ≡ length (listed ns run) = length-map (listed ns run) (λ i. item.Node i) in
     omega (arith, few, fewer, whole)
 
-pub nodes_give : (ns : List ℕ) (vs : List Atom) (run : Run) (ordered seen : List ℕ) (xs : List Item) (r : Result (List Item) ValueFault)
+pub nodes_give : (mixed : Code) (ns : List ℕ) (vs : List Atom) (run : Run) (ordered seen : List ℕ) (xs : List Item) (r : Result (List Item) ValueFault)
     → AreDistinct (trees_of run) → vs ≡ [] → length ns + length vs ≤ most_items → ordered ≡ filter (λ i. is_in i ns) (identities (trees_of run)) → seen ≡ ordered → xs ≡ nodes seen → Says (within xs) r
-    → Gives (concluded ns vs) run r run
-nodes_give ns vs run ordered seen xs r d none few found same items says =
+    → Gives (concluded mixed ns vs) run r run
+nodes_give mixed ns vs run ordered seen xs r d none few found same items says =
     let P : List Item → Type 0 = λ ys. Says (within ys) r in
-    few_gives (concluded ns vs) (nodes (listed ns run)) run r (ap (λ bs. concluded ns bs run) none) (filtered-stand (λ i. is_in i ns) run) (nodes_few ns vs run d few) (subst P (items ∙ ap nodes (same ∙ found)) says)
+    few_gives (concluded mixed ns vs) (nodes (listed ns run)) run r (ap (λ bs. concluded mixed ns bs run) none) (filtered-stand (λ i. is_in i ns) run) (nodes_few ns vs run d few) (subst P (items ∙ ap nodes (same ∙ found)) says)
 
 -- atomic values that are found
 abbrev values : List Atom → List Item
@@ -116,15 +118,15 @@ values_few : (ns : List ℕ) (vs : List Atom) → length ns + length vs ≤ most
 unfolding most_items
 values_few ns vs few = let whole : length (values vs) ≡ length vs = length-map vs (λ a. item.Atomic a) in omega (arith, few, whole)
 
-some_values : (vs : List Atom) (run : Run) → (vs ≡ [] → ⊥) → concluded [] vs run ≡ Ok (values vs, run)
-some_values [] run some = absurd (some refl)
-some_values (a ∷ vs) run some = refl
+some_values : (mixed : Code) (vs : List Atom) (run : Run) → (vs ≡ [] → ⊥) → concluded mixed [] vs run ≡ Ok (values vs, run)
+some_values mixed [] run some = absurd (some refl)
+some_values mixed (a ∷ vs) run some = refl
 
-pub values_give : (ns : List ℕ) (vs seen : List Atom) (run : Run) (xs : List Item) (r : Result (List Item) ValueFault)
-    → ns ≡ [] → (vs ≡ [] → ⊥) → length ns + length vs ≤ most_items → seen ≡ vs → xs ≡ map (λ a. item.Atomic a) seen → Says (within xs) r → Gives (concluded ns vs) run r run
-values_give ns vs seen run xs r none some few same items says =
+pub values_give : (mixed : Code) (ns : List ℕ) (vs seen : List Atom) (run : Run) (xs : List Item) (r : Result (List Item) ValueFault)
+    → ns ≡ [] → (vs ≡ [] → ⊥) → length ns + length vs ≤ most_items → seen ≡ vs → xs ≡ map (λ a. item.Atomic a) seen → Says (within xs) r → Gives (concluded mixed ns vs) run r run
+values_give mixed ns vs seen run xs r none some few same items says =
     let P : List Item → Type 0 = λ ys. Says (within ys) r in
-    few_gives (concluded ns vs) (values vs) run r (ap (λ is. concluded is vs run) none ∙ some_values vs run some) (values_there vs run) (values_few ns vs few) (subst P (items ∙ ap values same) says)
+    few_gives (concluded mixed ns vs) (values vs) run r (ap (λ is. concluded mixed is vs run) none ∙ some_values mixed vs run some) (values_there vs run) (values_few ns vs few) (subst P (items ∙ ap values same) says)
 
 -- whether a list has items, by its length
 pub no_items : {A : Type 0} (xs : List A) (n : ℕ) (b : Bool) → n ≡ length xs → b ≡ (n == 0) → b ≡ true → xs ≡ []
@@ -134,3 +136,8 @@ no_items (x ∷ xs) n b long e h = let z = eqb-true n 0 (sym e ∙ h) in absurd 
 pub some_items : {A : Type 0} (xs : List A) (n : ℕ) (b : Bool) → n ≡ length xs → b ≡ (n == 0) → b ≡ false → xs ≡ [] → ⊥
 some_items [] n b long e h none = let z : true ≡ false = sym (eq-eqb n 0 long) ∙ sym e ∙ h in cc
 some_items (x ∷ xs) n b long e h none = cc
+
+-- ---- the parts of a path are as many as their meanings
+pub followed_gives : (parts : List Expr) (env : Environment) (items : List Item) (old new : Run) (r : Result (List Item) ValueFault)
+    → Gives (each (λ i. segment (mixed_code (length parts) i) env) 0 (map mean parts) items) old r new → Gives (followed env items (map mean parts)) old r new
+followed_gives parts env items old new r h = subst (λ k. Gives (each (λ i. segment (mixed_code k i) env) 0 (map mean parts) items) old r new) (sym (length-map parts mean)) h

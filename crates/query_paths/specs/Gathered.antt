@@ -5,7 +5,7 @@ use Rattle.values.specs.contracts.atom.Atom as atom
 use Rattle.values.specs.declared.atom.Atom.{Atom}
 use Rattle.values.specs.declared.atom.Item.{Item}
 use Rattle.query_meaning.specs.Environment.{Environment, with_focus}
-use Rattle.query_meaning.specs.Paths.{Found, all_found, and_found, found_within, segment}
+use Rattle.query_meaning.specs.Paths.{Found, all_found, and_found, found_within, segment, mixed_code}
 use Rattle.query_meaning.specs.Running.{M, Run, ◌>>=◌, come_to, each, turn, most_items}
 use Rattle.query_meaning.specs.Sequences.{Meaning}
 
@@ -35,4 +35,4 @@ gathered env items m = each (found_in m env (length items)) 0 items (record { no
 
 -- one segment after the other
 abbrev pub followed : Environment → List Item → List Meaning → M (List Item)
-followed env items ms = each (λ _. segment env) 0 ms items
+followed env items ms = each (λ i. segment (mixed_code (length ms) i) env) 0 ms items

@@ -120,10 +120,10 @@ impl Found {
         Ok(self)
     }
 
-    /// The nodes in document order, or the atomic values as they were found. Code: XPTY0018 where there are both.
-    pub(crate) fn concluded(self, run: &Evaluation) -> Result<Sequence, ValueFault>
+    /// The nodes in document order, or the atomic values as they were found. Code: `mixed` where there are both.
+    pub(crate) fn concluded(self, run: &Evaluation, mixed: Code) -> Result<Sequence, ValueFault>
         requires few { IsFew self }
-        ensures { Gives (meaning.concluded self.nodes self.atoms) run.now result run.now }
+        ensures { Gives (meaning.concluded mixed self.nodes self.atoms) run.now result run.now }
     {
         let Found { nodes, atoms, .. } = self;
         if atoms.is_empty() {
@@ -132,7 +132,7 @@ impl Found {
             return Kept::of_nodes(run.alloc(), &ordered)?.into_sequence();
         }
         if !nodes.is_empty() {
-            return Err(ValueFault::Code(Code::XPTY0018));
+            return Err(ValueFault::Code(mixed));
         }
         Kept::of_atoms(run.alloc(), &atoms)?.into_sequence()
     }

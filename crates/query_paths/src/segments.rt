@@ -21,8 +21,8 @@ use values::{Code, Item, ValueFault};
 impl<F: Fn(&mut Evaluation, &Expr, &Environment) -> Result<Sequence, ValueFault>> Paths<F> {
     /// `a/b/c`: what each part gives for each of the nodes that the parts before it give, which are its context items: nodes in document
     /// order, each once, or atomic values in the order in which they come (XQuery 1.0, section 3.2). Codes: that of the first part that
-    /// has one; XPTY0019 where an item that another part is evaluated for is no node; XPTY0018 where a part gives both nodes and atomic
-    /// values; PXQ0002 where no turn is left, or where a part gives more than 10,000 nodes and values.
+    /// has one; XPTY0019 where an item that another part is evaluated for is no node, or a part that is not the last gives both nodes and
+    /// atomic values; XPTY0018 where the last gives both; PXQ0002 where no turn is left, or where a part gives more than 10,000 nodes and values.
     pub fn path(
         &self,
         run: &mut Evaluation,
@@ -52,28 +52,32 @@ impl<F: Fn(&mut Evaluation, &Expr, &Environment) -> Result<Sequence, ValueFault>
         ensures { Gives (followed env.now items (map mean parts.now)) run.old result run.new }
     {
         let mut left = items;
+        let mut index = 0;
         for part in parts {
-            left = self.segment(run, left, part, env)?;
+            let mixed = mixed_code(parts.len(), index);
+            left = self.segment(run, left, part, mixed, env)?;
+            index += 1;
         }
         Ok(left)
     }
 
-    /// What a part gives for some items. Code: XPTY0019 where one of them is no node.
+    /// What a part gives for some items. Codes: XPTY0019 where one of them is no node; `mixed` where it gives both nodes and atomic values.
     fn segment(
         &self,
         run: &mut Evaluation,
         items: Sequence,
         part: &Expr,
+        mixed: Code,
         env: &Environment,
     ) -> Result<Sequence, ValueFault>
         requires evaluates { Evaluates (F.pre self.now.value_of) (F.post self.now.value_of) (part.now ∷ []) }
         requires ready { IsReady env.now run.old }
         requires stand { Stand items run.old }
-        ensures { Gives (meaning.segment env.now items (mean part.now)) run.old result run.new }
+        ensures { Gives (meaning.segment mixed env.now items (mean part.now)) run.old result run.new }
     {
         are_nodes(items.as_slice())?;
         let found = self.gathered(run, items.as_slice(), part, env)?;
-        found.concluded(run)
+        found.concluded(run, mixed)
     }
 
     /// All that a part gives for some items; each takes a turn.
@@ -120,6 +124,18 @@ impl<F: Fn(&mut Evaluation, &Expr, &Environment) -> Result<Sequence, ValueFault>
         let focus = env.with_focus(item, index + 1, size);
         let items = self.value_of(run, part, &focus)?;
         given.and_all(items.as_slice())
+    }
+}
+
+/// The code of a part, of so many, with so many before it, that gives both nodes and atomic values.
+fn mixed_code(parts: usize, before: usize) -> Code
+    requires { before < parts }
+    ensures { result ≡ meaning.mixed_code parts before }
+{
+    if before + 1 == parts {
+        Code::XPTY0018
+    } else {
+        Code::XPTY0019
     }
 }
 

@@ -14,11 +14,11 @@ returns-in_err-found g c =
     let p = err_from_is_err_and c.from_residual-in_err-found.result c.from_residual-in_err-found.ensures.1 in
     let P : List Item → Type 0 = λ xs. Fails (gathered c.args.env.now xs (mean c.args.part.now) c.args.run.now) c.in_err-found.field-0.0 in
     let Q : List Item → Type 0 = λ xs. IsOk (all_nodes XPTY0019 xs) in
-    rw (p.1, p.2) (segment_fails c.args.env.now c.args.items (mean c.args.part.now) c.args.run.now (subst Q c.as_slice.ensures.items c.in_ok-are_nodes.ensures.nodes) c.in_err-found.field-0.0 (subst P c.as_slice-2.ensures.items c.in_err-found.ensures))
+    rw (p.1, p.2) (segment_fails c.args.mixed c.args.env.now c.args.items (mean c.args.part.now) c.args.run.now (subst Q c.as_slice.ensures.items c.in_ok-are_nodes.ensures.nodes) c.in_err-found.field-0.0 (subst P c.as_slice-2.ensures.items c.in_err-found.ensures))
 
 pub returns : goal.returns
 returns g c =
     let P : List Item → Type 0 = λ xs. GivesIn IsFewIn (gathered c.args.env.now xs (mean c.args.part.now)) c.args.run.now (Ok c.in_ok-found.found) c.gathered.new.run in
     let Q : List Item → Type 0 = λ xs. IsOk (all_nodes XPTY0019 xs) in
-    segment_gives c.args.env.now c.args.items (mean c.args.part.now) c.args.run.now (subst Q c.as_slice.ensures.items c.in_ok-are_nodes.ensures.nodes) c.gathered.new.run c.in_ok-found.found c.concluded.result
+    segment_gives c.args.mixed c.args.env.now c.args.items (mean c.args.part.now) c.args.run.now (subst Q c.as_slice.ensures.items c.in_ok-are_nodes.ensures.nodes) c.gathered.new.run c.in_ok-found.found c.concluded.result
     (subst P c.as_slice-2.ensures.items c.in_ok-found.ensures) c.concluded.ensures
