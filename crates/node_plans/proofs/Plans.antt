@@ -2,7 +2,7 @@
 use Rattle.std.proofs.Common.{◌≡◌, ◌≢◌, ℕ, List, [], ◌∷◌, Bool, true, false, ◌||◌, cond, eqb, refl, ap, sym, ◌∙◌, ⊎_elim, Option, Some, None, IsSome, is_some, option_map, nat_eq, arith}
 use Rattle.std.specs.Option.{option_or}
 use Rattle.std.specs.List.{list_any, IsDistinct}
-use Rattle.std.specs.HashMap.{HashMap, get, Updates}
+use Rattle.row_pages.specs.Rows.{Term, get, Changes}
 use Rattle.std.specs.HashSet.{contains}
 use Rattle.std.specs.Map.{update_all, keys_of}
 use Rattle.std.proofs.lemmas.Map.Made.{update_all_distinct}
@@ -51,7 +51,7 @@ two-tests false false o = refl
 apart-test : (k i : ℕ) → i ≢ k → nat_eq k i ≡ false
 apart-test k i ne = grind (arith, nat_tests)
 
-pub nothing-planned : (p : Plan) → p.rows.entries ≡ [] → p.gone.keys ≡ [] → (r : ℕ → Option Row) → planned p r ≡ r
+pub nothing-planned : (p : Plan) → p.rows.0 ≡ [] → p.gone.keys ≡ [] → (r : ℕ → Option Row) → planned p r ≡ r
 unfolding planned row_of
 nothing-planned p a b r = λ t i. (let e : planned p r i ≡ r i = rw (a, b) refl in e t)
 
@@ -86,32 +86,32 @@ module _ {X : Type 0} (g : Option Row → X) (p q : Plan) (r : ℕ → Option Ro
   pub touched : (i : ℕ) → g (planned q r i) ≡ g (planned p r i)
   touched i = ⊎_elim (λ t. rw t.1 (ap g (planned-own q r k y put) ∙ same ∙ sym (ap g was))) (λ t. ap g (others i t.1)) (eqb_tells i k)
 
-pub copied-table : {S : Type 0} (p q : Plan) (m : HashMap ℕ Row S) (k : ℕ) (x y : Row) → row_of p.rows k ≡ None → row_of m k ≡ Some x → IsSome (table_with p m k) → entry_of_row y ≡ entry_of_row x → q.gone ≡ p.gone → Updates nat_eq p.rows q.rows k (Some y) → table_with q m ≡ table_with p m
+pub copied-table : (p q : Plan) (m : Term Row) (k : ℕ) (x y : Row) → row_of p.rows k ≡ None → row_of m k ≡ Some x → IsSome (table_with p m k) → entry_of_row y ≡ entry_of_row x → q.gone ≡ p.gone → Changes k (Some y) p.rows q.rows → table_with q m ≡ table_with p m
 unfolding table_with row_of
 copied-table p q m k x y none at there same left u = λ t i.
-    (let e : table_with q m i ≡ table_with p m i = touched (option_map entry_of_row) p q (row_of m) k x y none at (map-there (planned p (row_of m) k) there) (ap Some same) left u.1 (λ j ne. u.2 j (apart-test k j ne)) i in e t)
+    (let e : table_with q m i ≡ table_with p m i = touched (option_map entry_of_row) p q (row_of m) k x y none at (map-there (planned p (row_of m) k) there) (ap Some same) left u.here (λ j ne. u.apart j ne) i in e t)
 
-pub copied-places : {S : Type 0} (p q : Plan) (m : HashMap ℕ Row S) (k : ℕ) (x y : Row) → row_of p.rows k ≡ None → row_of m k ≡ Some x → IsSome (table_with p m k) → y.place ≡ x.place → q.gone ≡ p.gone → Updates nat_eq p.rows q.rows k (Some y) → places_with q m ≡ places_with p m
+pub copied-places : (p q : Plan) (m : Term Row) (k : ℕ) (x y : Row) → row_of p.rows k ≡ None → row_of m k ≡ Some x → IsSome (table_with p m k) → y.place ≡ x.place → q.gone ≡ p.gone → Changes k (Some y) p.rows q.rows → places_with q m ≡ places_with p m
 unfolding table_with places_with row_of
 copied-places p q m k x y none at there same left u = λ t i.
-    (let e : places_with q m i ≡ places_with p m i = touched (place_in i) p q (row_of m) k x y none at (map-there (planned p (row_of m) k) there) same left u.1 (λ j ne. u.2 j (apart-test k j ne)) i in e t)
+    (let e : places_with q m i ≡ places_with p m i = touched (place_in i) p q (row_of m) k x y none at (map-there (planned p (row_of m) k) there) same left u.here (λ j ne. u.apart j ne) i in e t)
 
 -- a node that has no row in either has none
-pub planned-none : {S : Type 0} (p : Plan) (m : HashMap ℕ Row S) (i : ℕ) → row_of p.rows i ≡ None → row_of m i ≡ None → IsSome (table_with p m i) → ⊥
+pub planned-none : (p : Plan) (m : Term Row) (i : ℕ) → row_of p.rows i ≡ None → row_of m i ≡ None → IsSome (table_with p m i) → ⊥
 unfolding table_with planned
 planned-none p m i a b h = (let z = rw (a, b) at h in neither (contains nat_eq p.gone i) z)
 
 -- ---- a plan whose rows are as they were
-pub table-unchanged : {S : Type 0} (p q : Plan) (m : HashMap ℕ Row S) → q.rows.entries ≡ p.rows.entries → q.gone ≡ p.gone → table_with q m ≡ table_with p m
+pub table-unchanged : (p q : Plan) (m : Term Row) → q.rows.0 ≡ p.rows.0 → q.gone ≡ p.gone → table_with q m ≡ table_with p m
 unfolding table_with planned row_of
 table-unchanged p q m e g = rw (e, g) refl
 
-pub places-unchanged : {S : Type 0} (p q : Plan) (m : HashMap ℕ Row S) → q.rows.entries ≡ p.rows.entries → q.gone ≡ p.gone → places_with q m ≡ places_with p m
+pub places-unchanged : (p q : Plan) (m : Term Row) → q.rows.0 ≡ p.rows.0 → q.gone ≡ p.gone → places_with q m ≡ places_with p m
 unfolding places_with planned row_of
 places-unchanged p q m e g = rw (e, g) refl
 
 -- ---- what was read
-pub row-found : {S : Type 0} (m : HashMap ℕ Row S) (k i : ℕ) (o : Option Row) → get nat_eq m k ≡ o → k ≡ i → row_of m i ≡ o
+pub row-found : (m : Term Row) (k i : ℕ) (o : Option Row) → get m k ≡ o → k ≡ i → row_of m i ≡ o
 unfolding row_of
 row-found m k i o e same = rw (← same) e
 
@@ -119,35 +119,35 @@ pub not-some : {X : Type 0} (o : Option X) → is_some o ≡ false → o ≡ Non
 not-some None h = refl
 not-some (Some x) h = cc
 
-pub row-put : {S : Type 0} (m n : HashMap ℕ Row S) (k : ℕ) (r : Row) → Updates nat_eq m n k (Some r) → row_of n k ≡ Some r
+pub row-put : (m n : Term Row) (k : ℕ) (r : Row) → Changes k (Some r) m n → row_of n k ≡ Some r
 unfolding row_of
-row-put m n k r u = u.1
+row-put m n k r u = u.here
 
-pub row-there : {S : Type 0} (m : HashMap ℕ Row S) (i : ℕ) → is_some (table_of m i) ≡ is_some (row_of m i)
+pub row-there : (m : Term Row) (i : ℕ) → is_some (table_of m i) ≡ is_some (row_of m i)
 unfolding table_of row_of
-row-there m i = some-map entry_of_row (get nat_eq m i)
+row-there m i = some-map entry_of_row (get m i)
 
-pub entry-with : {S : Type 0} (p : Plan) (m : HashMap ℕ Row S) (i : ℕ) (o : Option Row) → o ≡ rows_with p m i → table_with p m i ≡ option_map entry_of_row o
+pub entry-with : (p : Plan) (m : Term Row) (i : ℕ) (o : Option Row) → o ≡ rows_with p m i → table_with p m i ≡ option_map entry_of_row o
 unfolding table_with
 entry-with p m i o e = ap (option_map entry_of_row) (sym e)
 
-pub kept-put : {S : Type 0} (m n : HashMap ℕ Row S) (k : ℕ) (r : Row) → Updates nat_eq m n k (Some r) → (i : ℕ) → IsSome (row_of m i) → IsSome (row_of n i)
+pub kept-put : (m n : Term Row) (k : ℕ) (r : Row) → Changes k (Some r) m n → (i : ℕ) → IsSome (row_of m i) → IsSome (row_of n i)
 unfolding row_of
-kept-put m n k r u i h = ⊎_elim (λ (t : (eqb i k ≡ true) × (i ≡ k)). rw t.1 (ap is_some u.1)) (λ (t : (eqb i k ≡ false) × (i ≢ k)). ap is_some (u.2 i (apart-test k i t.1)) ∙ h) (eqb_tells i k)
+kept-put m n k r u i h = ⊎_elim (λ (t : (eqb i k ≡ true) × (i ≡ k)). rw t.1 (ap is_some u.here)) (λ (t : (eqb i k ≡ false) × (i ≢ k)). ap is_some (u.apart i t.1) ∙ h) (eqb_tells i k)
 
-pub kept-same : {S : Type 0} (m n : HashMap ℕ Row S) → n.entries ≡ m.entries → (i : ℕ) → IsSome (row_of m i) → IsSome (row_of n i)
+pub kept-same : (m n : Term Row) → n.0 ≡ m.0 → (i : ℕ) → IsSome (row_of m i) → IsSome (row_of n i)
 unfolding row_of
 kept-same m n e i h = rw e h
 
 -- ---- a planned row that is changed
-pub table-or : {S : Type 0} (m : HashMap ℕ Row S) (r : Plan) (i : ℕ) → table_with r m i ≡ entry_or (table_of r.rows i) (option_map entry_of_row (cond (contains nat_eq r.gone i) None (row_of m i)))
+pub table-or : (m : Term Row) (r : Plan) (i : ℕ) → table_with r m i ≡ entry_or (table_of r.rows i) (option_map entry_of_row (cond (contains nat_eq r.gone i) None (row_of m i)))
 unfolding table_with planned table_of row_of
 table-or m r i = map-or entry_of_row (row_of r.rows i) _
 
-pub some-or : {S : Type 0} (m : HashMap ℕ Row S) (r : Plan) (i : ℕ) (e : Entry) → table_of r.rows i ≡ Some e → table_with r m i ≡ Some e
+pub some-or : (m : Term Row) (r : Plan) (i : ℕ) (e : Entry) → table_of r.rows i ≡ Some e → table_with r m i ≡ Some e
 some-or m r i e h = table-or m r i ∙ rw h refl
 
-module _ {S : Type 0} (p q : Plan) (m : HashMap ℕ Row S) (left : q.gone ≡ p.gone) where
+module _ (p q : Plan) (m : Term Row) (left : q.gone ≡ p.gone) where
   same-or : (i : ℕ) → table_of q.rows i ≡ table_of p.rows i → table_with q m i ≡ table_with p m i
   same-or i e = table-or m q i ∙ rw (left, e) (sym (table-or m p i))
 
@@ -175,17 +175,17 @@ module _ {S : Type 0} (p q : Plan) (m : HashMap ℕ Row S) (left : q.gone ≡ p.
 pub remove-step : (left : List ℕ) (x i : ℕ) (o : Option Row) → cond (list_any (nat_eq i) left) None (cond (nat_eq x i) None o) ≡ cond (list_any (nat_eq i) (x ∷ left)) None o
 remove-step left x i o = rw (nat_eq_equiv.symm x i) (two-tests (list_any (nat_eq i) left) (nat_eq i x) o)
 
-pub put-all : (p : Plan) (f r : ℕ → Option Row) → ((i : ℕ) → f i ≡ cond (contains nat_eq p.gone i) None (r i)) → IsDistinct nat_eq (keys_of p.rows.entries) → (i : ℕ) → update_all nat_eq f p.rows.entries i ≡ planned p r i
+pub put-all : (p : Plan) (f r : ℕ → Option Row) → ((i : ℕ) → f i ≡ cond (contains nat_eq p.gone i) None (r i)) → IsDistinct nat_eq (keys_of p.rows.0) → (i : ℕ) → update_all nat_eq f p.rows.0 i ≡ planned p r i
 unfolding planned row_of
-put-all p f r e d i = update_all_distinct nat_eq_equiv nat_eq (λ x y. refl) f p.rows.entries i d ∙ rw (e i) refl
+put-all p f r e d i = update_all_distinct nat_eq_equiv nat_eq (λ x y. refl) f p.rows.0 i d ∙ rw (e i) refl
 
 -- ---- what a node's row carries
-pub place-with : {S : Type 0} (p : Plan) (m : HashMap ℕ Row S) (i : ℕ) (o : Option Row) → o ≡ rows_with p m i → place_in i o ≡ places_with p m i
+pub place-with : (p : Plan) (m : Term Row) (i : ℕ) (o : Option Row) → o ≡ rows_with p m i → place_in i o ≡ places_with p m i
 unfolding places_with
 place-with p m i o e = ap (place_in i) e
 
 -- rows of the plan that carry other numbers
-module _ {S : Type 0} (p q : Plan) (m : HashMap ℕ Row S) (left : q.gone ≡ p.gone) (says : table_of q.rows ≡ table_of p.rows) where
+module _ (p q : Plan) (m : Term Row) (left : q.gone ≡ p.gone) (says : table_of q.rows ≡ table_of p.rows) where
   pub renumbered-table : table_with q m ≡ table_with p m
   renumbered-table = λ t i. same-or p q m left i (ap (λ (f : Table). f i) says) t
 
@@ -201,3 +201,15 @@ module _ {S : Type 0} (p q : Plan) (m : HashMap ℕ Row S) (left : q.gone ≡ p.
   pub renumbered-here : (i : ℕ) → IsSome (row_of p.rows i) → places_with q m i ≡ place_of q.rows i
   unfolding places_with planned place_of row_of
   renumbered-here i there = place-own i (row_of q.rows i) _ (rows-stay i ∙ there)
+
+-- ---- rows that a plan's rows take the place of, one by one
+pub settle-step : (m n : Term Row) (f : ℕ → Option Row) (k : ℕ) (r : Row) → get m k ≡ Some r → Changes k None m n → (i : ℕ) → option_or (row_of n i) (cond (nat_eq k i) (Some r) (f i)) ≡ option_or (row_of m i) (f i)
+unfolding row_of
+settle-step m n f k r at u i =
+    ⊎_elim (λ (t : (eqb k i ≡ true) × (k ≡ i)). (let z : nat_eq k i ≡ true = t.0 in let gone : get n i ≡ None = ap (get n) (sym t.1) ∙ u.here in let was : get m i ≡ Some r = ap (get m) (sym t.1) ∙ at in rw (z, gone, was) refl))
+    (λ (t : (eqb k i ≡ false) × (k ≢ i)). (let z : nat_eq k i ≡ false = t.0 in let same : get n i ≡ get m i = u.apart i (λ e. t.1 (sym e)) in rw (z, same) refl))
+    (eqb_tells k i)
+
+pub settle-end : (m : Term Row) (i : ℕ) (o : Option Row) → get m i ≡ None → o ≡ option_or (row_of m i) o
+unfolding row_of
+settle-end m i o e = rw e refl

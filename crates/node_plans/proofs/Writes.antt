@@ -1,6 +1,6 @@
 -- What a splice writes into a plan.
 use Rattle.std.proofs.Common.{◌≡◌, ◌≢◌, ℕ, ◌<◌, List, true, false, cond, eqb, refl, ap, sym, ◌∙◌, ⊎_elim, Option, Some, None, IsSome, is_some, option_map, nat_eq, BuildHasherDefault, FoldHasher}
-use Rattle.std.specs.HashMap.{HashMap}
+use Rattle.row_pages.specs.Rows.{Term}
 use Rattle.std.specs.HashSet.{contains}
 use Rattle.std.proofs.lemmas.Bool.Decides.{eqb_tells}
 use Rattle.data_model.specs.Trees.{Trees, count}
@@ -35,7 +35,7 @@ hidden p q k e g r = (
 )
 
 -- ---- a plan with the same rows, and the same nodes that go
-module _ {S : Type 0} (p q : Plan) (m : HashMap ℕ Row S) (rows : row_of q.rows ≡ row_of p.rows) (gone : (i : ℕ) → contains nat_eq q.gone i ≡ contains nat_eq p.gone i) where
+module _ (p q : Plan) (m : Term Row) (rows : row_of q.rows ≡ row_of p.rows) (gone : (i : ℕ) → contains nat_eq q.gone i ≡ contains nat_eq p.gone i) where
   pub same-table : table_with q m ≡ table_with p m
   unfolding table_with planned
   same-table = λ t i. (let z : table_with q m i ≡ table_with p m i = rw (ap (λ (f : ℕ → Option Row). f i) rows, gone i) refl in z t)
@@ -49,11 +49,11 @@ entry-none None b h = refl
 entry-none (Some x) b h = cc
 
 -- what is not there has no planned row
-pub no-planned : {S : Type 0} (p : Plan) (m : HashMap ℕ Row S) (i : ℕ) → table_with p m i ≡ None → row_of p.rows i ≡ None
+pub no-planned : (p : Plan) (m : Term Row) (i : ℕ) → table_with p m i ≡ None → row_of p.rows i ≡ None
 no-planned p m i h = no-row p.rows i (entry-none (table_of p.rows i) _ (sym (table-or m p i) ∙ h))
 
 -- what has a planned row says what that says
-planned-says : {S : Type 0} (p : Plan) (m : HashMap ℕ Row S) (i : ℕ) (e : Entry) → IsSome (row_of p.rows i) → table_with p m i ≡ Some e → table_of p.rows i ≡ Some e
+planned-says : (p : Plan) (m : Term Row) (i : ℕ) (e : Entry) → IsSome (row_of p.rows i) → table_with p m i ≡ Some e → table_of p.rows i ≡ Some e
 planned-says p m i e there says =
     let x = some-of (table_of p.rows i) (row-there p.rows i ∙ there) in
     let z : Some x.0 ≡ Some e = sym (some-or m p i x.0 x.1) ∙ says in
@@ -65,7 +65,7 @@ there-apart f p us has fresh = ⊎_elim (λ t. (let z = ap is_some (fresh p t.1)
 
 -- ---- the steps
 -- p0 is the plan, p1 has a row of p, rows have the trees us besides, p4 has another list in p's row, and p5 hides the nodes that go
-module _ {S : Type 0} (p0 p1 p4 p5 : Plan) (rows : HashMap ℕ Row (BuildHasherDefault FoldHasher)) (m : HashMap ℕ Row S) (part : Part) (p first : ℕ) (list gone : List ℕ) (us : Trees) (table1 : table_with p1 m ≡ table_with p0 m) (places1 : places_with p1 m ≡ places_with p0 m) (there1 : IsSome (row_of p1.rows p))
+module _ (p0 p1 p4 p5 : Plan) (rows : Term Row) (m : Term Row) (part : Part) (p first : ℕ) (list gone : List ℕ) (us : Trees) (table1 : table_with p1 m ≡ table_with p0 m) (places1 : places_with p1 m ≡ places_with p0 m) (there1 : IsSome (row_of p1.rows p))
     (planted : Holds (table_of rows) (Some p) us) (ranked : AreRanked (place_of rows) first us) (others : (i : ℕ) → count i us ≡ 0 → row_of rows i ≡ row_of p1.rows i)
     (one : IsChangedAt (table_of rows) (table_of p4.rows) p (with_list part list)) (places4 : place_of p4.rows ≡ place_of rows) (gone4 : (i : ℕ) → contains nat_eq p4.gone i ≡ contains nat_eq p1.gone i)
     (left5 : (r : ℕ → Option Row) (i : ℕ) → 0 < held i gone → planned p5 r i ≡ None) (kept5 : (r : ℕ → Option Row) (i : ℕ) → held i gone ≡ 0 → planned p5 r i ≡ planned p4 r i)

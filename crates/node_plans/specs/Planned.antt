@@ -1,7 +1,7 @@
 -- A table of nodes and a plan over it, seen as one.
 use Rattle.std.specs.Prelude.{ℕ, cond, Option, None, option_map, nat_eq}
 use Rattle.std.specs.Option.{option_or}
-use Rattle.std.specs.HashMap.{HashMap}
+use Rattle.row_pages.specs.Rows.{Term}
 use Rattle.std.specs.HashSet.{contains}
 use Rattle.node_table.specs.declared.table.Row.{Row}
 use Rattle.node_table.specs.Flat.{Table}
@@ -13,7 +13,7 @@ use Rattle.node_plans.specs.declared.plan.Plan.{Plan}
 unfoldable pub planned : Plan → (ℕ → Option Row) → ℕ → Option Row
 planned p r i = option_or (row_of p.rows i) (cond (contains nat_eq p.gone i) None (r i))
 
-module _ {S : Type 0} (p : Plan) (m : HashMap ℕ Row S) where
+module _ (p : Plan) (m : Term Row) where
   -- the row of each node, as planned over the rows m
   abbrev pub rows_with : ℕ → Option Row
   rows_with = planned p (row_of m)

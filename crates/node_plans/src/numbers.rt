@@ -99,7 +99,7 @@ fn set_place(rows: &mut Rows, id: NodeId, place: u64)
     ensures here { place_of rows.new id ≡ place }
     ensures others { (i : ℕ) → i ≢ id → place_of rows.new i ≡ place_of rows.old i }
 {
-    if let Some(row) = rows.get_mut(&id.number()) {
+    if let Some(row) = rows.get_mut(id.number()) {
         row.place = place;
     }
 }

@@ -1,7 +1,7 @@
 //! Plans over a table's rows: how they are made, read and settled.
 
-ghost use Rattle.std.specs.Prelude.{◌≡◌, ℕ, ◌+◌, ◌≤◌, Option, Some, None, OnOk, OnErr, IsSome, option_map, cond, nat_eq, string_bytes};
-ghost use Rattle.std.specs.HashMap.{spare, hash_map_len};
+ghost use Rattle.std.specs.Prelude.{◌≡◌, length, ℕ, ◌+◌, ◌≤◌, Option, Some, None, OnOk, OnErr, IsSome, option_map, cond, nat_eq, string_bytes};
+ghost use Rattle.row_pages.specs.Rows.{spare, entries};
 ghost use Rattle.std.specs.HashSet.{contains};
 ghost use Rattle.node_table.specs.declared.table.Row.{Row};
 ghost use Rattle.node_table.specs.Flat.{IsChangedAt, with_text, with_name};
@@ -12,8 +12,9 @@ ghost use Rattle.node_plans.specs.Planned.{planned, rows_with, table_with, place
 use data_model::NodeId;
 use node_table::table;
 use node_table::table::{Row, Rows};
+use row_pages::RowPages;
 use std::alloc::{AllocError, Global};
-use std::collections::{HashMap, HashSet};
+use std::collections::HashSet;
 
 /// Rows that are to stand in a table in the place of its own, and nodes whose rows are to go from it.
 #[derive(Drop)]
@@ -30,7 +31,7 @@ impl Plan {
         ensures { (r : ℕ → Option Row) → planned result r ≡ r }
     {
         Plan {
-            rows: HashMap::new(alloc),
+            rows: RowPages::new(alloc),
             gone: HashSet::new(alloc),
         }
     }
@@ -40,13 +41,13 @@ impl Plan {
 pub fn find<'a>(rows: &'a Rows, plan: &'a Plan, id: NodeId) -> Option<&'a Row>
     ensures { option_map (λ row. row.now) result ≡ rows_with plan.now rows.now id }
 {
-    match plan.rows.get(&id.number()) {
+    match plan.rows.get(id.number()) {
         Some(row) => Some(row),
         None => {
             if plan.gone.contains(&id.number()) {
                 None
             } else {
-                rows.get(&id.number())
+                rows.get(id.number())
             }
         }
     }
@@ -60,10 +61,10 @@ pub fn touch(rows: &Rows, plan: &mut Plan, id: NodeId) -> Result<(), AllocError>
     ensures there { OnOk result (IsSome (row_of plan.new.rows id)) }
     ensures kept { (i : ℕ) → IsSome (row_of plan.old.rows i) → IsSome (row_of plan.new.rows i) }
 {
-    if plan.rows.contains_key(&id.number()) {
+    if plan.rows.contains_key(id.number()) {
         return Ok(());
     }
-    let Some(row) = rows.get(&id.number()) else {
+    let Some(row) = rows.get(id.number()) else {
         return Ok(());
     };
     let row = row.clone()?;
@@ -100,7 +101,7 @@ pub fn set_name(rows: &Rows, plan: &mut Plan, id: NodeId, name: String) -> Resul
 /// Makes room in a table for the rows of a plan. The table's rows stay as they were, also where memory is refused.
 pub fn reserve(rows: &mut Rows, plan: &Plan) -> Result<(), AllocError>
     ensures same { row_of rows.new ≡ row_of rows.old }
-    ensures room { OnOk result (hash_map_len plan.now.rows ≤ spare rows.new) }
+    ensures room { OnOk result (length (entries plan.now.rows) ≤ spare rows.new) }
 {
     rows.reserve(plan.rows.len())
 }
@@ -110,7 +111,7 @@ fn remove_row(rows: &mut Rows, id: u64)
     ensures removed { row_of rows.new ≡ changed id None (row_of rows.old) }
     ensures spare { spare rows.old ≤ spare rows.new }
 {
-    rows.remove(&id);
+    rows.remove(id);
 }
 
 /// Removes the rows of some nodes.
@@ -129,20 +130,19 @@ fn put(rows: &mut Rows, id: u64, row: Row)
     ensures put { row_of rows.new ≡ changed id (Some row) (row_of rows.old) }
     ensures spare { spare rows.old ≤ spare rows.new + 1 }
 {
-    match rows.insert(id, row) {
-        Ok(_) => {}
-        // There is room, so this is not reached.
-        Err(_) => {}
-    }
+    rows.put(id, row);
 }
 
-/// Gives the nodes of a table the rows that a plan has for them. The table has room for these, so it takes no memory.
+/// Gives the nodes of a table the rows that a plan has for them. The table has room for these, so it takes no memory; it gives back room that it has to
+/// spare.
 pub fn settle(rows: &mut Rows, plan: Plan)
-    requires room { hash_map_len plan.rows ≤ spare rows.old }
+    requires room { length (entries plan.rows) ≤ spare rows.old }
     ensures { row_of rows.new ≡ planned plan (row_of rows.old) }
 {
     remove_rows(rows, plan.gone);
-    for (id, row) in plan.rows {
+    let mut planned = plan.rows;
+    while let Some((id, row)) = planned.pop() {
         put(rows, id, row);
     }
+    rows.shrink();
 }

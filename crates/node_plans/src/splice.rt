@@ -135,7 +135,7 @@ fn hide(plan: &mut Plan, id: NodeId)
     ensures others { (r : ℕ → Option Row) (i : ℕ) → i ≢ id → planned plan.new r i ≡ planned plan.old r i }
     ensures spare { spare plan.old.gone ≤ spare plan.new.gone + 1 }
 {
-    plan.rows.remove(&id.number());
+    plan.rows.remove(id.number());
     match plan.gone.insert(id.number()) {
         Ok(_) => {}
         // There is room, so this is not reached.
@@ -171,7 +171,7 @@ fn set_list(rows: &mut Rows, part: Part, id: NodeId, list: Vec<NodeId>)
     ensures changed { IsChangedAt (table_of rows.old) (table_of rows.new) id (with_list part list.items) }
     ensures places { place_of rows.new ≡ place_of rows.old }
 {
-    if let Some(row) = rows.get_mut(&id.number()) {
+    if let Some(row) = rows.get_mut(id.number()) {
         set_list_in(row, part, list);
     }
 }

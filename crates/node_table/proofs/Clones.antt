@@ -1,7 +1,7 @@
 -- Clones of rows.
 use Rattle.std.proofs.Common.{◌≡◌, ℕ, List, [], ◌∷◌, refl, ap, rules, Option, Some, None, Bool, true, false, cond, MatchOption, option_map, nat_eq}
 use Rattle.std.specs.Map.{lookup}
-use Rattle.std.specs.HashMap.{HashMap, IsClone}
+use Rattle.row_pages.specs.Rows.{Term}
 use Rattle.std.specs.contracts.prelude.U64Clone as number
 use Rattle.std.specs.List.{AllZip, each_same}
 use Rattle.node_table.specs.declared.table.Row.{Row}
@@ -37,9 +37,9 @@ entries-clone (e ∷ es) (f ∷ fs) h test =
 entries-clone [] (f ∷ fs) h test = absurd h
 entries-clone (e ∷ es) [] h test = absurd h
 
-pub table-clone : {S : Type 0} (m n : HashMap ℕ Row S) → IsClone number.TheImpl.is_clone-value.it row.TheImpl.is_clone-value.it m n → table_of n ≡ table_of m
+pub table-clone : (m n : Term Row) → AllZip (λ p q. number.TheImpl.is_clone-value.it p.0 q.0 × row.TheImpl.is_clone-value.it p.1 q.1) m.0 n.0 → table_of n ≡ table_of m
 unfolding table_of
-table-clone m n h = λ t i. entries-clone m.entries n.entries h (nat_eq i) t
+table-clone m n h = λ t i. entries-clone m.0 n.0 h (nat_eq i) t
 
 -- clones of the numbers
 place-clone : (i : ℕ) (es fs : List (ℕ × Row)) → AllZip (λ p q. number.TheImpl.is_clone-value.it p.0 q.0 × row.TheImpl.is_clone-value.it p.1 q.1) es fs → (test : ℕ → Bool) → place_in i (lookup test fs) ≡ place_in i (lookup test es)
@@ -51,6 +51,6 @@ place-clone i (e ∷ es) (f ∷ fs) h test =
 place-clone i [] (f ∷ fs) h test = absurd h
 place-clone i (e ∷ es) [] h test = absurd h
 
-pub places-clone : {S : Type 0} (m n : HashMap ℕ Row S) → IsClone number.TheImpl.is_clone-value.it row.TheImpl.is_clone-value.it m n → place_of n ≡ place_of m
+pub places-clone : (m n : Term Row) → AllZip (λ p q. number.TheImpl.is_clone-value.it p.0 q.0 × row.TheImpl.is_clone-value.it p.1 q.1) m.0 n.0 → place_of n ≡ place_of m
 unfolding place_of
-places-clone m n h = λ t i. place-clone i m.entries n.entries h (nat_eq i) t
+places-clone m n h = λ t i. place-clone i m.0 n.0 h (nat_eq i) t

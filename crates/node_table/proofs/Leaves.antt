@@ -1,6 +1,6 @@
 -- A tree of its own that leaves the table, with all that is below it.
 use Rattle.std.proofs.Common.{◌≡◌, ◌≢◌, ℕ, ◌+◌, ◌≤◌, ◌<◌, List, [], ◌∷◌, length, get_or, cond, eqb, false, refl, ap, sym, ◌∙◌, arith, ⊎_elim, Option, Some, None, is_some, subst, nat_eq}
-use Rattle.std.specs.HashMap.{HashMap, get}
+use Rattle.row_pages.specs.Rows.{Term, get}
 use Rattle.std.proofs.lemmas.Bool.Decides.{eqb_tells}
 use Rattle.data_model.specs.Trees.{Trees, no_trees, tree, roots, count, height}
 use Rattle.data_model.specs.Changes.{pick, without}
@@ -32,7 +32,7 @@ reads-of g n m p ids ts is h k below d =
     let Q : Trees → Type 0 = AreDistinct in
     subst P (sym is) (record { there = there-of g n m p ts h k below; read = read; distinct = subst Q (sym read) d })
 
-module _ {S : Type 0} (m : HashMap ℕ Row S) (levels bound i x : ℕ) (ids : List ℕ) (there : AreThere (table_of m) levels bound ids) (k : i < length ids) (item : x ≡ get_or ids i x) (d : AreDistinct (read_trees levels (table_of m) ids)) where
+module _ (m : Term Row) (levels bound i x : ℕ) (ids : List ℕ) (there : AreThere (table_of m) levels bound ids) (k : i < length ids) (item : x ≡ get_or ids i x) (d : AreDistinct (read_trees levels (table_of m) ids)) where
   abbrev us : Trees
   us = read_trees levels (table_of m) ids
 
@@ -59,7 +59,7 @@ module _ {S : Type 0} (m : HashMap ℕ Row S) (levels bound i x : ℕ) (ids : Li
       let one : cond {A = ℕ} (eqb j left.content.identity) 1 0 ≡ 1 = rw (same, left.is) (rw (eqb-same x) refl) in
       absurd (omega arith)
 
-  module _ (m0 : HashMap ℕ Row S) (same0 : (j : ℕ) → count j (first_trees i us) ≡ 0 → row_of m0 j ≡ row_of m j) where
+  module _ (m0 : Term Row) (same0 : (j : ℕ) → count j (first_trees i us) ≡ 0 → row_of m0 j ≡ row_of m j) where
     -- its row stands there
     pub entry-left : table_of m0 x ≡ Some (entry_of left.content there.parent (roots bs) (roots cs))
     entry-left =
@@ -67,11 +67,11 @@ module _ {S : Type 0} (m : HashMap ℕ Row S) (levels bound i x : ℕ) (ids : Li
         let one : cond {A = ℕ} (eqb x left.content.identity) 1 0 ≡ 1 = rw left.is (rw (eqb-same x) refl) in
         table-row m m0 x (same0 x (omega arith)) ∙ ap (table_of m) (sym left.is) ∙ (holds-turn (table_of m) levels bound i x ids there k item).0
 
-    module _ (row : Row) (at_x : get nat_eq m0 x ≡ Some row) where
+    module _ (row : Row) (at_x : get m0 x ≡ Some row) where
       row-says : entry_of_row row ≡ entry_of left.content there.parent (roots bs) (roots cs)
       row-says = same-entry (table_of m0 x) _ _ (row-entry m0 x row at_x) entry-left
 
-      module _ (n : ℕ) (enough : levels ≤ n + 1) (m1 : HashMap ℕ Row S) (apart : (j : ℕ) → j ≢ x → row_of m1 j ≡ row_of m0 j) where
+      module _ (n : ℕ) (enough : levels ≤ n + 1) (m1 : Term Row) (apart : (j : ℕ) → j ≢ x → row_of m1 j ≡ row_of m0 j) where
         kept1 : (j : ℕ) → 0 < count j bs + count j cs → table_of m1 j ≡ table_of m j
         kept1 j h = (let l = once-turn j in table-row m m1 j (apart j (own-once j h) ∙ same0 j (omega arith)))
 
@@ -80,7 +80,7 @@ module _ {S : Type 0} (m : HashMap ℕ Row S) (levels bound i x : ℕ) (ids : Li
             reads-of (table_of m1) n bound (Some left.content.identity) row.attributes.items bs (ap (λ (e : Entry). e.attributes) row-says) (Holds-same (table_of m) (table_of m1) (Some left.content.identity) bs (λ j h. kept1 j (omega arith)) (holds-turn (table_of m) levels bound i x ids there k item).1)
             (let h = height-turn (table_of m) levels bound i x ids there k item in omega arith) (λ j h. below-turn (table_of m) levels bound i x ids there k item j (omega arith)) (λ j. (let l = once-turn j in omega arith))
 
-        pub reads-cs : (m2 : HashMap ℕ Row S) → ((j : ℕ) → count j bs ≡ 0 → row_of m2 j ≡ row_of m1 j) → Reads (table_of m2) n bound row.children.items cs
+        pub reads-cs : (m2 : Term Row) → ((j : ℕ) → count j bs ≡ 0 → row_of m2 j ≡ row_of m1 j) → Reads (table_of m2) n bound row.children.items cs
         reads-cs m2 same2 =
             reads-of (table_of m2) n bound (Some left.content.identity) row.children.items cs (ap (λ (e : Entry). e.children) row-says)
             (Holds-same (table_of m) (table_of m2) (Some left.content.identity) cs (λ j h. (let l = once-turn j in table-row m1 m2 j (same2 j (omega arith)) ∙ kept1 j (omega arith))) (holds-turn (table_of m) levels bound i x ids there k item).2)

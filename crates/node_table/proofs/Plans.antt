@@ -1,24 +1,25 @@
 -- Plans of changes, made one after the other.
-use Rattle.std.proofs.Common.{◌≡◌, ℕ, ◌+◌, ◌≤◌, ◌<◌, List, [], ◌∷◌, ◌++◌, refl, ap, ap₂, sym, ◌∙◌, arith, ⊎_elim, Option, None, Some, take, drop, length, get_or, slice_set, reverse, nat_eq, append_assoc, add-one}
+use Rattle.std.proofs.Common.{◌≡◌, true, false, ℕ, ◌+◌, ◌≤◌, ◌<◌, List, [], ◌∷◌, ◌++◌, refl, ap, ap₂, sym, ◌∙◌, arith, ⊎_elim, Option, None, Some, take, drop, length, get_or, slice_set, reverse, nat_eq, append_assoc, add-one}
 use Rattle.std.proofs.lemmas.Bool.Decides.{eqb_tells}
 use Rattle.std.proofs.lemmas.List.{take_more_set, drop-set-lt, reverse-reverse, length-reverse}
 use Rattle.std.proofs.Math.Seq.{drop-cons}
 use Rattle.std.proofs.lemmas.Grind.{reverse_onto}
-use Rattle.std.specs.HashMap.{HashMap, get, Updates}
+use Rattle.row_pages.specs.Rows.{Term, get, Changes}
 use Rattle.node_table.specs.declared.table.Row.{Row}
 use Rattle.node_table.specs.declared.exchange.Change.{Change}
 use Rattle.node_table.specs.Rows.{row_of}
 use Rattle.node_table.specs.Plans.{changed, over, replaced, places, all_places}
 
-pub rows-changed : {S : Type 0} (m n : HashMap ℕ Row S) (k : ℕ) (o : Option Row) → Updates nat_eq m n k o → row_of n ≡ changed k o (row_of m)
+pub rows-changed : (m n : Term Row) (k : ℕ) (o : Option Row) → Changes k o m n → row_of n ≡ changed k o (row_of m)
 unfolding row_of
-rows-changed m n k o u = λ t i. u.0 i t
+rows-changed m n k o u = λ t i.
+    (let e : row_of n i ≡ changed k o (row_of m) i = ⊎_elim (λ s. (let z : nat_eq k i ≡ true = s.0 in rw z (ap (get n) (sym s.1) ∙ u.here))) (λ s. (let z : nat_eq k i ≡ false = s.0 in rw z (u.apart i (λ x. s.1 (sym x))))) (eqb_tells k i) in e t)
 
-pub row-at : {S : Type 0} (m : HashMap ℕ Row S) (k : ℕ) → get nat_eq m k ≡ row_of m k
+pub row-at : (m : Term Row) (k : ℕ) → get m k ≡ row_of m k
 unfolding row_of
 row-at m k = refl
 
-pub rows-reordered : {S : Type 0} (m n : HashMap ℕ Row S) → ((k : ℕ) → get nat_eq n k ≡ get nat_eq m k) → row_of n ≡ row_of m
+pub rows-reordered : (m n : Term Row) → ((k : ℕ) → get n k ≡ get m k) → row_of n ≡ row_of m
 unfolding row_of
 rows-reordered m n e = λ t i. e i t
 

@@ -2,7 +2,7 @@
 use Rattle.std.specs.Prelude.{◌≡◌, ℕ, ◌+◌, ◌<◌, ◌≤◌, ◌^◌, Bool, true, false, List, [], ◌∷◌, ◌++◌, length, cond, eqb, ltb, Option, Some, None, IfSome, nat_eq}
 use Rattle.std.specs.List.{slice_get}
 use Prim.Native.Nat.{zero, suc}
-use Rattle.std.specs.HashMap.{HashMap, get}
+use Rattle.row_pages.specs.Rows.{Term, get}
 use Rattle.node_table.specs.declared.table.Row.{Row}
 use Rattle.data_model.specs.Trees.{Trees, no_trees, tree, roots, count}
 use Rattle.node_table.specs.Flat.{Entry, Table}
@@ -104,5 +104,5 @@ place_in i None = i
 place_in i (Some r) = r.place
 
 -- the number that a node's row carries; what has no row has its identity
-unfoldable pub place_of : {S : Type 0} → HashMap ℕ Row S → ℕ → ℕ
-place_of m i = place_in i (get nat_eq m i)
+unfoldable pub place_of : Term Row → ℕ → ℕ
+place_of m i = place_in i (get m i)

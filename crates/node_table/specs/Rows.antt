@@ -1,6 +1,6 @@
 -- What rows say of nodes, and what room they have.
 use Rattle.std.specs.Prelude.{ℕ, ◌≤◌, ◌+◌, Option, Some, None, option_map, string_bytes, vec_len, vec_capacity, nat_eq}
-use Rattle.std.specs.HashMap.{HashMap, get}
+use Rattle.row_pages.specs.Rows.{Term, get}
 use Rattle.std.specs.declared.alloc.Global.{Global}
 use Rattle.std.specs.declared.vec.Vec.{Vec}
 use Rattle.data_model.specs.Trees.{Trees}
@@ -14,12 +14,12 @@ entry_of_row r =
     record { kind = r.kind; name = string_bytes r.name; text = string_bytes r.text; parent = r.parent; attributes = r.attributes.items; children = r.children.items }
 
 -- the row of a node
-unfoldable pub row_of : {S : Type 0} → HashMap ℕ Row S → ℕ → Option Row
-row_of m i = get nat_eq m i
+unfoldable pub row_of : Term Row → ℕ → Option Row
+row_of m i = get m i
 
 -- what the rows say of a node
-unfoldable pub table_of : {S : Type 0} → HashMap ℕ Row S → Table
-table_of m i = option_map entry_of_row (get nat_eq m i)
+unfoldable pub table_of : Term Row → Table
+table_of m i = option_map entry_of_row (get m i)
 
 -- the trees of a table whose identities are below n
 unfoldable pub trees_of : Table → ℕ → Trees
@@ -34,5 +34,5 @@ HasRoomIn part n None = ⊥
 HasRoomIn part n (Some r) = vec_len (list_in part r) + n ≤ vec_capacity (list_in part r)
 
 -- the node is there, and n more fit into that list of it with no allocation
-unfoldable pub HasRoom : {S : Type 0} → Part → ℕ → ℕ → HashMap ℕ Row S → Type 0
-HasRoom part i n m = HasRoomIn part n (get nat_eq m i)
+unfoldable pub HasRoom : Part → ℕ → ℕ → Term Row → Type 0
+HasRoom part i n m = HasRoomIn part n (get m i)

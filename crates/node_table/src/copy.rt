@@ -15,9 +15,9 @@ use std::alloc::{AllocError, Global};
 fn find_row<'a>(lent: &'a Rows, rows: &'a Rows, id: NodeId) -> Option<&'a Row>
     ensures { option_map (λ row. entry_of_row row.now) result ≡ both (table_of lent.now) (table_of rows.now) id }
 {
-    match rows.get(&id.number()) {
+    match rows.get(id.number()) {
         Some(row) => Some(row),
-        None => lent.get(&id.number()),
+        None => lent.get(id.number()),
     }
 }
 
@@ -85,6 +85,6 @@ pub fn remove_range(rows: &mut Rows, first: u64, end: u64)
     ensures above { (i : ℕ) → end ≤ i → row_of rows.new i ≡ row_of rows.old i }
 {
     for number in first..end {
-        rows.remove(&number);
+        rows.remove(number);
     }
 }

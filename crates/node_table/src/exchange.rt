@@ -1,7 +1,7 @@
 //! Plans of changes to rows, and their exchange with what stands in the table.
 
 ghost use Rattle.std.specs.Prelude.{◌≡◌, ◌+◌, ◌≤◌, OnOk, reverse};
-ghost use Rattle.std.specs.HashMap.{spare};
+ghost use Rattle.row_pages.specs.Rows.{spare};
 ghost use Rattle.node_table.specs.Rows.{row_of};
 ghost use Rattle.node_table.specs.Plans.{changed, over, replaced, places, all_places};
 
@@ -36,12 +36,8 @@ fn put(rows: &mut Rows, id: NodeId, row: Option<Row>) -> Option<Row>
     ensures spare { spare rows.old ≤ spare rows.new + places row }
 {
     match row {
-        Some(row) => match rows.insert(id.number(), row) {
-            Ok(was) => was,
-            // There is room, so this is not reached.
-            Err(_) => None,
-        },
-        None => rows.remove(&id.number()),
+        Some(row) => rows.put(id.number(), row),
+        None => rows.remove(id.number()),
     }
 }
 

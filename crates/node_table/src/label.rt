@@ -32,7 +32,7 @@ fn read_label(rows: &Rows, alloc: Global, id: NodeId, levels: u64) -> Result<Lab
     let mut label = SmallVec::new(alloc);
     let mut at = id;
     for _ in 0..levels {
-        let Some(row) = rows.get(&at.number()) else {
+        let Some(row) = rows.get(at.number()) else {
             break;
         };
         let Some(parent) = row.parent else {
@@ -61,7 +61,7 @@ pub fn with_labels(
 {
     let mut labelled = Vec::with_capacity(alloc, ids.len())?;
     for id in ids {
-        if rows.contains_key(&id.number()) {
+        if rows.contains_key(id.number()) {
             let label = read_label(rows, alloc, *id, levels)?;
             labelled.push(Labelled { label, node: *id })?;
         }

@@ -17,7 +17,7 @@ const STEP: u64 = 1 << 32;
 pub fn place(rows: &Rows, id: NodeId) -> u64
     ensures { result ≡ place_of rows.now id }
 {
-    match rows.get(&id.number()) {
+    match rows.get(id.number()) {
         Some(row) => row.place,
         None => id.number(),
     }
@@ -31,7 +31,7 @@ fn set_place(rows: &mut Rows, id: NodeId, place: u64)
     ensures others { (i : ℕ) → i ≢ id → place_of rows.new i ≡ place_of rows.old i }
     ensures room { (part : Part) (i n : ℕ) → HasRoom part i n rows.old → HasRoom part i n rows.new }
 {
-    if let Some(row) = rows.get_mut(&id.number()) {
+    if let Some(row) = rows.get_mut(id.number()) {
         row.place = place;
     }
 }
@@ -41,7 +41,7 @@ fn count(rows: &Rows, id: NodeId) -> usize
     requires few { length (lists_in (table_of rows.now id)) ≤ 2 ^ 63 }
     ensures { result ≡ length (lists_in (table_of rows.now id)) }
 {
-    match rows.get(&id.number()) {
+    match rows.get(id.number()) {
         Some(row) => row.attributes.len() + row.children.len(),
         None => 0,
     }
@@ -58,7 +58,7 @@ fn item(ids: &[NodeId], at: usize) -> Option<NodeId>
 fn listed(rows: &Rows, id: NodeId, at: usize) -> Option<NodeId>
     ensures { result ≡ slice_get (lists_in (table_of rows.now id)) at }
 {
-    match rows.get(&id.number()) {
+    match rows.get(id.number()) {
         Some(row) => {
             let attributes = row.attributes.len();
             if at < attributes {
@@ -76,7 +76,7 @@ fn position(rows: &Rows, part: Part, id: NodeId, index: usize) -> usize
     requires within { position_in part index (table_of rows.now id) < 2 ^ 64 }
     ensures { result ≡ position_in part index (table_of rows.now id) }
 {
-    match rows.get(&id.number()) {
+    match rows.get(id.number()) {
         Some(row) => match part {
             Part::Attributes => index,
             Part::Children => row.attributes.len() + index,

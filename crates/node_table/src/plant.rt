@@ -59,7 +59,7 @@ pub fn remove_all(rows: &mut Rows, trees: &[Tree])
 {
     for tree in trees {
         let content = tree.content();
-        rows.remove(&content.identity.number());
+        rows.remove(content.identity.number());
         remove_all(rows, tree.attributes());
         remove_all(rows, tree.children());
     }

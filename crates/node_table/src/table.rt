@@ -8,8 +8,8 @@ ghost use Rattle.node_table.specs.Rows.{table_of, entry_of_row, list_in, HasRoom
 ghost use Rattle.node_table.specs.Labels.{place_of};
 
 use data_model::{Content, Kind, NodeId, Part};
+use row_pages::RowPages;
 use std::alloc::{AllocError, Global};
-use std::collections::HashMap;
 
 /// What the table has of a node.
 #[derive(Clone, Drop)]
@@ -31,7 +31,7 @@ pub struct Row {
 }
 
 /// Every node by the number of its identity.
-pub type Rows = HashMap<u64, Row>;
+pub type Rows = RowPages<Row>;
 
 /// Makes room for more nodes in a list of a row, which says what it said, also where memory is refused.
 fn reserve_in(row: &mut Row, part: Part, additional: usize) -> Result<(), AllocError>
@@ -71,7 +71,7 @@ pub fn reserve(
     ensures places { place_of rows.new ≡ place_of rows.old }
     ensures room { OnOk result (IsSome (table_of rows.old parent) → HasRoom part parent additional rows.new) }
 {
-    match rows.get_mut(&parent.number()) {
+    match rows.get_mut(parent.number()) {
         Some(row) => reserve_in(row, part, additional),
         None => Ok(()),
     }
@@ -85,7 +85,7 @@ fn add_below(rows: &mut Rows, part: Part, parent: NodeId, index: usize, child: N
     ensures places { place_of rows.new ≡ place_of rows.old }
     ensures room { (n : ℕ) → HasRoom part parent (n + 1) rows.old → HasRoom part parent n rows.new }
 {
-    if let Some(row) = rows.get_mut(&parent.number()) {
+    if let Some(row) = rows.get_mut(parent.number()) {
         add_to(row, part, index, child);
     }
 }
@@ -130,7 +130,7 @@ pub fn set_parent(rows: &mut Rows, child: NodeId, parent: Option<NodeId>)
     ensures places { place_of rows.new ≡ place_of rows.old }
     ensures room { (part : Part) (i n : ℕ) → HasRoom part i n rows.old → HasRoom part i n rows.new }
 {
-    if let Some(row) = rows.get_mut(&child.number()) {
+    if let Some(row) = rows.get_mut(child.number()) {
         row.parent = parent;
     }
 }
@@ -155,7 +155,7 @@ pub fn set_text(rows: &mut Rows, id: NodeId, text: String)
     ensures changed { IsChangedAt (table_of rows.old) (table_of rows.new) id (with_text (string_bytes text)) }
     ensures places { place_of rows.new ≡ place_of rows.old }
 {
-    if let Some(row) = rows.get_mut(&id.number()) {
+    if let Some(row) = rows.get_mut(id.number()) {
         row.text = text;
     }
 }
@@ -166,7 +166,7 @@ pub fn set_name(rows: &mut Rows, id: NodeId, name: String)
     ensures changed { IsChangedAt (table_of rows.old) (table_of rows.new) id (with_name (string_bytes name)) }
     ensures places { place_of rows.new ≡ place_of rows.old }
 {
-    if let Some(row) = rows.get_mut(&id.number()) {
+    if let Some(row) = rows.get_mut(id.number()) {
         row.name = name;
     }
 }
@@ -178,7 +178,7 @@ pub fn drop_child(rows: &mut Rows, part: Part, parent: NodeId, child: NodeId)
     ensures changed { IsChangedAt (table_of rows.old) (table_of rows.new) parent (without_child child) }
     ensures places { place_of rows.new ≡ place_of rows.old }
 {
-    if let Some(row) = rows.get_mut(&parent.number()) {
+    if let Some(row) = rows.get_mut(parent.number()) {
         remove_below(row, part, child);
     }
 }

@@ -23,7 +23,7 @@ pub fn trees_of(
         return Ok(trees);
     }
     for id in ids {
-        let Some(row) = rows.get(&id.number()) else {
+        let Some(row) = rows.get(id.number()) else {
             return Ok(trees);
         };
         let content = Content {

@@ -45,7 +45,7 @@ pub fn add_text_within(
         return Ok(true);
     }
     for id in ids {
-        let Some(row) = rows.get(&id.number()) else {
+        let Some(row) = rows.get(id.number()) else {
             return Ok(true);
         };
         let fits = if row.kind.is_inner() {
@@ -72,7 +72,7 @@ pub fn count(rows: &Rows, ids: &[NodeId], levels: u64) -> u64
         return nodes;
     }
     for id in ids {
-        let Some(row) = rows.get(&id.number()) else {
+        let Some(row) = rows.get(id.number()) else {
             return nodes;
         };
         nodes += 1 + count(rows, &row.attributes, levels - 1);
@@ -94,7 +94,7 @@ pub fn remove(rows: &mut Rows, ids: &[NodeId], levels: u64) -> u64
         return nodes;
     }
     for id in ids {
-        let Some(row) = rows.remove(&id.number()) else {
+        let Some(row) = rows.remove(id.number()) else {
             return nodes;
         };
         nodes += 1 + remove(rows, &row.attributes, levels - 1);

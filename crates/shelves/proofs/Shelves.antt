@@ -11,8 +11,6 @@ use Rattle.data_model.specs.Tree.{TreeTerm, trees_of_tree}
 use Rattle.data_model.specs.declared.node.Kind.TheVariants.{Document}
 use Rattle.data_model.specs.declared.node.Part.{Part}
 use Rattle.data_model.specs.Order.{identities, precedes}
-use Rattle.data_model.specs.declared.node.NodeView.{NodeView}
-use Rattle.data_model.specs.Views.{Views}
 use Rattle.data_model.specs.Walks.{held, seen, or_else}
 use Rattle.trees.specs.Forest.{ForestTerm, IsForest, IsDocument}
 use Rattle.shelves.specs.Shelf.{ShelfTerm, ComesAfter, IsShelf, shelf_trees}
@@ -24,7 +22,7 @@ use Rattle.data_model.proofs.Climbs.{AreDistinct, any-tells, find-absent, there-
 use Rattle.trees.proofs.CallerLemmas.{find-append}
 use Rattle.data_model.proofs.Firsts.{before-seen, held-identities, seen-none, seen-a, seen-b, seen-first}
 use Rattle.data_model.proofs.Scans.{seen-append}
-use Rattle.trees.proofs.Lent.{find-lent, has-counts, has-not-counts, lent-apart}
+use Rattle.trees.proofs.Lent.{find-lent, find-own, has-counts, has-not-counts, lent-apart}
 
 -- ---- what is known of both
 pub shelf-facts : (u v : ForestTerm) → IsForest u → IsForest v → ComesAfter u v → IsShelf (record { lent = u; own = v })
@@ -203,22 +201,11 @@ module _ (u v : ForestTerm) (s : ShelfTerm) (is : record { lent = u; own = v } �
             ⊎_elim (λ x. h.apart i x.1) (λ x. (let none : count i v.trees ≡ 0 = x.1 in let z = least i (omega arith) in omega arith)) (any-tells (count i v.trees)));
       }) (planted-is w e)
 
--- ---- what one look-up reads
-view-there : (v : NodeView) (o : Option Place) → Views (Some v) o → is_some o ≡ true
-view-there v None h = absurd h
-view-there v (Some x) h = refl
+-- ---- where a node stands is told by its identity
+pub found-lent : (u v : ForestTerm) → ComesAfter u v → (i : ℕ) → i < u.next → find i (append u.trees v.trees) ≡ find i u.trees
+found-lent u v after i below =
+    let none : count i v.trees ≡ 0 = ⊎_elim (λ t. (let a = after.apart i t.1 in absurd (omega arith))) (λ t. t.1) (any-tells (count i v.trees)) in
+    find-append None i u.trees v.trees ∙ ap (first (find i u.trees)) (find-absent None i v.trees none) ∙ first-none (find i u.trees)
 
-view-absent : (o : Option Place) → Views None o → is_some o ≡ false
-view-absent None h = refl
-view-absent (Some x) h = absurd h
-
-module _ (u v : ForestTerm) (s : ShelfTerm) (is : record { lent = u; own = v } ≡ s) (facts : IsForest u) (after : ComesAfter u v) (i : ℕ) where
-  pub view-own : (w : NodeView) → Views (Some w) (find i v.trees) → Views (Some w) (find i (shelf_trees s))
-  view-own w h =
-      let there = has-counts i v.trees (view-there w (find i v.trees) h) in
-      let none : count i u.trees ≡ 0 = ⊎_elim (λ t. (let z : count i v.trees ≡ 0 = lent-apart u v facts after.apart i t.1 in absurd (omega arith))) (λ t. t.1) (any-tells (count i u.trees)) in
-      let found : find i v.trees ≡ find i (append u.trees v.trees) = sym (find-append None i u.trees v.trees ∙ ap (λ o. first o (find i v.trees)) (find-absent None i u.trees none)) in
-      subst (Views (Some w)) (found ∙ ap (λ (t : ShelfTerm). find i (shelf_trees t)) is) h
-
-  pub view-lent : (o : Option NodeView) → Views None (find i v.trees) → Views o (find i u.trees) → Views o (find i (shelf_trees s))
-  view-lent o none h = subst (Views o) (sym (find-not-own i u.trees v.trees (view-absent (find i v.trees) none)) ∙ ap (λ (t : ShelfTerm). find i (shelf_trees t)) is) h
+pub found-own : (u v : ForestTerm) → IsForest u → (i : ℕ) → u.next ≤ i → find i (append u.trees v.trees) ≡ find i v.trees
+found-own u v facts i past = find-own i u.trees v.trees (⊎_elim (λ t. (let b = facts.below i t.1 in absurd (omega arith))) (λ t. t.1) (any-tells (count i u.trees)))

@@ -118,7 +118,7 @@ impl<'a> Shelf<'a> {
     pub fn has(&self, id: NodeId) -> bool
         ensures { result ≡ is_some (find id (shelf_trees self.now)) }
     {
-        self.lent.has(id) || self.own.has(id)
+        self.home(id).has(id)
     }
 
     /// Whether a node of that identity stands in the own forest.
@@ -128,28 +128,24 @@ impl<'a> Shelf<'a> {
         self.own.has(id)
     }
 
-    /// The forest in which a node stands.
+    /// The forest in which a node of that identity stands, if one does. The identity tells: those of own nodes come after all of the lent forest.
     fn home(&self, id: NodeId) -> &Forest
-        requires { IsSome (find id (shelf_trees self.now)) }
         ensures { find id result.now.trees ≡ find id (shelf_trees self.now) }
     {
-        if self.lent.has(id) {
+        self.lent.facts();
+        let first = self.lent.next().number();
+        if id.number() < first {
             self.lent
         } else {
             &self.own
         }
     }
 
-    /// What a node says of itself and which nodes stand round it, by one look-up in each forest; `None` where none of that identity
-    /// stands in either.
+    /// What a node says of itself and which nodes stand round it, by one look-up; `None` where none of that identity stands in either forest.
     pub fn node(&self, id: NodeId) -> Option<NodeView<'_>>
         ensures { Views result (find id (shelf_trees self.now)) }
     {
-        self.lent.facts();
-        match self.own.node(id) {
-            Some(view) => Some(view),
-            None => self.lent.node(id),
-        }
+        self.home(id).node(id)
     }
 
     /// The kind of a node.

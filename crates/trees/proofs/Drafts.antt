@@ -1,6 +1,6 @@
 -- The fields of a draft, and its trees.
 use Rattle.std.proofs.Common.{◌≡◌, ℕ, ◌+◌, ◌≤◌, ◌<◌, ◌^◌, ap, sym, ◌∙◌, arith, Option, Some, IsSome, is_some, option_map, subst, length}
-use Rattle.std.specs.HashMap.{HashMap}
+use Rattle.row_pages.specs.Rows.{Term}
 use Rattle.data_model.specs.Trees.{Trees, Content, append, find, count, size}
 use Rattle.data_model.specs.Changes.{with_content, part_of}
 use Rattle.data_model.specs.declared.node.Part.{Part}
@@ -112,20 +112,20 @@ module _ (a : Drafted) (v : DraftTerm) (is : draft_of a ≡ v) (h : IsDrafted a)
         )
 
 -- ---- the plan's rows in the place of the table's
-pub settled-table : {S T : Type 0} (p : Plan) (m : HashMap ℕ Row S) (n : HashMap ℕ Row T) → row_of n ≡ rows_with p m → table_of n ≡ table_with p m
+pub settled-table : (p : Plan) (m : Term Row) (n : Term Row) → row_of n ≡ rows_with p m → table_of n ≡ table_with p m
 unfolding table_of table_with row_of
 settled-table p m n e = λ t i. (let z : table_of n i ≡ table_with p m i = ap (λ (r : ℕ → Option Row). option_map entry_of_row (r i)) e in z t)
 
-pub settled-places : {S T : Type 0} (p : Plan) (m : HashMap ℕ Row S) (n : HashMap ℕ Row T) → row_of n ≡ rows_with p m → place_of n ≡ places_with p m
+pub settled-places : (p : Plan) (m : Term Row) (n : Term Row) → row_of n ≡ rows_with p m → place_of n ≡ places_with p m
 unfolding place_of places_with row_of
 settled-places p m n e = λ t i. (let z : place_of n i ≡ places_with p m i = ap (λ (r : ℕ → Option Row). place_in i (r i)) e in z t)
 
 -- ---- rows that have more room
-pub same-table : {S : Type 0} (p : Plan) (m n : HashMap ℕ Row S) → row_of n ≡ row_of m → table_with p n ≡ table_with p m
+pub same-table : (p : Plan) (m n : Term Row) → row_of n ≡ row_of m → table_with p n ≡ table_with p m
 unfolding table_with
 same-table p m n e = λ t i. (let z : table_with p n i ≡ table_with p m i = ap (λ (r : ℕ → Option Row). option_map entry_of_row (planned p r i)) e in z t)
 
-pub same-places : {S : Type 0} (p : Plan) (m n : HashMap ℕ Row S) → row_of n ≡ row_of m → places_with p n ≡ places_with p m
+pub same-places : (p : Plan) (m n : Term Row) → row_of n ≡ row_of m → places_with p n ≡ places_with p m
 unfolding places_with
 same-places p m n e = λ t i. (let z : places_with p n i ≡ places_with p m i = ap (λ (r : ℕ → Option Row). place_in i (planned p r i)) e in z t)
 

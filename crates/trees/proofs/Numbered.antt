@@ -1,7 +1,7 @@
 -- The numbers of a forest to which trees were added, or from which they were removed again.
 use Rattle.std.proofs.Common.{◌≡◌, ℕ, ◌+◌, ◌≤◌, ◌<◌, ap, sym, ◌∙◌, arith, ⊎_elim, None}
 use Rattle.std.proofs.lemmas.Bool.{cases_lt}
-use Rattle.std.specs.HashMap.{HashMap}
+use Rattle.row_pages.specs.Rows.{Term}
 use Rattle.data_model.specs.Trees.{Trees, append, count}
 use Rattle.data_model.specs.Changes.{renumbered, ranked}
 use Rattle.trees.specs.Forest.{ForestTerm}
@@ -35,7 +35,7 @@ module _ (a : Inside) (v : ForestTerm) (is : term_of a ≡ v) (h : IsSound a) wh
       numbers-of w g n (ranked k us v.trees) whole (AreNumbered-ranked w k us v.trees (ranks-numbered w 0 us ranks) (AreNumbered-same (place_of a.rows) w v.trees (λ i there. same i (let l = d i in omega arith)) below))
 
   -- the copies that were made are removed again
-  module _ {S : Type 0} (m t : HashMap ℕ Row S) (end : ℕ) (same : (i : ℕ) → i < a.next → table_of m i ≡ table_of a.rows i) (fresh : (i : ℕ) → end ≤ i → table_of m i ≡ None) (places : place_of m ≡ place_of a.rows)
+  module _ (m t : Term Row) (end : ℕ) (same : (i : ℕ) → i < a.next → table_of m i ≡ table_of a.rows i) (fresh : (i : ℕ) → end ≤ i → table_of m i ≡ None) (places : place_of m ≡ place_of a.rows)
       (gone : (i : ℕ) → a.next ≤ i → i < end → row_of t i ≡ None) (before : (i : ℕ) → i < a.next → row_of t i ≡ row_of m i) (after : (i : ℕ) → end ≤ i → row_of t i ≡ row_of m i) where
     pub table-back : table_of t ≡ table_of a.rows
     table-back =

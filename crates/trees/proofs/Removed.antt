@@ -1,6 +1,6 @@
 -- A forest that a tree of its own has left.
-use Rattle.std.proofs.Common.{◌≡◌, ◌≢◌, ℕ, ◌+◌, ◌<◌, ◌^◌, [], ◌∷◌, cond, eqb, true, false, refl, ap, sym, ◌∙◌, arith, ⊎_elim, Option, Some, None, subst, BuildHasherDefault, FoldHasher}
-use Rattle.std.specs.HashMap.{HashMap}
+use Rattle.std.proofs.Common.{◌≡◌, ◌≢◌, ℕ, ◌+◌, ◌<◌, ◌^◌, [], ◌∷◌, cond, eqb, true, false, refl, ap, sym, ◌∙◌, arith, ⊎_elim, Option, Some, None, subst}
+use Rattle.row_pages.specs.Rows.{Term}
 use Rattle.std.proofs.lemmas.Bool.Decides.{eqb_tells}
 use Rattle.data_model.specs.declared.node.Kind.TheVariants.{Document}
 use Rattle.data_model.specs.Trees.{count, size, find, parent_of, IsAt}
@@ -52,7 +52,7 @@ module _ (a : Inside) (v : ForestTerm) (is : term_of a ≡ v) (h : IsSound a) (k
   pub remove-nodes : size (pick k v.trees) + size (without k v.trees) ≡ a.nodes
   remove-nodes = weigh-pick (λ _. 1) k v.trees ∙ sym (now-nodes a v is h)
 
-  module _ (rows : HashMap ℕ Row (BuildHasherDefault FoldHasher)) (gone : (i : ℕ) → 0 < count i (pick k v.trees) → row_of rows i ≡ None) (same : (i : ℕ) → count i (pick k v.trees) ≡ 0 → row_of rows i ≡ row_of a.rows i) where
+  module _ (rows : Term Row) (gone : (i : ℕ) → 0 < count i (pick k v.trees) → row_of rows i ≡ None) (same : (i : ℕ) → count i (pick k v.trees) ≡ 0 → row_of rows i ≡ row_of a.rows i) where
     leaves-k : Leaves (table_of a.rows) (table_of rows) k v.trees
     leaves-k = record { gone = λ i there. table-none rows i (gone i there); kept = λ i none. table-row a.rows rows i (same i none) }
 

@@ -1,6 +1,6 @@
 -- How the fields of a draft stand for its trees.
-use Rattle.std.specs.Prelude.{◌≡◌, ◌≤◌, ◌^◌}
-use Rattle.std.specs.HashMap.{spare, hash_map_len}
+use Rattle.std.specs.Prelude.{◌≡◌, ◌≤◌, ◌^◌, length}
+use Rattle.row_pages.specs.Rows.{entries, spare}
 use Rattle.data_model.specs.Trees.{Trees, size}
 use Rattle.node_table.specs.Flat.{Table, IsTableOf}
 use Rattle.node_table.specs.Rows.{trees_of}
@@ -37,4 +37,4 @@ pub record IsDrafted (a : Drafted) : Type 0 where
 -- and there is room for the rows of the plan
 pub record IsPrepared (a : Drafted) : Type 0 where
   pub drafted : IsDrafted a
-  pub room : hash_map_len a.plan.rows ≤ spare a.rows
+  pub room : length (entries a.plan.rows) ≤ spare a.rows

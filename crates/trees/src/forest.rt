@@ -24,8 +24,8 @@ use document_names::Names;
 use indexmap::IndexMap;
 use node_table::table::{Row, Rows};
 use node_table::{copy, label, order, plant, table, tree, walk};
+use row_pages::RowPages;
 use std::alloc::{AllocError, Global};
-use std::collections::HashMap;
 use std::marker::Model;
 use std::slice;
 
@@ -73,7 +73,7 @@ impl Forest {
         ensures { result ≡ record { trees = no_trees; documents = []; next = next } }
     {
         Forest {
-            rows: HashMap::new(alloc),
+            rows: RowPages::new(alloc),
             documents: IndexMap::new(alloc),
             next: next.number(),
             nodes: 0,
@@ -153,7 +153,7 @@ impl Forest {
     pub fn has(&self, id: NodeId) -> bool
         ensures { result ≡ is_some (find id self.now.trees) }
     {
-        self.rows.contains_key(&id.number())
+        self.rows.contains_key(id.number())
     }
 
     /// What the table has of a node.
@@ -161,14 +161,14 @@ impl Forest {
         requires { IsSome (find id self.now.trees) }
         ensures { entry_in id self.now.trees ≡ Some (entry_of_row result.now) }
     {
-        &self.rows[&id.number()]
+        self.rows.value(id.number())
     }
 
     /// What a node says of itself and which nodes stand round it, by one look-up; `None` where none of that identity stands here.
     pub fn node(&self, id: NodeId) -> Option<NodeView<'_>>
         ensures { Views result (find id self.now.trees) }
     {
-        match self.rows.get(&id.number()) {
+        match self.rows.get(id.number()) {
             Some(row) => Some(NodeView {
                 kind: row.kind,
                 name: row.name.as_str(),
@@ -464,14 +464,12 @@ impl Forest {
             children: Vec::new(alloc),
             place: id,
         };
-        match self.rows.insert(id, row) {
-            Ok(_) => {
-                self.next = id + 1;
-                self.nodes += 1;
-                Ok(NodeId::new(id))
-            }
-            Err(_) => Err(MakeFault::Memory),
-        }
+        let Ok(_before) = self.rows.insert(id, row) else {
+            return Err(MakeFault::Memory);
+        };
+        self.next = id + 1;
+        self.nodes += 1;
+        Ok(NodeId::new(id))
     }
 
     /// Makes a node as a child of another, before which `index` children stand.

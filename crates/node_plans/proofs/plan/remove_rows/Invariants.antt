@@ -1,5 +1,5 @@
 use Rattle.std.proofs.Common.{◌≡◌, ℕ, ◌≤◌, None, cond, nat_eq}
-use Rattle.std.specs.HashMap.{spare}
+use Rattle.row_pages.specs.Rows.{spare}
 use Rattle.std.specs.HashSet.{contains}
 use Rattle.std.specs.List.{list_any}
 use Rattle.node_table.specs.Rows.{row_of}

@@ -127,13 +127,13 @@ returns-in_err-insert-clause-same t c = λ j l.
     let g2 = table_of c.copy_all-in-loop-id.new.rows in
     let next2 : c.copy_all-in-loop-id.new.next ≡ c.copy_all.new.next + size t1.children = rw read2 at c.in_ok-copy_all-2.ensures.next in
     let kept2 : (j : ℕ) → j < n0 → g2 j ≡ table_of c.args.rows.now j = λ j l. c.copy_all-in-loop-id.ensures.same j (omega arith) ∙ kept1 j l in
-    ap (λ h. h j) (table-same c.copy_all-in-loop-id.new.rows c.insert.new.self c.in_err-insert.ensures.err) ∙ kept2 j l)
+    ap (λ h. h j) (table-same c.copy_all-in-loop-id.new.rows c.insert.new.self c.in_err-insert.ensures.refused) ∙ kept2 j l)
 
 pub returns-in_err-insert-clause-places : goal.returns-in_err-insert-clause-places
-returns-in_err-insert-clause-places t c = places-same c.copy_all-in-loop-id.new.rows c.insert.new.self c.in_err-insert.ensures.err ∙ c.copy_all-in-loop-id.ensures.places ∙ c.copy_all.ensures.places ∙ c.loop-id.invariant.places
+returns-in_err-insert-clause-places t c = places-same c.copy_all-in-loop-id.new.rows c.insert.new.self c.in_err-insert.ensures.refused ∙ c.copy_all-in-loop-id.ensures.places ∙ c.copy_all.ensures.places ∙ c.loop-id.invariant.places
 
 pub returns-in_err-insert-clause-fresh : goal.returns-in_err-insert-clause-fresh
-returns-in_err-insert-clause-fresh t c = λ j l. ap (λ h. h j) (table-same c.copy_all-in-loop-id.new.rows c.insert.new.self c.in_err-insert.ensures.err) ∙ c.copy_all-in-loop-id.ensures.fresh j l
+returns-in_err-insert-clause-fresh t c = λ j l. ap (λ h. h j) (table-same c.copy_all-in-loop-id.new.rows c.insert.new.self c.in_err-insert.ensures.refused) ∙ c.copy_all-in-loop-id.ensures.fresh j l
 
 pub returns-in_err-push-clause-same : goal.returns-in_err-push-clause-same
 returns-in_err-push-clause-same t c = λ j l.
@@ -176,7 +176,7 @@ returns-in_err-push-clause-same t c = λ j l.
     let roots2 : c.in_ok-copy_all-2.field-0.items ≡ roots (renumbered n1 t1.children) = rw read2 at c.in_ok-copy_all-2.ensures.roots in
     let r : Row = record { kind = c.in_ok-kind.field-0.kind; name = c.in_ok-kind.field-0.name; text = c.in_ok-kind.field-0.text; parent = c.args.parent; attributes = c.in_ok-copy_all.field-0; children = c.in_ok-copy_all-2.field-0; place = c.loop-id.next } in
     let spoken = copy-says c.in_ok-kind.field-0 r t1.content there.parent c.args.parent n _ _ _ _ says refl refl refl refl roots1 roots2 in
-    let sets = row-sets g2 c.copy_all-in-loop-id.new.rows c.insert.new.self n n r (entry_of (record t1.content { identity = n }) c.args.parent (roots (renumbered (n + 1) t1.attributes)) (roots (renumbered n1 t1.children))) refl refl spoken c.in_ok-insert.ensures.updates in
+    let sets = row-sets g2 c.copy_all-in-loop-id.new.rows c.insert.new.self n n r (entry_of (record t1.content { identity = n }) c.args.parent (roots (renumbered (n + 1) t1.attributes)) (roots (renumbered n1 t1.children))) refl refl spoken c.in_ok-insert.ensures.put in
     sets.apart j (λ same. absurd (omega arith)) ∙ kept2 j l)
 
 pub returns-in_err-push-clause-fresh : goal.returns-in_err-push-clause-fresh
@@ -220,7 +220,7 @@ returns-in_err-push-clause-fresh t c = λ j l.
     let roots2 : c.in_ok-copy_all-2.field-0.items ≡ roots (renumbered n1 t1.children) = rw read2 at c.in_ok-copy_all-2.ensures.roots in
     let r : Row = record { kind = c.in_ok-kind.field-0.kind; name = c.in_ok-kind.field-0.name; text = c.in_ok-kind.field-0.text; parent = c.args.parent; attributes = c.in_ok-copy_all.field-0; children = c.in_ok-copy_all-2.field-0; place = c.loop-id.next } in
     let spoken = copy-says c.in_ok-kind.field-0 r t1.content there.parent c.args.parent n _ _ _ _ says refl refl refl refl roots1 roots2 in
-    let sets = row-sets g2 c.copy_all-in-loop-id.new.rows c.insert.new.self n n r (entry_of (record t1.content { identity = n }) c.args.parent (roots (renumbered (n + 1) t1.attributes)) (roots (renumbered n1 t1.children))) refl refl spoken c.in_ok-insert.ensures.updates in
+    let sets = row-sets g2 c.copy_all-in-loop-id.new.rows c.insert.new.self n n r (entry_of (record t1.content { identity = n }) c.args.parent (roots (renumbered (n + 1) t1.attributes)) (roots (renumbered n1 t1.children))) refl refl spoken c.in_ok-insert.ensures.put in
     sets.apart j (λ same. absurd (omega arith)) ∙ c.copy_all-in-loop-id.ensures.fresh j l)
 
 pub returns-in_err-push-clause-places : goal.returns-in_err-push-clause-places
@@ -263,7 +263,7 @@ returns-in_err-push-clause-places t c =
     let roots2 : c.in_ok-copy_all-2.field-0.items ≡ roots (renumbered n1 t1.children) = rw read2 at c.in_ok-copy_all-2.ensures.roots in
     let r : Row = record { kind = c.in_ok-kind.field-0.kind; name = c.in_ok-kind.field-0.name; text = c.in_ok-kind.field-0.text; parent = c.args.parent; attributes = c.in_ok-copy_all.field-0; children = c.in_ok-copy_all-2.field-0; place = c.loop-id.next } in
     let unmade : table_of c.copy_all-in-loop-id.new.rows n ≡ None = c.copy_all-in-loop-id.ensures.same n (omega arith) ∙ c.copy_all.ensures.same n (omega arith) ∙ inv.fresh n (omega arith) in
-    places-new c.copy_all-in-loop-id.new.rows c.insert.new.self n r unmade refl c.in_ok-insert.ensures.updates ∙ c.copy_all-in-loop-id.ensures.places ∙ c.copy_all.ensures.places ∙ inv.places
+    places-new c.copy_all-in-loop-id.new.rows c.insert.new.self n r unmade refl c.in_ok-insert.ensures.put ∙ c.copy_all-in-loop-id.ensures.places ∙ c.copy_all.ensures.places ∙ inv.places
 
 pub loop-id-preserved : goal.loop-id-preserved
 loop-id-preserved t c =
@@ -305,7 +305,7 @@ loop-id-preserved t c =
     let roots2 : c.in_ok-copy_all-2.field-0.items ≡ roots (renumbered n1 t1.children) = rw read2 at c.in_ok-copy_all-2.ensures.roots in
     let r : Row = record { kind = c.in_ok-kind.field-0.kind; name = c.in_ok-kind.field-0.name; text = c.in_ok-kind.field-0.text; parent = c.args.parent; attributes = c.in_ok-copy_all.field-0; children = c.in_ok-copy_all-2.field-0; place = c.loop-id.next } in
     let spoken = copy-says c.in_ok-kind.field-0 r t1.content there.parent c.args.parent n _ _ _ _ says refl refl refl refl roots1 roots2 in
-    let sets = row-sets g2 c.copy_all-in-loop-id.new.rows c.insert.new.self n n r (entry_of (record t1.content { identity = n }) c.args.parent (roots (renumbered (n + 1) t1.attributes)) (roots (renumbered n1 t1.children))) refl refl spoken c.in_ok-insert.ensures.updates in
+    let sets = row-sets g2 c.copy_all-in-loop-id.new.rows c.insert.new.self n n r (entry_of (record t1.content { identity = n }) c.args.parent (roots (renumbered (n + 1) t1.attributes)) (roots (renumbered n1 t1.children))) refl refl spoken c.in_ok-insert.ensures.put in
     let unmade : table_of c.copy_all-in-loop-id.new.rows n ≡ None = c.copy_all-in-loop-id.ensures.same n (omega arith) ∙ c.copy_all.ensures.same n (omega arith) ∙ inv.fresh n (omega arith) in
     let us = read_trees c.args.levels f c.args.ids.now in
     let front = first_trees i us in
@@ -323,7 +323,7 @@ loop-id-preserved t c =
       copied = subst P (sym t1.more) copied;
       same = λ j l. sets.apart j (λ same. absurd (omega arith)) ∙ kept2 j l;
       fresh = λ j l. sets.apart j (λ same. absurd (omega arith)) ∙ c.copy_all-in-loop-id.ensures.fresh j l;
-      places = places-new c.copy_all-in-loop-id.new.rows c.insert.new.self n r unmade refl c.in_ok-insert.ensures.updates ∙ c.copy_all-in-loop-id.ensures.places ∙ c.copy_all.ensures.places ∙ inv.places;
+      places = places-new c.copy_all-in-loop-id.new.rows c.insert.new.self n r unmade refl c.in_ok-insert.ensures.put ∙ c.copy_all-in-loop-id.ensures.places ∙ c.copy_all.ensures.places ∙ inv.places;
     })
 
 -- at the end all are copied

@@ -7,8 +7,8 @@ use Rattle.node_table.proofs.copy.remove_range.Goals as goal
 pub loop-number-preserved : goal.loop-number-preserved
 loop-number-preserved c =
     let i = c.loop-number.invariant in
-    let k = c.loop-number.number-counter in
-    let u = row-unset c.loop-number.rows c.remove.new.self k c.remove.ensures.updates in
+    let k = c.loop-number.number in
+    let u = row-unset c.loop-number.rows c.remove.new.self k c.remove.ensures.removed in
     record {
       none = λ l. absurd (omega arith);
       removed = λ j l h. ⊎_elim (λ b. u.1 j (λ same. absurd (omega arith)) ∙ i.removed j l b) (λ b. (let same : j ≡ k = omega arith in ap (row_of c.remove.new.self) same ∙ u.0)) (cases_lt j k);

@@ -5,8 +5,8 @@ use Rattle.node_table.proofs.copy.remove_range.Given as goal
 abbrev pub invariant-loop-number : goal.invariant-loop-number
 invariant-loop-number l =
     record {
-      none : l.end < l.first → l.number-counter ≡ l.first;
-      removed : (i : ℕ) → l.first ≤ i → i < l.number-counter → row_of l.rows i ≡ None;
+      none : l.end < l.first → l.number ≡ l.first;
+      removed : (i : ℕ) → l.first ≤ i → i < l.number → row_of l.rows i ≡ None;
       below : (i : ℕ) → i < l.first → row_of l.rows i ≡ row_of l.initial.rows i;
-      above : (i : ℕ) → l.number-counter ≤ i → row_of l.rows i ≡ row_of l.initial.rows i;
+      above : (i : ℕ) → l.number ≤ i → row_of l.rows i ≡ row_of l.initial.rows i;
     }

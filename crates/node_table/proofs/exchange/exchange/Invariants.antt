@@ -1,5 +1,5 @@
 use Rattle.std.proofs.Common.{◌≡◌, ◌+◌, ◌≤◌, ◌++◌, take, drop}
-use Rattle.std.specs.HashMap.{spare}
+use Rattle.row_pages.specs.Rows.{spare}
 use Rattle.node_table.specs.Rows.{row_of}
 use Rattle.node_table.specs.Plans.{over, replaced, all_places}
 use Rattle.node_table.proofs.exchange.exchange.Given as goal

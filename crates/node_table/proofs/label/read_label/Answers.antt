@@ -16,7 +16,7 @@ loop-preserved c =
     let f = table_of m in
     let ts = trees_of f c.args.levels in
     let w = place_of m in
-    let read = sym c.get.ensures.value ∙ ap option_copied c.in-Some.is in
+    let read = sym c.get.ensures ∙ ap option_copied c.in-Some.is in
     let at = rw c.number.ensures at (row-entry m c.number.result c.in-Some.row.now read) in
     let place = rw c.number.ensures at (place-some m c.number.result c.in-Some.row.now read) in
     let up = row-label-up w f c.args.levels ts c.requires.table c.loop.at c.in-Some-parent.parent i.there (ap parent_in at ∙ c.in-Some-parent.is) in
@@ -40,9 +40,9 @@ returns c =
     let top : label_of w c.loop.at ts ≡ c.loop.at ∷ [] =
     elim c.loop-test.branch [
       | else-loop-test b ↦ (let over = b.loop-test.false in let level = i.level in let deep = depth-size c.args.id ts in let few = h.fits in row-label-end w f c.args.levels ts h c.loop.at i.there (omega arith))
-      | then-loop-test+in_default b ↦ row-label-top w f c.args.levels ts h c.loop.at i.there (ap parent_in (rw b.number.ensures at (row-none m b.number.result (sym b.get.ensures.value ∙ ap option_copied b.in_default.is))))
+      | then-loop-test+in_default b ↦ row-label-top w f c.args.levels ts h c.loop.at i.there (ap parent_in (rw b.number.ensures at (row-none m b.number.result (sym b.get.ensures ∙ ap option_copied b.in_default.is))))
       | then-loop-test+in-Some+in_default-parent b ↦
-          row-label-top w f c.args.levels ts h c.loop.at i.there (ap parent_in (rw b.number.ensures at (row-entry m b.number.result b.in-Some.row.now (sym b.get.ensures.value ∙ ap option_copied b.in-Some.is))) ∙ b.in_default-parent.is)
+          row-label-top w f c.args.levels ts h c.loop.at i.there (ap parent_in (rw b.number.ensures at (row-entry m b.number.result b.in-Some.row.now (sym b.get.ensures ∙ ap option_copied b.in-Some.is))) ∙ b.in_default-parent.is)
     ] in
     let same = c.reverse.ensures.after ∙ ap reverse c.as_mut_slice.ensures.value in
     let len = c.reverse.ensures.len in

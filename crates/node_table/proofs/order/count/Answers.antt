@@ -8,7 +8,7 @@ use Rattle.node_table.proofs.order.count.Goals as goal
 pub returns-in-Some : goal.returns-in-Some
 returns-in-Some c =
     let r = c.in-Some.row.now in
-    let at = rw c.number.ensures at (row-entry c.args.rows.now c.number.result c.in-Some.row.now (sym c.get.ensures.value ∙ ap option_copied c.in-Some.is)) in
+    let at = rw c.number.ensures at (row-entry c.args.rows.now c.number.result c.in-Some.row.now (sym c.get.ensures ∙ ap option_copied c.in-Some.is)) in
     let a = r.attributes.ok in
     let b = r.children.ok in
     let la = c.len.ensures in
@@ -17,4 +17,4 @@ returns-in-Some c =
     omega arith
 
 pub returns-in-None : goal.returns-in-None
-returns-in-None c = sym (ap (λ o. length (lists_in o)) (rw c.number.ensures at (row-none c.args.rows.now c.number.result (sym c.get.ensures.value ∙ ap option_copied c.in-None.is))))
+returns-in-None c = sym (ap (λ o. length (lists_in o)) (rw c.number.ensures at (row-none c.args.rows.now c.number.result (sym c.get.ensures ∙ ap option_copied c.in-None.is))))

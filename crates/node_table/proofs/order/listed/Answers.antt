@@ -9,7 +9,7 @@ use Rattle.node_table.proofs.order.listed.Goals as goal
 pub returns-then-at-attributes : goal.returns-then-at-attributes
 returns-then-at-attributes c =
     let r = c.in-Some.row.now in
-    let at = rw c.number.ensures at (row-entry c.args.rows.now c.number.result c.in-Some.row.now (sym c.get.ensures.value ∙ ap option_copied c.in-Some.is)) in
+    let at = rw c.number.ensures at (row-entry c.args.rows.now c.number.result c.in-Some.row.now (sym c.get.ensures ∙ ap option_copied c.in-Some.is)) in
     let ok = r.attributes.ok in
     let len = c.len-attributes.ensures in
     let less = c.if-at-attributes.true in
@@ -18,7 +18,7 @@ returns-then-at-attributes c =
 pub returns-else-at-attributes : goal.returns-else-at-attributes
 returns-else-at-attributes c =
     let r = c.in-Some.row.now in
-    let at = rw c.number.ensures at (row-entry c.args.rows.now c.number.result c.in-Some.row.now (sym c.get.ensures.value ∙ ap option_copied c.in-Some.is)) in
+    let at = rw c.number.ensures at (row-entry c.args.rows.now c.number.result c.in-Some.row.now (sym c.get.ensures ∙ ap option_copied c.in-Some.is)) in
     let ok = r.attributes.ok in
     let len = c.len-attributes.ensures in
     let more = c.if-at-attributes.false in
@@ -28,4 +28,4 @@ returns-else-at-attributes c =
     ∙ sym (ap (λ o. slice_get (lists_in o) c.args.at) at ∙ ap (slice_get (lists_in (Some (entry_of_row r)))) whole ∙ get-right r.attributes.items r.children.items left)
 
 pub returns-in-None : goal.returns-in-None
-returns-in-None c = sym (ap (λ o. slice_get (lists_in o) c.args.at) (rw c.number.ensures at (row-none c.args.rows.now c.number.result (sym c.get.ensures.value ∙ ap option_copied c.in-None.is))))
+returns-in-None c = sym (ap (λ o. slice_get (lists_in o) c.args.at) (rw c.number.ensures at (row-none c.args.rows.now c.number.result (sym c.get.ensures ∙ ap option_copied c.in-None.is))))

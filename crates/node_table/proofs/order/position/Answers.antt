@@ -9,7 +9,7 @@ use Rattle.node_table.proofs.order.position.Goals as goal
 is : (c : goal.After-len) → c.len.result + c.args.index ≡ position_in c.args.part c.args.index (table_of c.args.rows.now c.args.id)
 is c =
     let r = c.in-Some.row.now in
-    let at = rw c.number.ensures at (row-entry c.args.rows.now c.number.result c.in-Some.row.now (sym c.get.ensures.value ∙ ap option_copied c.in-Some.is)) in
+    let at = rw c.number.ensures at (row-entry c.args.rows.now c.number.result c.in-Some.row.now (sym c.get.ensures ∙ ap option_copied c.in-Some.is)) in
     let ok = r.attributes.ok in
     let len = c.len.ensures in
     let sum : c.len.result + c.args.index ≡ length r.attributes.items + c.args.index = omega arith in
@@ -26,4 +26,4 @@ index-none Attributes n = refl
 index-none Children n = refl
 
 pub returns-in-None : goal.returns-in-None
-returns-in-None c = index-none c.args.part c.args.index ∙ sym (ap (position_in c.args.part c.args.index) (rw c.number.ensures at (row-none c.args.rows.now c.number.result (sym c.get.ensures.value ∙ ap option_copied c.in-None.is))))
+returns-in-None c = index-none c.args.part c.args.index ∙ sym (ap (position_in c.args.part c.args.index) (rw c.number.ensures at (row-none c.args.rows.now c.number.result (sym c.get.ensures ∙ ap option_copied c.in-None.is))))

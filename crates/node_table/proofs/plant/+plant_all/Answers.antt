@@ -69,7 +69,7 @@ returns-in_err-insert-clause-same t c = λ i none.
     let w = weigh-turn (λ j. cond (eqb i j) 1 0) ts at item c.loop-tree-test.true c.tree-item.is in
     let bs : count i (all_of c.attributes-attributes.result.now) ≡ count i item.attributes = ap (count i) c.attributes-attributes.ensures in
     let cs : count i (all_of c.children.result.now) ≡ count i item.children = ap (count i) c.children.ensures in
-    rows-same c.plant_all-in-loop-tree.new.rows c.insert.new.self c.in_err-insert.ensures.err i ∙ c.plant_all-in-loop-tree.ensures.same i (omega arith) ∙ c.plant_all.ensures.same i (omega arith) ∙ c.loop-tree.invariant.same i none)
+    rows-same c.plant_all-in-loop-tree.new.rows c.insert.new.self c.in_err-insert.ensures.refused i ∙ c.plant_all-in-loop-tree.ensures.same i (omega arith) ∙ c.plant_all.ensures.same i (omega arith) ∙ c.loop-tree.invariant.same i none)
 
 pub returns-in_err-push-clause-same : goal.returns-in_err-push-clause-same
 returns-in_err-push-clause-same t c = λ i none.
@@ -80,7 +80,7 @@ returns-in_err-push-clause-same t c = λ i none.
     let view = c.content.view_is ∙ c.content-content.ensures in
     let id : c.number.result ≡ item.content.identity = c.number.ensures ∙ ap (λ (n : Content). n.identity) view in
     let r : Row = record { kind = c.content.inside.kind; name = c.in_ok-clone.field-0; text = c.in_ok-clone-2.field-0; parent = c.args.parent; attributes = c.in_ok-plant_all.field-0; children = c.in_ok-plant_all-2.field-0; place = c.loop-tree.place } in
-    let set = rw id at (row-set c.plant_all-in-loop-tree.new.rows c.insert.new.self c.number.result r c.in_ok-insert.ensures.updates) in
+    let set = rw id at (row-set c.plant_all-in-loop-tree.new.rows c.insert.new.self c.number.result r c.in_ok-insert.ensures.put) in
     let w = weigh-turn (λ j. cond (eqb i j) 1 0) ts at item c.loop-tree-test.true c.tree-item.is in
     let bs : count i (all_of c.attributes-attributes.result.now) ≡ count i item.attributes = ap (count i) c.attributes-attributes.ensures in
     let cs : count i (all_of c.children.result.now) ≡ count i item.children = ap (count i) c.children.ensures in
@@ -105,7 +105,7 @@ loop-tree-preserved t c =
     let g1 = table_of c.plant_all.new.rows in
     let g2 = table_of c.plant_all-in-loop-tree.new.rows in
     let g3 = table_of c.insert.new.self in
-    let sets = row-sets g2 c.plant_all-in-loop-tree.new.rows c.insert.new.self c.number.result item.content.identity r (entry_of item.content c.args.parent (roots item.attributes) (roots item.children)) refl id says c.in_ok-insert.ensures.updates in
+    let sets = row-sets g2 c.plant_all-in-loop-tree.new.rows c.insert.new.self c.number.result item.content.identity r (entry_of item.content c.args.parent (roots item.attributes) (roots item.children)) refl id says c.in_ok-insert.ensures.put in
     let inv = c.loop-tree.invariant in
     let front = all_of (take at ts) in
     let same = ap (λ (n : Content). n.identity) view in
@@ -115,7 +115,7 @@ loop-tree-preserved t c =
     let rows2 : (i : ℕ) → count i item.children ≡ 0 → row_of c.plant_all-in-loop-tree.new.rows i ≡ row_of c.plant_all.new.rows i = rw c.children.ensures at c.plant_all-in-loop-tree.ensures.same in
     let same1 : (i : ℕ) → count i item.attributes ≡ 0 → g1 i ≡ g0 i = λ i h. table-row c.loop-tree.rows c.plant_all.new.rows i (rows1 i h) in
     let same2 : (i : ℕ) → count i item.children ≡ 0 → g2 i ≡ g1 i = λ i h. table-row c.plant_all.new.rows c.plant_all-in-loop-tree.new.rows i (rows2 i h) in
-    let set = rw id at (row-set c.plant_all-in-loop-tree.new.rows c.insert.new.self c.number.result r c.in_ok-insert.ensures.updates) in
+    let set = rw id at (row-set c.plant_all-in-loop-tree.new.rows c.insert.new.self c.number.result r c.in_ok-insert.ensures.put) in
     let past : length c.attributes-attributes.result.now ≡ length (roots item.attributes) = sym (length-all c.attributes-attributes.result.now) ∙ ap (λ us. length (roots us)) c.attributes-attributes.ensures in
     let ranked1 : AreRanked (place_of c.plant_all.new.rows) 0 item.attributes = rw c.attributes-attributes.ensures at c.in_ok-plant_all.ensures.ranked in
     let ranked2 : AreRanked (place_of c.plant_all-in-loop-tree.new.rows) (length (roots item.attributes)) item.children = rw (c.children.ensures, past) at c.in_ok-plant_all-2.ensures.ranked in

@@ -13,7 +13,7 @@ pub returns-in_default : goal.returns-in_default
 returns-in_default t c =
     let f = table_of c.args.rows.now in
     tree-stop f (read_trees (c.args.levels - 1) f) c.args.ids.now c.loop-id.id-index c.id-item.result c.loop-id.trees.items _ c.loop-id-test.true c.id-item.is
-    (rw c.number.ensures at (row-none c.args.rows.now c.number.result (sym c.get.ensures.value ∙ ap option_copied c.in_default.is))) c.loop-id.invariant
+    (rw c.number.ensures at (row-none c.args.rows.now c.number.result (sym c.get.ensures ∙ ap option_copied c.in_default.is))) c.loop-id.invariant
 
 pub returns : goal.returns
 returns t c =
@@ -26,7 +26,7 @@ loop-id-preserved t c =
     let f = table_of c.args.rows.now in
     let e = entry_of_row c.in-Some.row.now in
     let below = read_trees (c.args.levels - 1) f in
-    let at = rw c.number.ensures at (row-entry c.args.rows.now c.number.result c.in-Some.row.now (sym c.get.ensures.value ∙ ap option_copied c.in-Some.is)) in
+    let at = rw c.number.ensures at (row-entry c.args.rows.now c.number.result c.in-Some.row.now (sym c.get.ensures ∙ ap option_copied c.in-Some.is)) in
     let name : string_bytes c.in_ok-clone.field-0 ≡ e.name = c.in_ok-clone.ensures.cases in
     let text : string_bytes c.in_ok-clone-2.field-0 ≡ e.text = c.in_ok-clone-2.ensures.cases in
     let bs : all_of c.in_ok-attributes.attributes.items ≡ below e.attributes = c.in_ok-attributes.ensures ∙ ap below c.deref.ensures.value in

@@ -11,7 +11,7 @@ pub returns-in_default-clause-value : goal.returns-in_default-clause-value
 returns-in_default-clause-value t c =
     let f = table_of c.args.rows.now in
     within-all c.args.most _ _ c.loop-id.invariant.0
-    (text-stop f (read_trees (c.args.levels - 1) f) c.args.ids.now c.loop-id.id-index c.id-item.result _ _ c.loop-id-test.true c.id-item.is (rw c.number.ensures at (row-none c.args.rows.now c.number.result (sym c.get.ensures.value ∙ ap option_copied c.in_default.is))) c.loop-id.invariant.1)
+    (text-stop f (read_trees (c.args.levels - 1) f) c.args.ids.now c.loop-id.id-index c.id-item.result _ _ c.loop-id-test.true c.id-item.is (rw c.number.ensures at (row-none c.args.rows.now c.number.result (sym c.get.ensures ∙ ap option_copied c.in_default.is))) c.loop-id.invariant.1)
 
 pub returns-then-not-fits-clause-value : goal.returns-then-not-fits-clause-value
 returns-then-not-fits-clause-value t c =
@@ -20,7 +20,7 @@ returns-then-not-fits-clause-value t c =
     let e = entry_of_row c.in-Some.row.now in
     let stop = λ (a : text_within c.args.most (string_bytes c.loop-id.out ++ piece below e) ≡ cond c.if-is_inner.fits (Some (string_bytes c.if-is_inner.out)) None).
     within-stop f below c.args.ids.now c.loop-id.id-index c.id-item.result c.args.most e _ _ _ c.if-is_inner.fits c.loop-id-test.true c.id-item.is
-    (rw c.number.ensures at (row-entry c.args.rows.now c.number.result c.in-Some.row.now (sym c.get.ensures.value ∙ ap option_copied c.in-Some.is))) a c.loop-id.invariant.1 c.if-not-fits.true in
+    (rw c.number.ensures at (row-entry c.args.rows.now c.number.result c.in-Some.row.now (sym c.get.ensures ∙ ap option_copied c.in-Some.is))) a c.loop-id.invariant.1 c.if-not-fits.true in
     elim c.if-is_inner.branch [
       | then-is_inner+in_ok-fits w ↦ stop (rw (sym c.is_inner.ensures ∙ w.if-is_inner.true, ← w.deref.ensures.value, w.out-is, w.fits-is) w.in_ok-fits.ensures.value)
       | else-is_inner+then-is_text+in_ok-fits-2 w ↦ stop (rw (sym c.is_inner.ensures ∙ w.if-is_inner.false, sym w.is_text.ensures ∙ w.if-is_text.true, ← w.deref-then-is_text.ensures, w.out-is, w.fits-is) w.in_ok-fits-2.ensures.value)
@@ -34,7 +34,7 @@ loop-id-preserved t c =
     let e = entry_of_row c.in-Some.row.now in
     let turn = λ (a : text_within c.args.most (string_bytes c.loop-id.out ++ piece below e) ≡ cond c.if-is_inner.fits (Some (string_bytes c.if-is_inner.out)) None).
     within-turn f below c.args.ids.now c.loop-id.id-index c.id-item.result c.args.most e _ _ _ c.if-is_inner.fits c.loop-id-test.true c.id-item.is
-    (rw c.number.ensures at (row-entry c.args.rows.now c.number.result c.in-Some.row.now (sym c.get.ensures.value ∙ ap option_copied c.in-Some.is))) a c.loop-id.invariant.1 c.if-not-fits.false in
+    (rw c.number.ensures at (row-entry c.args.rows.now c.number.result c.in-Some.row.now (sym c.get.ensures ∙ ap option_copied c.in-Some.is))) a c.loop-id.invariant.1 c.if-not-fits.false in
     elim c.if-is_inner.branch [
       | then-is_inner+in_ok-fits w ↦ (rw w.out-is w.in_ok-fits.ensures.most, turn (rw (sym c.is_inner.ensures ∙ w.if-is_inner.true, ← w.deref.ensures.value, w.out-is, w.fits-is) w.in_ok-fits.ensures.value))
       | else-is_inner+then-is_text+in_ok-fits-2 w ↦ (rw w.out-is w.in_ok-fits-2.ensures.most, turn (rw (sym c.is_inner.ensures ∙ w.if-is_inner.false, sym w.is_text.ensures ∙ w.if-is_text.true, ← w.deref-then-is_text.ensures, w.out-is, w.fits-is) w.in_ok-fits-2.ensures.value))

@@ -10,7 +10,7 @@ pub returns-in_default : goal.returns-in_default
 returns-in_default t c =
     let f = table_of c.args.rows.now in
     let stop = size-stop f (read_trees (c.args.levels - 1) f) c.args.ids.now c.loop-id.id-index c.id-item.result c.loop-id-test.true c.id-item.is
-    (rw c.number.ensures at (row-none c.args.rows.now c.number.result (sym c.get.ensures.value ∙ ap option_copied c.in_default.is))) in
+    (rw c.number.ensures at (row-none c.args.rows.now c.number.result (sym c.get.ensures ∙ ap option_copied c.in_default.is))) in
     let all = c.loop-id.invariant in
     omega arith
 
@@ -19,7 +19,7 @@ count-requires t c =
     let f = table_of c.args.rows.now in
     let below = read_trees (c.args.levels - 1) f in
     let turn = size-turn f below c.args.ids.now c.loop-id.id-index c.id-item.result (entry_of_row c.in-Some.row.now) c.loop-id-test.true c.id-item.is
-    (rw c.number.ensures at (row-entry c.args.rows.now c.number.result c.in-Some.row.now (sym c.get.ensures.value ∙ ap option_copied c.in-Some.is))) in
+    (rw c.number.ensures at (row-entry c.args.rows.now c.number.result c.in-Some.row.now (sym c.get.ensures ∙ ap option_copied c.in-Some.is))) in
     let all = c.loop-id.invariant in
     let fits = c.requires in
     let list1 = c.deref.ensures.value in
@@ -32,7 +32,7 @@ overflow_add-nodes t c =
     let f = table_of c.args.rows.now in
     let below = read_trees (c.args.levels - 1) f in
     let turn = size-turn f below c.args.ids.now c.loop-id.id-index c.id-item.result (entry_of_row c.in-Some.row.now) c.loop-id-test.true c.id-item.is
-    (rw c.number.ensures at (row-entry c.args.rows.now c.number.result c.in-Some.row.now (sym c.get.ensures.value ∙ ap option_copied c.in-Some.is))) in
+    (rw c.number.ensures at (row-entry c.args.rows.now c.number.result c.in-Some.row.now (sym c.get.ensures ∙ ap option_copied c.in-Some.is))) in
     let all = c.loop-id.invariant in
     let fits = c.requires in
     let list1 = c.deref.ensures.value in
@@ -46,7 +46,7 @@ overflow_add-nodes-in-loop-id t c =
     let f = table_of c.args.rows.now in
     let below = read_trees (c.args.levels - 1) f in
     let turn = size-turn f below c.args.ids.now c.loop-id.id-index c.id-item.result (entry_of_row c.in-Some.row.now) c.loop-id-test.true c.id-item.is
-    (rw c.number.ensures at (row-entry c.args.rows.now c.number.result c.in-Some.row.now (sym c.get.ensures.value ∙ ap option_copied c.in-Some.is))) in
+    (rw c.number.ensures at (row-entry c.args.rows.now c.number.result c.in-Some.row.now (sym c.get.ensures ∙ ap option_copied c.in-Some.is))) in
     let all = c.loop-id.invariant in
     let fits = c.requires in
     let list1 = c.deref.ensures.value in
@@ -60,7 +60,7 @@ count-nodes-requires t c =
     let f = table_of c.args.rows.now in
     let below = read_trees (c.args.levels - 1) f in
     let turn = size-turn f below c.args.ids.now c.loop-id.id-index c.id-item.result (entry_of_row c.in-Some.row.now) c.loop-id-test.true c.id-item.is
-    (rw c.number.ensures at (row-entry c.args.rows.now c.number.result c.in-Some.row.now (sym c.get.ensures.value ∙ ap option_copied c.in-Some.is))) in
+    (rw c.number.ensures at (row-entry c.args.rows.now c.number.result c.in-Some.row.now (sym c.get.ensures ∙ ap option_copied c.in-Some.is))) in
     let all = c.loop-id.invariant in
     let fits = c.requires in
     let list1 = c.deref.ensures.value in
@@ -75,7 +75,7 @@ overflow_add-nodes-in-loop-id-2 t c =
     let f = table_of c.args.rows.now in
     let below = read_trees (c.args.levels - 1) f in
     let turn = size-turn f below c.args.ids.now c.loop-id.id-index c.id-item.result (entry_of_row c.in-Some.row.now) c.loop-id-test.true c.id-item.is
-    (rw c.number.ensures at (row-entry c.args.rows.now c.number.result c.in-Some.row.now (sym c.get.ensures.value ∙ ap option_copied c.in-Some.is))) in
+    (rw c.number.ensures at (row-entry c.args.rows.now c.number.result c.in-Some.row.now (sym c.get.ensures ∙ ap option_copied c.in-Some.is))) in
     let all = c.loop-id.invariant in
     let fits = c.requires in
     let list1 = c.deref.ensures.value in
@@ -91,7 +91,7 @@ loop-id-preserved t c =
     let f = table_of c.args.rows.now in
     let below = read_trees (c.args.levels - 1) f in
     let turn = size-turn f below c.args.ids.now c.loop-id.id-index c.id-item.result (entry_of_row c.in-Some.row.now) c.loop-id-test.true c.id-item.is
-    (rw c.number.ensures at (row-entry c.args.rows.now c.number.result c.in-Some.row.now (sym c.get.ensures.value ∙ ap option_copied c.in-Some.is))) in
+    (rw c.number.ensures at (row-entry c.args.rows.now c.number.result c.in-Some.row.now (sym c.get.ensures ∙ ap option_copied c.in-Some.is))) in
     let all = c.loop-id.invariant in
     let fits = c.requires in
     let list1 = c.deref.ensures.value in

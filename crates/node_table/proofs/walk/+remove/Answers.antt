@@ -1,5 +1,5 @@
 use Rattle.std.proofs.Common.{◌≡◌, ◌≢◌, ◌∙◌, ◌-◌, ◌+◌, ◌≤◌, ◌<◌, ◌^◌, ℕ, None, Some, ap, sym, refl, arith, add-one, length, subst, nat_eq, cond, eqb}
-use Rattle.std.specs.HashMap.{get}
+use Rattle.row_pages.specs.Rows.{get}
 use Rattle.data_model.specs.Trees.{Trees, size, count, tree, no_trees, append}
 use Rattle.node_table.specs.Flat.{read_trees}
 use Rattle.node_table.specs.Rows.{table_of, row_of}
@@ -17,23 +17,23 @@ loop-id-init t c =
 
 pub returns-in_default-clause-nodes : goal.returns-in_default-clause-nodes
 returns-in_default-clause-nodes t c =
-    let none = rw c.number.ensures at (row-none c.loop-id.rows c.number.result (sym c.remove.ensures.value ∙ c.in_default.is)) in
+    let none = rw c.number.ensures at (row-none c.loop-id.rows c.number.result (sym c.remove.ensures.was ∙ c.in_default.is)) in
     absurd (none-some _ _ none (entry-left c.args.rows.now c.args.levels (2 ^ 62) c.loop-id.id-index c.id-item.result c.args.ids.now c.requires.there c.loop-id-test.true c.id-item.is c.requires.distinct c.loop-id.rows c.loop-id.invariant.same))
 
 pub returns-in_default-clause-removed : goal.returns-in_default-clause-removed
 returns-in_default-clause-removed t c =
-    let none = rw c.number.ensures at (row-none c.loop-id.rows c.number.result (sym c.remove.ensures.value ∙ c.in_default.is)) in
+    let none = rw c.number.ensures at (row-none c.loop-id.rows c.number.result (sym c.remove.ensures.was ∙ c.in_default.is)) in
     absurd (none-some _ _ none (entry-left c.args.rows.now c.args.levels (2 ^ 62) c.loop-id.id-index c.id-item.result c.args.ids.now c.requires.there c.loop-id-test.true c.id-item.is c.requires.distinct c.loop-id.rows c.loop-id.invariant.same))
 
 pub returns-in_default-clause-same : goal.returns-in_default-clause-same
 returns-in_default-clause-same t c =
-    let none = rw c.number.ensures at (row-none c.loop-id.rows c.number.result (sym c.remove.ensures.value ∙ c.in_default.is)) in
+    let none = rw c.number.ensures at (row-none c.loop-id.rows c.number.result (sym c.remove.ensures.was ∙ c.in_default.is)) in
     absurd (none-some _ _ none (entry-left c.args.rows.now c.args.levels (2 ^ 62) c.loop-id.id-index c.id-item.result c.args.ids.now c.requires.there c.loop-id-test.true c.id-item.is c.requires.distinct c.loop-id.rows c.loop-id.invariant.same))
 
 pub remove-requires-in-loop-id : goal.remove-requires-in-loop-id
 remove-requires-in-loop-id t c =
-    let at_x : get nat_eq c.loop-id.rows c.id-item.result ≡ Some c.in-Some.row = rw c.number.ensures at (sym c.remove.ensures.value ∙ c.in-Some.is) in
-    let unset = rw c.number.ensures at (row-unset c.loop-id.rows c.remove.new.self c.number.result c.remove.ensures.updates) in
+    let at_x : get c.loop-id.rows c.id-item.result ≡ Some c.in-Some.row = rw c.number.ensures at (sym c.remove.ensures.was ∙ c.in-Some.is) in
+    let unset = rw c.number.ensures at (row-unset c.loop-id.rows c.remove.new.self c.number.result c.remove.ensures.removed) in
     let some = c.if-levels-eq0.false in
     let enough : c.args.levels ≤ c.args.levels - 1 + 1 = omega arith in
     let one = reads-bs c.args.rows.now c.args.levels (2 ^ 62) c.loop-id.id-index c.id-item.result c.args.ids.now c.requires.there c.loop-id-test.true c.id-item.is c.requires.distinct c.loop-id.rows c.loop-id.invariant.same c.in-Some.row at_x (c.args.levels - 1) enough c.remove.new.self unset.1 in
@@ -42,8 +42,8 @@ remove-requires-in-loop-id t c =
 
 pub overflow_add-nodes : goal.overflow_add-nodes
 overflow_add-nodes t c =
-    let at_x : get nat_eq c.loop-id.rows c.id-item.result ≡ Some c.in-Some.row = rw c.number.ensures at (sym c.remove.ensures.value ∙ c.in-Some.is) in
-    let unset = rw c.number.ensures at (row-unset c.loop-id.rows c.remove.new.self c.number.result c.remove.ensures.updates) in
+    let at_x : get c.loop-id.rows c.id-item.result ≡ Some c.in-Some.row = rw c.number.ensures at (sym c.remove.ensures.was ∙ c.in-Some.is) in
+    let unset = rw c.number.ensures at (row-unset c.loop-id.rows c.remove.new.self c.number.result c.remove.ensures.removed) in
     let some = c.if-levels-eq0.false in
     let enough : c.args.levels ≤ c.args.levels - 1 + 1 = omega arith in
     let one = reads-bs c.args.rows.now c.args.levels (2 ^ 62) c.loop-id.id-index c.id-item.result c.args.ids.now c.requires.there c.loop-id-test.true c.id-item.is c.requires.distinct c.loop-id.rows c.loop-id.invariant.same c.in-Some.row at_x (c.args.levels - 1) enough c.remove.new.self unset.1 in
@@ -57,8 +57,8 @@ overflow_add-nodes t c =
 
 pub overflow_add-nodes-in-loop-id : goal.overflow_add-nodes-in-loop-id
 overflow_add-nodes-in-loop-id t c =
-    let at_x : get nat_eq c.loop-id.rows c.id-item.result ≡ Some c.in-Some.row = rw c.number.ensures at (sym c.remove.ensures.value ∙ c.in-Some.is) in
-    let unset = rw c.number.ensures at (row-unset c.loop-id.rows c.remove.new.self c.number.result c.remove.ensures.updates) in
+    let at_x : get c.loop-id.rows c.id-item.result ≡ Some c.in-Some.row = rw c.number.ensures at (sym c.remove.ensures.was ∙ c.in-Some.is) in
+    let unset = rw c.number.ensures at (row-unset c.loop-id.rows c.remove.new.self c.number.result c.remove.ensures.removed) in
     let some = c.if-levels-eq0.false in
     let enough : c.args.levels ≤ c.args.levels - 1 + 1 = omega arith in
     let one = reads-bs c.args.rows.now c.args.levels (2 ^ 62) c.loop-id.id-index c.id-item.result c.args.ids.now c.requires.there c.loop-id-test.true c.id-item.is c.requires.distinct c.loop-id.rows c.loop-id.invariant.same c.in-Some.row at_x (c.args.levels - 1) enough c.remove.new.self unset.1 in
@@ -72,8 +72,8 @@ overflow_add-nodes-in-loop-id t c =
 
 pub remove-nodes-requires : goal.remove-nodes-requires
 remove-nodes-requires t c =
-    let at_x : get nat_eq c.loop-id.rows c.id-item.result ≡ Some c.in-Some.row = rw c.number.ensures at (sym c.remove.ensures.value ∙ c.in-Some.is) in
-    let unset = rw c.number.ensures at (row-unset c.loop-id.rows c.remove.new.self c.number.result c.remove.ensures.updates) in
+    let at_x : get c.loop-id.rows c.id-item.result ≡ Some c.in-Some.row = rw c.number.ensures at (sym c.remove.ensures.was ∙ c.in-Some.is) in
+    let unset = rw c.number.ensures at (row-unset c.loop-id.rows c.remove.new.self c.number.result c.remove.ensures.removed) in
     let some = c.if-levels-eq0.false in
     let enough : c.args.levels ≤ c.args.levels - 1 + 1 = omega arith in
     let one = reads-bs c.args.rows.now c.args.levels (2 ^ 62) c.loop-id.id-index c.id-item.result c.args.ids.now c.requires.there c.loop-id-test.true c.id-item.is c.requires.distinct c.loop-id.rows c.loop-id.invariant.same c.in-Some.row at_x (c.args.levels - 1) enough c.remove.new.self unset.1 in
@@ -89,8 +89,8 @@ remove-nodes-requires t c =
 
 pub overflow_add-nodes-in-loop-id-2 : goal.overflow_add-nodes-in-loop-id-2
 overflow_add-nodes-in-loop-id-2 t c =
-    let at_x : get nat_eq c.loop-id.rows c.id-item.result ≡ Some c.in-Some.row = rw c.number.ensures at (sym c.remove.ensures.value ∙ c.in-Some.is) in
-    let unset = rw c.number.ensures at (row-unset c.loop-id.rows c.remove.new.self c.number.result c.remove.ensures.updates) in
+    let at_x : get c.loop-id.rows c.id-item.result ≡ Some c.in-Some.row = rw c.number.ensures at (sym c.remove.ensures.was ∙ c.in-Some.is) in
+    let unset = rw c.number.ensures at (row-unset c.loop-id.rows c.remove.new.self c.number.result c.remove.ensures.removed) in
     let some = c.if-levels-eq0.false in
     let enough : c.args.levels ≤ c.args.levels - 1 + 1 = omega arith in
     let one = reads-bs c.args.rows.now c.args.levels (2 ^ 62) c.loop-id.id-index c.id-item.result c.args.ids.now c.requires.there c.loop-id-test.true c.id-item.is c.requires.distinct c.loop-id.rows c.loop-id.invariant.same c.in-Some.row at_x (c.args.levels - 1) enough c.remove.new.self unset.1 in
@@ -108,8 +108,8 @@ overflow_add-nodes-in-loop-id-2 t c =
 
 pub loop-id-preserved : goal.loop-id-preserved
 loop-id-preserved t c =
-    let at_x : get nat_eq c.loop-id.rows c.id-item.result ≡ Some c.in-Some.row = rw c.number.ensures at (sym c.remove.ensures.value ∙ c.in-Some.is) in
-    let unset = rw c.number.ensures at (row-unset c.loop-id.rows c.remove.new.self c.number.result c.remove.ensures.updates) in
+    let at_x : get c.loop-id.rows c.id-item.result ≡ Some c.in-Some.row = rw c.number.ensures at (sym c.remove.ensures.was ∙ c.in-Some.is) in
+    let unset = rw c.number.ensures at (row-unset c.loop-id.rows c.remove.new.self c.number.result c.remove.ensures.removed) in
     let some = c.if-levels-eq0.false in
     let enough : c.args.levels ≤ c.args.levels - 1 + 1 = omega arith in
     let one = reads-bs c.args.rows.now c.args.levels (2 ^ 62) c.loop-id.id-index c.id-item.result c.args.ids.now c.requires.there c.loop-id-test.true c.id-item.is c.requires.distinct c.loop-id.rows c.loop-id.invariant.same c.in-Some.row at_x (c.args.levels - 1) enough c.remove.new.self unset.1 in

@@ -1,0 +1,88 @@
+//! Numbers by key, 16 to a page, so that what is looked up most takes few cache lines.
+
+ghost use Rattle.std.specs.Prelude.{◌≡◌, ◌≢◌, ◌≤◌, ◌<◌, ◌+◌, ◌^◌, ℕ, ◌/◌, true, false, set, get_or};
+ghost use Rattle.std.specs.HashMap.{spare};
+ghost use Rattle.row_pages.specs.Pages.{number_of, HasPage};
+
+use std::collections::HashMap;
+
+/// Pages by number. The keys of page n are those from 16 n on.
+pub(super) type Pages = HashMap<u64, [u32; 16]>;
+
+/// The number of a key, 0 for none.
+pub(super) fn number(pages: &Pages, key: u64) -> u32
+    ensures { result ≡ number_of pages.now key }
+{
+    match pages.get(&(key / 16)) {
+        Some(page) => page[(key % 16) as usize],
+        None => 0,
+    }
+}
+
+/// Gives a key of a page that is there another number.
+pub(super) fn set_number(pages: &mut Pages, key: u64, number: u32)
+    requires { HasPage pages.old key }
+    ensures here { number_of pages.new key ≡ number }
+    ensures apart { (k : ℕ) → k ≢ key → number_of pages.new k ≡ number_of pages.old k }
+    ensures pages { (k : ℕ) → HasPage pages.old k → HasPage pages.new k }
+    ensures spare { spare pages.new ≡ spare pages.old }
+{
+    if let Some(page) = pages.get_mut(&(key / 16)) {
+        write(page, (key % 16) as usize, number);
+    }
+}
+
+/// Writes a number into a page.
+fn write(page: &mut [u32; 16], at: usize, number: u32)
+    requires { at < 16 }
+    ensures page { page.new ≡ set page.old at number }
+    ensures here { get_or page.new at 0 ≡ number }
+{
+    page[at] = number;
+}
+
+/// Makes the page of a key, with no numbers, unless it is there.
+pub(super) fn make_page(pages: &mut Pages, key: u64)
+    requires room { 1 ≤ spare pages.old }
+    ensures same { (k : ℕ) → number_of pages.new k ≡ number_of pages.old k }
+    ensures there { HasPage pages.new key }
+    ensures spare { spare pages.old ≤ spare pages.new + 1 }
+{
+    if !pages.contains_key(&(key / 16)) {
+        match pages.insert(key / 16, [0; 16]) {
+            Ok(_) => {}
+            // There is room, so this is not reached.
+            Err(_) => {}
+        }
+    }
+}
+
+/// Gives back the room of pages where there is more than four times what stands, but for as much again.
+pub(super) fn shrink_pages(pages: &mut Pages)
+    ensures { (k : ℕ) → number_of pages.new k ≡ number_of pages.old k }
+{
+    let count = pages.len();
+    if pages.capacity() / 4 > count {
+        pages.shrink_to(count.saturating_mul(2));
+    }
+}
+
+/// Takes the page of a key away, unless it has numbers.
+pub(super) fn drop_page(pages: &mut Pages, key: u64)
+    ensures same { (k : ℕ) → number_of pages.new k ≡ number_of pages.old k }
+    ensures spare { spare pages.old ≤ spare pages.new }
+{
+    if is_blank(pages, key) {
+        pages.remove(&(key / 16));
+    }
+}
+
+/// Whether no key of a page has a number.
+fn is_blank(pages: &Pages, key: u64) -> bool
+    ensures { result ≡ true → (k : ℕ) → k / 16 ≡ key / 16 → number_of pages.now k ≡ 0 }
+{
+    match pages.get(&(key / 16)) {
+        Some(page) => *page == [0; 16],
+        None => true,
+    }
+}
