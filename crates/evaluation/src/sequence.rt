@@ -107,6 +107,19 @@ impl Sequence {
         Ok(Sequence { items })
     }
 
+    /// The items, and one more. Faults: `Memory`; `Code` with PXQ0002 where there are 10,000.
+    #[tactic(auto, unfolding(query_meaning::specs::Running::most_items))]
+    pub fn and(self, item: Item) -> Result<Sequence, ValueFault>
+        ensures { Says (within (self ++ item ∷ [])) result }
+    {
+        let Sequence { mut items } = self;
+        if items.len() >= MOST_ITEMS {
+            return Err(ValueFault::Code(Code::PXQ0002));
+        }
+        items.push(item)?;
+        Ok(Sequence { items })
+    }
+
     /// The same items. It fails where memory is refused.
     pub fn copy(&self, alloc: Global) -> Result<Sequence, AllocError>
         ensures { IfOk result (λ s. s ≡ self.now) }

@@ -61,7 +61,7 @@ fn reversed(alloc: Global, items: &[Item]) -> Result<Sequence, ValueFault>
     let mut given = Sequence::new(alloc);
     let mut rest = items;
     while let Some((item, before)) = rest.split_last() {
-        given = and_item(alloc, given, item.clone()?)?;
+        given = and_item(given, item.clone()?)?;
         rest = before;
     }
     Ok(given)

@@ -33,12 +33,11 @@ pub(crate) fn string_of(run: &mut Evaluation, text: Text) -> Result<Sequence, Va
 
 /// Items, and one more. It fails only where memory is refused.
 #[tactic(auto, unfolding(query_meaning::specs::Running::most_items))]
-pub(crate) fn and_item(alloc: Global, given: Sequence, item: Item) -> Result<Sequence, ValueFault>
+pub(crate) fn and_item(given: Sequence, item: Item) -> Result<Sequence, ValueFault>
     requires room { length given < most_items }
     ensures { Says (Ok (given ++ item ∷ [])) result }
 {
-    let one = Sequence::one(alloc, item)?;
-    given.joined(one)
+    given.and(item)
 }
 
 /// The sequence of atomic values. It fails only where memory is refused.
@@ -48,7 +47,7 @@ pub(crate) fn sequence_of(alloc: Global, values: Vec<Atom>) -> Result<Sequence, 
 {
     let mut given = Sequence::new(alloc);
     for value in values {
-        given = and_item(alloc, given, Item::Atomic(value))?;
+        given = and_item(given, Item::Atomic(value))?;
     }
     Ok(given)
 }

@@ -146,7 +146,7 @@ fn items_of(alloc: Global, nodes: &[NodeId]) -> Result<Sequence, ValueFault>
     }
     let mut items = Sequence::new(alloc);
     for node in nodes {
-        items = items.joined(Sequence::one(alloc, Item::Node(*node))?)?;
+        items = items.and(Item::Node(*node))?;
     }
     Ok(items)
 }
