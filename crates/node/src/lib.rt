@@ -9,6 +9,7 @@ mod node;
 mod outbox;
 mod spelling;
 
+pub use ballots::Setup;
 pub use draft::Draft;
 pub use fault::{NodeFault, OpenFault};
 pub use node::Node;

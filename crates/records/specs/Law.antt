@@ -5,9 +5,9 @@ use Rattle.paxos.specs.Records.{Record, Write, Nothing, NewPromise, NewVote, wri
 use Rattle.records.specs.declared.records.RecordsFault.{RecordsFault}
 use Rattle.records.specs.declared.records.RecordsFault.TheVariants.{Memory, Store}
 
--- one more failure is counted; at 2 ^ 64 - 1 the count stays, which counts as grown
+-- just one more failure is counted; at 2 ^ 64 - 1 the count stays, which counts as grown
 abbrev pub Grew : ℕ → ℕ → Type 0
-Grew old new = min (old + 1) (2 ^ 64 - 1) ≤ new
+Grew old new = new ≡ min (old + 1) (2 ^ 64 - 1)
 
 -- What a crash leaves after a write of `next` over `last`: after Ok the new record, for want of memory the old one, of a store that failed either.
 abbrev pub Puts : {T : Type 0} → (Record → Record → Type 0) → (last next : Record) → Result T RecordsFault → Type 0
@@ -15,7 +15,7 @@ Puts stands last next (Ok _) = stands next next
 Puts stands last next (Err Memory) = stands last last
 Puts stands last next (Err Store) = stands last next
 
--- a call says that the store failed exactly where its failures grew
+-- a call says that the store failed exactly where its failures grew, by one
 abbrev pub Counts : {T : Type 0} → ℕ → ℕ → Result T RecordsFault → Type 0
 Counts old new (Ok _) = new ≡ old
 Counts old new (Err Memory) = new ≡ old

@@ -22,7 +22,7 @@ pub enum RecordsFault {
 /// A store for one acceptor's record, which outlives the acceptor ("Paxos Made Simple", section 2.5).
 ///
 /// Its law: after an `Ok` every crash leaves the new record; after a failure of the store the old or the new one, and `failures`
-/// has grown in that call; after want of memory the old one. What `load` gives lasts until a later write changes it.
+/// has grown by one in that call; after want of memory the old one. What `load` gives lasts until a later write changes it.
 ///
 /// A write that keeps learnt values too would be a third `put_..` here, with a third kind of `Write` in its law.
 pub trait Records {

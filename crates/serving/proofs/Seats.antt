@@ -58,8 +58,8 @@ module _ {R A : Type 0} (has_applied : List (List ℕ) → List Value → A → 
       → ((fault ≡ Store → ⊥) → IsUnchanged has_applied failed x.node n) → Ticks has_applied app failed p t x y []
   refuses_tick p t Spent is why same = spent (λ u r. why u r refl) (record { node = sits (same (λ e. cc)); lost = is }) refl
   refuses_tick p t Memory is why same = missed (record { node = sits (same (λ e. cc)); lost = is }) refl
-  refuses_tick p t (Wire f) is why same = missed (record { node = sits (same (λ e. cc)); lost = is }) refl
-  refuses_tick p t Stranger is why same = missed (record { node = sits (same (λ e. cc)); lost = is }) refl
+  refuses_tick p t (Wire f) is why same = absurd is
+  refuses_tick p t Stranger is why same = absurd is
   refuses_tick p t Store is why same = absurd is
   refuses_tick p t Stopped is why same = absurd is
 

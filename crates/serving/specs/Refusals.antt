@@ -12,12 +12,12 @@ IsRefused Spent old new = new ≡ true
 IsRefused Store old new = ⊥
 IsRefused Stopped old new = ⊥
 
--- the node serves on: no ballot can begin, or memory was refused, which is noted (no tick is a message)
+-- the node serves on: no ballot can begin, or memory was refused, which is noted; no tick is refused as a message is
 abbrev pub IsRefusedTick : NodeFault → (old new : Bool) → Type 0
 IsRefusedTick Spent old new = new ≡ old
 IsRefusedTick Memory old new = new ≡ true
-IsRefusedTick (Wire f) old new = new ≡ true
-IsRefusedTick Stranger old new = new ≡ true
+IsRefusedTick (Wire f) old new = ⊥
+IsRefusedTick Stranger old new = ⊥
 IsRefusedTick Store old new = ⊥
 IsRefusedTick Stopped old new = ⊥
 

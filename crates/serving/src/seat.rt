@@ -1,6 +1,7 @@
 //! A node at its seat, which takes steps and sends what comes of them.
 
 ghost use Rattle.std.specs.Prelude.{◌≡◌, ℕ, IfOk, OnErr, OnOk, List, ◌++◌};
+ghost use Rattle.node.specs.Nodes.{IsOfTick};
 ghost use Rattle.serving.specs.Refusals.{IsHalted, IsRefused, IsRefusedTick};
 ghost use Rattle.serving.specs.Serving.{Halts, Takes, Ticks};
 ghost use Rattle.wires.specs.Wires.{Carried};
@@ -131,6 +132,7 @@ impl<R: Records + Drop, A: Application + Drop> Seat<R, A> {
 
     /// What the refusal of a tick comes to. The fault: it ends the node's service.
     fn refuse_tick(&mut self, fault: NodeFault) -> Result<(), ServeFault>
+        requires { IsOfTick fault }
         ensures refused { OnOk result (IsRefusedTick fault self.old.has_lost self.new.has_lost) }
         ensures halted { OnErr result (IsHalted fault) }
         ensures same { self.new.node ≡ self.old.node }
@@ -141,15 +143,9 @@ impl<R: Records + Drop, A: Application + Drop> Seat<R, A> {
                 self.has_lost = true;
                 Ok(())
             }
-            // No tick is a message.
-            NodeFault::Wire(_) => {
-                self.has_lost = true;
-                Ok(())
-            }
-            NodeFault::Stranger => {
-                self.has_lost = true;
-                Ok(())
-            }
+            // No tick is a message, so these two are not reached.
+            NodeFault::Wire(_) => Ok(()),
+            NodeFault::Stranger => Ok(()),
             NodeFault::Store => Err(ServeFault::Store),
             NodeFault::Stopped => Err(ServeFault::Store),
         }

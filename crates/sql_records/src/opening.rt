@@ -97,6 +97,7 @@ impl<S: Alter> SqlRecords<S> {
         ensures damaged { (state S.Store connection).in_transaction ≡ false → IfErr result (λ e. HasCleanDisk (state S.Store e.1) → e.0 ≡ OpenFault.Damaged → IsDamaged setup.now (state S.Store connection).now) }
         ensures store { IfErr result (λ e. HasCleanDisk (state S.Store e.1) → e.0 ≡ OpenFault.Store → StoreFailed (state S.Store connection) (state S.Store e.1)) }
         ensures whose { IfOk result (λ s. owner s ≡ setup.now) }
+        ensures failures { IfOk result (λ s. ⟦<SqlRecords<S> as Records>⟧.failed s ≡ 0) }
     {
         let mut connection = connection;
         let setup = match copy(alloc, setup) {

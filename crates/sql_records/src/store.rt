@@ -10,7 +10,7 @@ use super::reading::OpenFault;
 use super::vote::put_vote;
 use ballots::laws::spellings;
 use ballots::{Ballot, Setup, Value, put_value};
-use records::{Record, Records, RecordsFault};
+use records::{PlannedRecords, Record, Records, RecordsFault};
 use sqlite::{Alter, Connection};
 use std::alloc::Global;
 
@@ -45,6 +45,11 @@ impl<S: Alter> SqlRecords<S> {
         } = self;
         connection
     }
+}
+
+/// Nothing is planned of writes to a database, and none of them fails by a plan: so there is none to let pass.
+impl<S: Alter> PlannedRecords for SqlRecords<S> {
+    fn let_pass(&mut self) {}
 }
 
 /// Counts a failure of the store, and answers it.
