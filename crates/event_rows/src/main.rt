@@ -7,6 +7,7 @@ mod asking;
 mod reading;
 mod running;
 mod simulating;
+mod splitting;
 
 use rows::{Answers, RowFault, Words, bytes_of, run_table};
 use sessions::State;
@@ -46,6 +47,7 @@ fn result_of(alloc: Global, name: &str, words: &mut Words<'_>) -> Result<String,
         "asks" => asks(alloc, words),
         "straight" => running::straight::<State>(alloc, words.number()?, words.number()?),
         "runs" => runs(alloc, words),
+        "group" => group(alloc, words),
         _ => Err(RowFault::NotARow),
     }
 }
@@ -58,6 +60,14 @@ fn asks(alloc: Global, words: &mut Words<'_>) -> Result<String, RowFault> {
     let text = words.text(alloc)?;
     let bytes = bytes_of(alloc, words)?;
     asking::asks::<State>(alloc, floor, &text, &bytes)
+}
+
+/// `MEMBERS FIRST BYTES`: what comes of the events of a file to so many members, of so many of them first, and then of the others.
+fn group(alloc: Global, words: &mut Words<'_>) -> Result<String, RowFault> {
+    let members = words.number()?;
+    let first = words.number()?;
+    let bytes = bytes_of(alloc, words)?;
+    splitting::group(alloc, members, first, &bytes)
 }
 
 /// `MEMBERS BYTES`: what comes of all events of a file, in one list, to so many members.

@@ -94,7 +94,7 @@ fn run_all<A: Application + Drop>(
 }
 
 /// The events of commands, of which none delivers all.
-fn events_of(alloc: Global, commands: Vec<Command>) -> Result<Vec<Event>, RowFault> {
+pub(super) fn events_of(alloc: Global, commands: Vec<Command>) -> Result<Vec<Event>, RowFault> {
     let mut events = Vec::new(alloc);
     for command in commands {
         match command {

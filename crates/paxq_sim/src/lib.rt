@@ -12,3 +12,4 @@ mod simulation;
 mod stores;
 
 pub use run::{play, run_events, simulate};
+pub use stores::stores_of;

@@ -1,6 +1,9 @@
 //! The stores of a group's members.
 
-ghost use Rattle.std.specs.Prelude.{◌≡◌, IfOk};
+ghost use Rattle.std.specs.Prelude.{◌≡◌, IfOk, length};
+ghost use Rattle.paxos.specs.Lists.{Has};
+ghost use Rattle.paxos.specs.World.{fresh};
+ghost use Rattle.records.specs.Script.{Script, Stands};
 ghost use Rattle.paxq_sim.specs.Stores.{plan_of, store_of, stores_of};
 
 use ballots::Members;
@@ -29,8 +32,22 @@ fn store_of(alloc: Global, member: u8, failures: &[Failure]) -> Result<ScriptRec
     ScriptRecords::new(alloc, &plan)
 }
 
-/// The stores of the members, in order, whose writes fail as the file says. It fails where memory is refused.
-pub(crate) fn stores_of(
+/// The stores of the members, in order, whose writes fail as the file says. Nobody has written them. It fails where memory is refused.
+pub fn stores_of(
+    alloc: Global,
+    members: Members,
+    failures: &[Failure],
+) -> Result<Vec<ScriptRecords>, AllocError>
+    ensures stores { IfOk result (λ stores. stores.items ≡ stores_of members failures.now) }
+    ensures many { IfOk result (λ stores. length stores.items ≡ members) }
+    ensures unwritten { IfOk result (λ stores. (r : Script) → Has stores.items r → Stands r fresh.kept fresh.kept) }
+{
+    let stores = all_stores(alloc, members, failures)?;
+    Ok(stores)
+}
+
+/// The same stores.
+fn all_stores(
     alloc: Global,
     members: Members,
     failures: &[Failure],

@@ -74,6 +74,10 @@ module _ {R A : Type 0} (has_applied : List (List ℕ) → List Value → A → 
     chosen = λ p value h. agreement.told m p value (agreement.learnt m p u value runs (learnt_there (length v.members) (news u.heard) u.applied most p value h));
   }
 
+  -- the same, of any node
+  pub applied_chosen : (m : ℕ) (x : Node R A) → node_at w.seats m ≡ Some x → (values : List Value) × HasAppliedChosen has_applied w v x values
+  applied_chosen m x h = let a = runs_there m x h in (values_to (length v.members) (news a.0.heard) a.0.applied, chosen_there m x a.0 a.1 a.2 a.3)
+
   -- two nodes
   pub both_alike : (app : Application) (events : List Happens) → Run app (start w.members) events v → (k m : ℕ) (x y : Node R A) → node_at w.seats k ≡ Some x → node_at w.seats m ≡ Some y → AreAlike has_applied app w events x y
   both_alike app events run k m x y at_x at_y =

@@ -17,3 +17,5 @@ pub mod Begun
 pub mod Going
 pub mod Straightly
 pub mod Alike
+pub mod Growing
+pub mod Staying

@@ -1,10 +1,11 @@
 //! All members of a group in one program.
 
-ghost use Rattle.std.specs.Prelude.{◌≡◌, ◌↔◌, ◌+◌, ◌*◌, ◌≤◌, ℕ, List, [], Some, false, IfErr, IfOk, IsErrOf, OnErr, OnOk, length, map, true};
+ghost use Rattle.std.specs.Prelude.{◌≡◌, ◌↔◌, ◌+◌, ◌++◌, ◌*◌, ◌≤◌, ℕ, List, [], Some, false, IfErr, IfOk, IsErrOf, OnErr, OnOk, length, map, true};
 ghost use Rattle.std.specs.List.{list_all};
 ghost use Rattle.std.specs.Option.{option_copied};
+ghost use Rattle.ballots.specs.Ballot.{most_members};
 ghost use Rattle.node.specs.Nodes.{Node as NodeTerm};
-ghost use Rattle.world.specs.Alike.{AreAlike};
+ghost use Rattle.world.specs.Alike.{AreAlike, StayAlike};
 ghost use Rattle.paxos.specs.Application.{Application as Meaning};
 ghost use Rattle.paxos.specs.Lists.{Has};
 ghost use Rattle.paxos.specs.Records.{Record};
@@ -14,7 +15,7 @@ ghost use Rattle.world.specs.Placed.{AreOf, OneRefused};
 ghost use Rattle.events.specs.Events.{event_of, is_for};
 ghost use Rattle.world.specs.Reached.{HasHappened, IsUnmoved, Reached, ReachedSmoothly};
 ghost use Rattle.world.specs.Runs.{Agrees, HasDone, IsStraight, IsUnwritten, LeadsSmoothly, LeadsTo, OneIsBehind, Ran, RanUntil, node_at, straight_run};
-ghost use Rattle.world.specs.Shown.{AreKept, Shows};
+ghost use Rattle.world.specs.Shown.{AreKept, AreSeats, Shows, World as WorldTerm};
 ghost use Rattle.world.specs.Tellings.{told_in};
 
 use crate::event::are_for;
@@ -130,6 +131,33 @@ impl<R: Records + Drop, A: Application + Drop> World<R, A> {
             → node_at self.now.seats k ≡ Some x → node_at self.now.seats m ≡ Some y → AreAlike A.has_applied (A.meaning self.now.names) self.now events x y }
     {
         &self.state.told
+    }
+
+    /// There are at most 63 members, and each node sits at its place. It does nothing.
+    pub fn facts(&self)
+        ensures few { self.now.members ≤ most_members }
+        ensures seats { AreSeats self.now }
+    {
+        let _told = &self.state.told;
+    }
+
+    /// What this world has to do with an earlier one of the same run, where these events have happened between them, and where then memory was refused to
+    /// the next one. It does nothing.
+    ///
+    /// So all that is said of one world is said of any two moments: no two values were told for a position, now or earlier; two nodes that have applied as
+    /// many positions, the one then and the other now, have applied the same values, each chosen at its position.
+    pub fn follows(&self)
+        ensures kept { (earlier : WorldTerm R A) (app : Meaning) (events : List Happens) → Ran R.stands R.is_kept R.failed R.fates A.has_applied app events earlier self.now
+            → AreKept R.is_kept self.now → AreKept R.is_kept earlier }
+        ensures ran { (earlier : WorldTerm R A) (before events : List Happens) → earlier.members ≤ most_members → AreSeats earlier → Reached R.stands A.has_applied (A.meaning earlier.names) earlier before
+            → Ran R.stands R.is_kept R.failed R.fates A.has_applied (A.meaning earlier.names) events earlier self.now
+            → AreKept R.is_kept self.now → StayAlike R.stands A.has_applied (A.meaning earlier.names) earlier self.now (before ++ events) }
+        ensures rested { (earlier last : WorldTerm R A) (before events : List Happens) → earlier.members ≤ most_members → AreSeats earlier → Reached R.stands A.has_applied (A.meaning earlier.names) earlier before
+            → Ran R.stands R.is_kept R.failed R.fates A.has_applied (A.meaning earlier.names) events earlier last
+            → IsUnmoved R.stands R.is_kept A.has_applied last self.now
+            → AreKept R.is_kept self.now → StayAlike R.stands A.has_applied (A.meaning earlier.names) earlier self.now (before ++ events) }
+    {
+        let _told = &self.state.told;
     }
 
     /// The node of a number while it runs.
