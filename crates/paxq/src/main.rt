@@ -28,18 +28,29 @@ fn main(rt: HostRuntime) -> ExitCode {
 
 /// Reads the words and runs their form.
 fn run_words(rt: &HostRuntime) -> io::Result<u8> {
-    let words: Vec<String> = std::env::args(rt)?.collect(rt.alloc())?;
+    let args = match std::env::args(rt) {
+        Ok(args) => args,
+        // A word that is not UTF-8 is none of a form.
+        Err(error) if error.kind() == io::ErrorKind::InvalidData => {
+            return refuse(rt, WordsFault::Usage);
+        }
+        Err(error) => return Err(error),
+    };
+    let words: Vec<String> = args.collect(rt.alloc())?;
     let words = match words.as_slice() {
         [_, words @ ..] => words,
         [] => &[],
     };
     match read_words(rt.alloc(), words) {
         Ok(form) => run_form(rt, &form),
-        Err(fault) => {
-            eprintln!(rt; "paxq: {fault}")?;
-            Ok(status_of(fault))
-        }
+        Err(fault) => refuse(rt, fault),
     }
+}
+
+/// Reports why words were not read, and gives the exit status.
+fn refuse(rt: &HostRuntime, fault: WordsFault) -> io::Result<u8> {
+    eprintln!(rt; "paxq: {fault}")?;
+    Ok(status_of(fault))
 }
 
 /// Runs a form.

@@ -24,18 +24,29 @@ fn main(rt: HostRuntime) -> ExitCode {
 
 /// Reads the words and runs their node.
 fn run_words(rt: &HostRuntime) -> io::Result<u8> {
-    let words: Vec<String> = std::env::args(rt)?.collect(rt.alloc())?;
+    let args = match std::env::args(rt) {
+        Ok(args) => args,
+        // A word that is not UTF-8 is none of a form.
+        Err(error) if error.kind() == io::ErrorKind::InvalidData => {
+            return refuse(rt, WordsFault::Usage);
+        }
+        Err(error) => return Err(error),
+    };
+    let words: Vec<String> = args.collect(rt.alloc())?;
     let words = match words.as_slice() {
         [_, words @ ..] => words,
         [] => &[],
     };
     match read_words(rt.alloc(), words) {
         Ok(form) => run_form(rt, &form),
-        Err(fault) => {
-            eprintln!(rt; "paxq: {fault}")?;
-            Ok(status_of(fault))
-        }
+        Err(fault) => refuse(rt, fault),
     }
+}
+
+/// Reports why words were not read, and gives the exit status.
+fn refuse(rt: &HostRuntime, fault: WordsFault) -> io::Result<u8> {
+    eprintln!(rt; "paxq: {fault}")?;
+    Ok(status_of(fault))
 }
 
 /// Runs the form of a node; the others are those of `paxq`.
@@ -45,10 +56,7 @@ fn run_form(rt: &HostRuntime, form: &Form) -> io::Result<u8> {
             let turns = turns.map_or(u64::MAX, u64::from);
             run_node(rt, config.as_str(), turns, &mut rt.stderr())
         }
-        _ => {
-            eprintln!(rt; "paxq: usage")?;
-            Ok(2)
-        }
+        _ => refuse(rt, WordsFault::Usage),
     }
 }
 
