@@ -1,5 +1,7 @@
 //! A node that serves, and a client of one, over what a row gives.
 
+use super::flooded_wire::FloodedWire;
+use super::scripts::each_of;
 use super::table_wire::{Datagram, TableWire};
 use ballots::{Setup, SetupFault};
 use document_names::NamesFault;
@@ -11,12 +13,13 @@ use rows::{RowFault, Words, shown};
 use serving::{MOST_BYTES, Server};
 use sessions::State;
 use std::alloc::{AllocError, Global};
+use wires::Wire;
 
 /// A node of a row.
 pub(super) type Served<D> = Server<MemRecords, State, D>;
 
 /// A number below 256.
-fn small(words: &mut Words<'_>) -> Result<u8, RowFault> {
+pub(super) fn small(words: &mut Words<'_>) -> Result<u8, RowFault> {
     u8::try_from(words.number()?).ok().ok_or(RowFault::NotARow)
 }
 
@@ -152,11 +155,39 @@ pub(super) fn send(alloc: Global, words: &mut Words<'_>) -> Result<String, RowFa
     let line = words.text(alloc)?;
     let mut wire = TableWire::new(alloc, 0);
     wire.bring(words)?;
+    let shown = sent_on(alloc, &mut wire, 1, group, &line)?;
+    with_first(alloc, shown, wire.sent())
+}
+
+/// `flooded_send GROUP EACH LINE FROM HEX ..`: the same, where a datagram of no bytes comes wherever nothing else does, and a while passes with each so many
+/// times that the wire is asked whether one has.
+pub(super) fn flooded_send(alloc: Global, words: &mut Words<'_>) -> Result<String, RowFault> {
+    let group = word(words)?;
+    let each = each_of(words)?;
+    let line = words.text(alloc)?;
+    let mut quiet = TableWire::new(alloc, 0);
+    quiet.bring(words)?;
+    let mut wire = FloodedWire::new(quiet, each);
+    let shown = sent_on(alloc, &mut wire, 1, group, &line)?;
+    with_first(alloc, shown, wire.wire().sent())
+}
+
+/// What is printed of a line that is sent over a wire to an address.
+pub(super) fn sent_on<W: Wire>(
+    alloc: Global,
+    wire: &mut W,
+    to: W::Address,
+    group: u32,
+    line: &str,
+) -> Result<String, RowFault> {
     let mut output: Vec<u8> = Vec::new(alloc);
     let mut errors: Vec<u8> = Vec::new(alloc);
-    let ended = send_line(alloc, &mut wire, group, 1, &line, &mut output, &mut errors);
-    let shown = shown(alloc, ended.ok(), &output, &errors)?;
-    let sent = wire.sent();
+    let ended = send_line(alloc, wire, group, to, line, &mut output, &mut errors);
+    shown(alloc, ended.ok(), &output, &errors)
+}
+
+/// The same, with how often it was sent, and what was sent first.
+fn with_first(alloc: Global, shown: String, sent: &[Datagram]) -> Result<String, RowFault> {
     let times = sent.len();
     let first = sent_text(alloc, &sent[..times.min(1)])?;
     Ok(format!(in alloc; "{shown} {times} times {first}")?)

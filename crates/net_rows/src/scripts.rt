@@ -1,5 +1,7 @@
 //! Scripts on groups, over a wire in memory.
 
+use super::flooded_wire::FloodedWire;
+use super::nodes::small;
 use paxq_local::run_local;
 use rows::{RowFault, Words, bytes_of, hex_bytes, shown, text_of};
 use sessions::State;
@@ -92,9 +94,54 @@ fn counted(
 ) -> Result<String, RowFault> {
     let mut wire = wire_of(alloc, members, sends, receives);
     let outcome = run_on(alloc, members, &mut wire, script);
+    with_calls(alloc, &outcome, &wire)
+}
+
+/// What a run came to, and how often its wire was given a datagram and asked for one.
+fn with_calls(alloc: Global, outcome: &Outcome, wire: &ScriptedWire) -> Result<String, RowFault> {
     let shown = outcome.shown(alloc)?;
     let (sends, receives) = (wire.sends(), wire.receives());
     Ok(format!(in alloc; "{shown} {sends} sends {receives} receives")?)
+}
+
+/// `hurried N EACH BYTES`: the same, where a while passes with each so many times that the wire is asked whether one has.
+pub(super) fn hurried(alloc: Global, words: &mut Words<'_>) -> Result<String, RowFault> {
+    let members = members_of(words)?;
+    let each = each_of(words)?;
+    let script = bytes_of(alloc, words)?;
+    let mut wire = wire_of(alloc, members, Calls::NONE, Calls::NONE).with_a_while(each);
+    let outcome = run_on(alloc, members, &mut wire, &script);
+    with_calls(alloc, &outcome, &wire)
+}
+
+/// `flooded N EACH BYTES`: the same, where moreover a datagram of no bytes comes to the client wherever nothing else does.
+pub(super) fn flooded(alloc: Global, words: &mut Words<'_>) -> Result<String, RowFault> {
+    let members = members_of(words)?;
+    let each = each_of(words)?;
+    let script = bytes_of(alloc, words)?;
+    let quiet = wire_of(alloc, members, Calls::NONE, Calls::NONE);
+    let mut wire = FloodedWire::new(quiet, each);
+    let outcome = run_on(alloc, members, &mut wire, &script);
+    with_calls(alloc, &outcome, wire.wire())
+}
+
+/// `drowned N EACH BYTES`: the same, where moreover all sends fail.
+pub(super) fn drowned(alloc: Global, words: &mut Words<'_>) -> Result<String, RowFault> {
+    let members = members_of(words)?;
+    let each = each_of(words)?;
+    let script = bytes_of(alloc, words)?;
+    let quiet = wire_of(alloc, members, Calls::ALL, Calls::NONE);
+    let mut wire = FloodedWire::new(quiet, each);
+    let outcome = run_on(alloc, members, &mut wire, &script);
+    with_calls(alloc, &outcome, wire.wire())
+}
+
+/// After how many times a while passes, which is not never.
+pub(super) fn each_of(words: &mut Words<'_>) -> Result<u64, RowFault> {
+    match words.number()? {
+        0 => Err(RowFault::NotARow),
+        each => Ok(each),
+    }
 }
 
 /// `prints N BYTES gives BYTES`: the exit status, the output or that it is as given, and the error output.
@@ -112,13 +159,15 @@ pub(super) fn prints(alloc: Global, words: &mut Words<'_>) -> Result<String, Row
     Ok(format!(in alloc; "{status} as given {errors:?}")?)
 }
 
-/// `forged N HEX BYTES`: the exit status, the output and the error output, where a datagram that nobody sent comes to the client first.
+/// `forged N FROM HEX BYTES`: the exit status, the output and the error output, where a datagram that nobody sent comes to the client first, from that
+/// address.
 pub(super) fn forged(alloc: Global, words: &mut Words<'_>) -> Result<String, RowFault> {
     let members = members_of(words)?;
+    let from = small(words)?;
     let datagram = hex_bytes(alloc, words.plain()?)?;
     let script = bytes_of(alloc, words)?;
     let mut wire = wire_of(alloc, members, Calls::NONE, Calls::NONE);
-    if wire.put(1, 0, &datagram).is_err() {
+    if wire.put(from, 0, &datagram).is_err() {
         return Err(RowFault::Memory);
     }
     run_on(alloc, members, &mut wire, &script).shown(alloc)

@@ -1,12 +1,11 @@
 //! Groups and clients over sockets of this machine. Both ends are in this program, so what is sent waits at the other end.
 
-use super::nodes::{Served, opened, word};
+use super::nodes::{Served, opened, sent_on, word};
 use super::scripts::{members_of, run_on};
 use ballots::RequestId;
 use clients::{question, request};
 use paxq_files::{Command, read_command};
-use paxq_local::send_line;
-use rows::{RowFault, Words, bytes_of, shown};
+use rows::{RowFault, Words, bytes_of};
 use serving::{MOST_BYTES, Server};
 use std::alloc::Global;
 use std::net::SocketAddr;
@@ -63,7 +62,7 @@ fn between<W: Wire<Address = SocketAddr>>(
     post(alloc, group, line, here, to)?;
     let server = server_at(alloc, group, to)?;
     served(alloc, server, there)?;
-    sent_line(alloc, group, line, here, to)
+    sent_on(alloc, here, to, group, line)
 }
 
 /// Sends the datagram of a line.
@@ -84,20 +83,6 @@ fn server_at(alloc: Global, group: u32, at: SocketAddr) -> Result<Served<SocketA
     peers.push(at)?;
     let node = opened(alloc, group, 1, 1)?;
     Ok(Server::new(alloc, node, 0, peers))
-}
-
-/// What is printed of a line that is sent.
-fn sent_line<W: Wire<Address = SocketAddr>>(
-    alloc: Global,
-    group: u32,
-    line: &str,
-    wire: &mut W,
-    to: SocketAddr,
-) -> Result<String, RowFault> {
-    let mut output: Vec<u8> = Vec::new(alloc);
-    let mut errors: Vec<u8> = Vec::new(alloc);
-    let ended = send_line(alloc, wire, group, to, line, &mut output, &mut errors);
-    shown(alloc, ended.ok(), &output, &errors)
 }
 
 /// The datagram of a line, as `send_line` sends it.

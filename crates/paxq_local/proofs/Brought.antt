@@ -1,12 +1,11 @@
 -- What a wire has brought since some moment.
-use Rattle.std.proofs.Common.{◌≡◌, ◌∙◌, ℕ, List, [], ◌∷◌, ◌++◌, take, refl, sym, ap, subst, append-nil, append_assoc, inl, length, Result, Ok, Some, IfOk, IfSome}
-use Rattle.std.proofs.Math.Seq.{take-append_seam}
+use Rattle.std.proofs.Common.{◌≡◌, ◌∙◌, ℕ, List, [], ◌∷◌, ◌++◌, take, refl, sym, ap, subst, append-nil, append_assoc, inl, Result, Ok, Some, IfOk, IfSome}
 use Rattle.paxos.specs.Lists.{Has}
 use Rattle.paxos.proofs.Lists.{has_left, has_right}
 use Rattle.ballots.specs.declared.request.RequestId.{RequestId}
 use Rattle.clients.specs.Hearing.{HeardTerm}
 use Rattle.std.proofs.Common.{Option}
-use Rattle.paxq_local.specs.Told.{Brings, IsSaid}
+use Rattle.paxq_local.specs.Told.{Brings, HasCome, HasComeFrom, IsSaid}
 use Rattle.wires.specs.Wires.{Carried, carried_in}
 use Rattle.wires.specs.declared.wire.Arrival.{Arrival}
 use Rattle.wires.specs.declared.wire.Unheard.{Unheard}
@@ -30,29 +29,42 @@ module _ {W A : Type 0} (H : W → List (Carried A) → Type 0) where
   pub brings-kept : (a b c : W) (P : List (Carried A) → Type 0) → Brings H a b P → ((ds : List (Carried A)) → H b ds → H c ds) → Brings H a c P
   brings-kept a b c P first keeps = λ before h. (let f = first before h in (f.0, keeps (before ++ f.0) f.1, f.2))
 
+  -- something came, and then nothing
+  pub brings-on : (a b c d : W) (P : List (Carried A) → Type 0) → Brings H a b (λ _. Unit {0}) → Brings H b c P → ((ds : List (Carried A)) → H c ds → H d ds) → Brings H a d (λ _. Unit {0})
+  brings-on a b c d P first then keeps = brings-kept a c d (λ _. Unit {0}) (brings-then a b c (λ _. Unit {0}) P (λ _. Unit {0}) first then (λ xs ys u p. tt)) keeps
+
+  -- these came, and then nothing
+  pub brings-received : (a b c d : W) (xs : List (Carried A)) → Brings H a b (λ _. Unit {0}) → ((ds : List (Carried A)) → H b ds → H c (ds ++ xs)) → ((ds : List (Carried A)) → H c ds → H d ds) → Brings H a d (λ _. Unit {0})
+  brings-received a b c d xs first then keeps = λ before h.
+      (let f = first before h in (f.0 ++ xs, keeps (before ++ (f.0 ++ xs)) (subst (H c) (append_assoc before f.0 xs) (then (before ++ f.0) f.1)), tt))
+
   pub kept-brings : (a b c : W) (P : List (Carried A) → Type 0) → ((ds : List (Carried A)) → H a ds → H b ds) → Brings H b c P → Brings H a c P
   kept-brings a b c P keeps then = λ before h. then before (keeps before h)
 
-pub said-more : {A X : Type 0} (xs ys : List (Carried A)) (said : Option HeardTerm → Option X) (group : ℕ) (id : RequestId) (x : X) → IsSaid xs said group id x → IsSaid (xs ++ ys) said group id x
+unfoldable pub said-more : {A X : Type 0} (xs ys : List (Carried A)) (said : Option HeardTerm → Option X) (group : ℕ) (id : RequestId) (x : X) → IsSaid xs said group id x → IsSaid (xs ++ ys) said group id x
 said-more xs ys said group id x s = record { datagram = s.datagram; came = has_left xs ys s.datagram s.came; to_client = s.to_client; says = s.says }
 
-pub said-after : {A X : Type 0} (xs ys : List (Carried A)) (said : Option HeardTerm → Option X) (group : ℕ) (id : RequestId) (x : X) → IsSaid ys said group id x → IsSaid (xs ++ ys) said group id x
+unfoldable pub said-after : {A X : Type 0} (xs ys : List (Carried A)) (said : Option HeardTerm → Option X) (group : ℕ) (id : RequestId) (x : X) → IsSaid ys said group id x → IsSaid (xs ++ ys) said group id x
 said-after xs ys said group id x s = record { datagram = s.datagram; came = has_right xs ys s.datagram s.came; to_client = s.to_client; says = s.says }
 
 -- a datagram to the client came last
-pub came-to-client : {W A : Type 0} (H : W → List (Carried A) → Type 0) (a b c : W) (result : Result (Option (Arrival A)) Unheard) (x : Option (Arrival A)) (buffer : List ℕ) (arrival : Arrival A)
-    → Brings H a b (λ _. Unit {0}) → ((ds : List (Carried A)) → H b ds → H c (ds ++ carried_in result buffer)) → result ≡ Ok x → x ≡ Some arrival → arrival.end ≡ 0
-    → Brings H a c (λ brought. (d : Carried A) × Has brought d × (d.end ≡ 0) × (d.bytes ≡ take arrival.length buffer))
-came-to-client {W} {A} H a b c result x buffer arrival first received is_ok is_some to_client =
-    let d : Carried A = record { end = arrival.end; peer = arrival.from; bytes = take arrival.length buffer } in
-    let came : carried_in result buffer ≡ d ∷ [] = ap (λ r. carried_in r buffer) (is_ok ∙ ap Ok is_some) in
-    let one : Brings H b c (λ xs. xs ≡ d ∷ []) = λ before h. (d ∷ [], subst (λ (ys : List (Carried A)). H c (before ++ ys)) came (received before h), refl) in
-    brings-then H a b c (λ _. Unit {0}) (λ xs. xs ≡ d ∷ []) (λ brought. (e : Carried A) × Has brought e × (e.end ≡ 0) × (e.bytes ≡ take arrival.length buffer)) first one
-    (λ xs ys _ is. (d, has_right xs ys d (subst (λ (zs : List (Carried A)). Has zs d) (sym is) (inl refl)), to_client, refl))
+module _ {W A : Type 0} (H : W → List (Carried A) → Type 0) (a b c : W) (result : Result (Option (Arrival A)) Unheard) (x : Option (Arrival A)) (buffer : List ℕ) (arrival : Arrival A) where
+  pub came-from : Brings H a b (λ _. Unit {0}) → ((ds : List (Carried A)) → H b ds → H c (ds ++ carried_in result buffer)) → result ≡ Ok x → x ≡ Some arrival → arrival.end ≡ 0
+      → Brings H a c (λ brought. HasComeFrom brought arrival.from (take arrival.length buffer))
+  came-from first received is_ok is_some to_client =
+      let d : Carried A = record { end = arrival.end; peer = arrival.from; bytes = take arrival.length buffer } in
+      let came : carried_in result buffer ≡ d ∷ [] = ap (λ r. carried_in r buffer) (is_ok ∙ ap Ok is_some) in
+      let one : Brings H b c (λ xs. xs ≡ d ∷ []) = λ before h. (d ∷ [], subst (λ (ys : List (Carried A)). H c (before ++ ys)) came (received before h), refl) in
+      brings-then H a b c (λ _. Unit {0}) (λ xs. xs ≡ d ∷ []) (λ brought. HasComeFrom brought arrival.from (take arrival.length buffer)) first one
+      (λ xs ys _ is.
+      subst (λ (n : ℕ). Has (xs ++ ys) (record { end = n; peer = arrival.from; bytes = take arrival.length buffer })) to_client
+      (has_right xs ys d (subst (λ (zs : List (Carried A)). Has zs d) (sym is) (inl refl))))
 
--- a slice that was lent of a whole list
-pub lent-back : (n : ℕ) (xs ys : List ℕ) → length xs ≡ n → take n (xs ++ ys) ≡ xs
-lent-back n xs ys e = ap (λ k. take k (xs ++ ys)) (sym e) ∙ take-append_seam xs ys
+  pub came-to-client : Brings H a b (λ _. Unit {0}) → ((ds : List (Carried A)) → H b ds → H c (ds ++ carried_in result buffer)) → result ≡ Ok x → x ≡ Some arrival → arrival.end ≡ 0
+      → Brings H a c (λ brought. HasCome brought (take arrival.length buffer))
+  came-to-client first received is_ok is_some to_client =
+      brings-as H a c (λ brought. HasComeFrom brought arrival.from (take arrival.length buffer)) (λ brought. HasCome brought (take arrival.length buffer)) (came-from first received is_ok is_some to_client)
+      (λ xs has. (record { end = 0; peer = arrival.from; bytes = take arrival.length buffer }, has, refl, refl))
 
 -- what came before, a step at which nothing comes, and what came last
 module _ {W A : Type 0} (H : W → List (Carried A) → Type 0) (a b c d : W) where

@@ -1,11 +1,12 @@
 -- What a datagram says that has come.
-use Rattle.std.proofs.Common.{◌≡◌, ◌∙◌, ℕ, List, Option, Some, sym, ap}
+use Rattle.std.proofs.Common.{◌≡◌, ◌∙◌, ℕ, Bool, List, ◌++◌, Option, Some, None, Result, Ok, Err, IfOk, IfSome, refl, sym, ap}
 use Rattle.std.specs.Option.{option_map}
 use Rattle.ballots.specs.declared.request.RequestId.{RequestId}
 use Rattle.clients.specs.Hearing.{HeardTerm, heard_in}
 use Rattle.messages.specs.Reading.{datagram_read}
-use Rattle.paxq_local.specs.Told.{Brings, HasCome, IsSaid}
-use Rattle.paxq_local.proofs.Brought.{brings-then, said-after}
+use Rattle.paxq_local.specs.Members.{IsAt, IsSaidBy, own_group}
+use Rattle.paxq_local.specs.Told.{Brings, HasCome, HasComeFrom, IsSaid}
+use Rattle.paxq_local.proofs.Brought.{brings-then, said-after, said-more}
 use Rattle.wires.specs.Wires.{Carried}
 
 -- a datagram of these bytes came, and they say this
@@ -19,3 +20,31 @@ pub brings-said : {W A S X : Type 0} (H : W → List (Carried A) → Type 0) (a 
 brings-said {W} {A} {S} {X} H a b c bytes said group id o s view first came is some =
     brings-then H a b c (λ _. Unit {0}) (λ xs. HasCome xs bytes) (λ xs. IsSaid xs said group id (view s)) first came
     (λ xs ys _ come. said-after xs ys said group id (view s) (said-by ys bytes said group id (view s) come (sym is ∙ ap (option_map view) some)))
+
+-- What members said stays said.
+module _ {A X : Type 0} (eq : A → A → Bool) (peers : List A) (xs ys : List (Carried A)) (before : ℕ) (said : Option HeardTerm → Option X) (id : RequestId) (x : X) where
+  pub by-more : IsSaidBy eq peers xs before said id x → IsSaidBy eq peers (xs ++ ys) before said id x
+  unfolding said-more
+  by-more s = (s.0, s.1, record { is_said = said-more xs ys said own_group id x s.2.is_said; came_from = s.2.came_from })
+
+  pub by-after : IsSaidBy eq peers ys before said id x → IsSaidBy eq peers (xs ++ ys) before said id x
+  unfolding said-after
+  by-after s = (s.0, s.1, record { is_said = said-after xs ys said own_group id x s.2.is_said; came_from = s.2.came_from })
+
+-- a datagram of these bytes came from the member's address, and they say this
+pub by-come : {A X : Type 0} (eq : A → A → Bool) (peers : List A) (xs : List (Carried A)) (before : ℕ) (said : Option HeardTerm → Option X) (id : RequestId) (x : X) (from : A) (bytes : List ℕ)
+    → HasComeFrom xs from bytes → IsAt eq peers before from → said (heard_in own_group id (datagram_read bytes)) ≡ Some x → IsSaidBy eq peers xs before said id x
+by-come eq peers xs before said id x from bytes come is_at says = (
+  is_at.0,
+  is_at.1,
+  record {
+    is_said = record { datagram = record { end = 0; peer = from; bytes = bytes }; came = come; to_client = refl; says = says };
+    came_from = is_at.2;
+  },
+)
+
+-- what is said of what a call may have found
+pub found-said : {S X E : Type 0} (view : S → X) (r : Result (Option S) E) (told : Option X) (P : X → Type 0) → IfOk r (λ o. option_map view o ≡ told) → ((x : X) → told ≡ Some x → P x) → IfOk r (λ o. IfSome o (λ s. P (view s)))
+found-said view (Ok (Some s)) told P is then = then (view s) (sym is)
+found-said view (Ok None) told P is then = tt
+found-said view (Err error) told P is then = tt

@@ -1,4 +1,5 @@
 pub mod Answering
 pub mod Asking
-pub mod Told
+pub mod Members
 pub mod Playing
+pub mod Told

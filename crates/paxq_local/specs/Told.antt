@@ -1,5 +1,5 @@
 -- What is printed of what members say.
-use Rattle.std.specs.Prelude.{◌≡◌, ℕ, List, ◌++◌, Option, Some, None}
+use Rattle.std.specs.Prelude.{◌≡◌, ℕ, Bool, true, List, ◌++◌, Option, Some, None}
 use Rattle.ballots.specs.declared.request.RequestId.{RequestId}
 use Rattle.clients.specs.Hearing.{HeardTerm, reply, answer, behind, elsewhere, heard_in}
 use Rattle.messages.specs.Reading.{datagram_read}
@@ -43,3 +43,12 @@ pub record IsSaid {A : Type 0} {X : Type 0} (brought : List (Carried A)) (said :
   pub came : Has brought datagram
   pub to_client : datagram.end ≡ 0
   pub says : said (heard_in group id (datagram_read datagram.bytes)) ≡ Some x
+
+-- a datagram of these bytes came from there to the client, which is end 0
+abbrev pub HasComeFrom : {A : Type 0} → (brought : List (Carried A)) → (from : A) → (bytes : List ℕ) → Type 0
+HasComeFrom brought from bytes = Has brought (record { end = 0; peer = from; bytes = bytes })
+
+-- a datagram that came to the client from an address says this; which addresses are the same, `eq` says
+pub record IsSaidFrom {A : Type 0} {X : Type 0} (eq : A → A → Bool) (address : A) (brought : List (Carried A)) (said : Option HeardTerm → Option X) (group : ℕ) (id : RequestId) (x : X) : Type 0 where
+  pub is_said : IsSaid brought said group id x
+  pub came_from : eq is_said.datagram.peer address ≡ true

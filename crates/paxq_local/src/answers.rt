@@ -1,11 +1,9 @@
 //! The answers of a group's members to one question.
 
-ghost use Rattle.std.specs.Prelude.{◌≡◌, ◌<◌, None, true, false, length, IfOk, MatchOption, replicate, string_bytes};
+ghost use Rattle.std.specs.Prelude.{◌≡◌, ◌<◌, None, MatchBool, false, length, IfOk, MatchOption, replicate};
 ghost use Rattle.std.specs.List.{list_all};
-ghost use Rattle.paxq_local.specs.Answering.{AreNoted, AreSame, AreTold, IsAdded};
-ghost use Rattle.paxq_local.specs.Playing.{HoldsAnswer, IsAnswerText, IsToldAs};
+ghost use Rattle.paxq_local.specs.Answering.{AreNoted, AreSame, AreTold, Differs, IsAdded, IsAnother, has_answered};
 
-use super::asked::Form;
 use std::alloc::{AllocError, Global};
 
 /// What came of a command.
@@ -39,19 +37,19 @@ impl Answers {
     }
 
     /// Whether a member, counted from 0, has answered.
-    pub(super) fn has(&self, member: usize) -> bool {
+    pub(super) fn has(&self, member: usize) -> bool
+        ensures { result ≡ has_answered self.now member }
+    {
         match self.has.get(member) {
             Some(has) => *has,
             None => false,
         }
     }
 
-    /// Notes what is printed of the answer of a member, counted from 1, unless it has answered, and says what came of the question: the text that all
+    /// Notes what is printed of the answer of a member, counted from 0, unless it has answered, and says what came of the question: the text that all
     /// have answered, once they have, or that two differ.
-    pub(super) fn told_with(&mut self, member: u8, text: String) -> Option<Told>
+    pub(super) fn told_with(&mut self, member: usize, text: String) -> Option<Told>
         ensures told { MatchOption result (AreNoted self.old member text self.new) (AreTold self.old member text) }
-        ensures answers { HoldsAnswer self.old → IsAnswerText (string_bytes text) → MatchOption result (HoldsAnswer self.new) (IsToldAs Form.Ask) }
-        ensures members { length self.new.has.items ≡ length self.old.has.items }
     {
         if !self.add(member, text) {
             return Some(Told::Differ);
@@ -72,38 +70,32 @@ impl Answers {
         self.has.iter().all(|has| *has)
     }
 
-    /// Notes what is printed of the answer of a member, counted from 1, unless it has answered. It says whether that is the same as of the others;
-    /// where it is not, nothing has changed.
-    pub(super) fn add(&mut self, member: u8, text: String) -> bool
-        ensures noted { result ≡ true → AreNoted self.old member text self.new }
-        ensures members { length self.new.has.items ≡ length self.old.has.items }
+    /// Notes what is printed of the answer of a member, counted from 0, unless it has answered. It says whether that is the same as of the others.
+    pub(super) fn add(&mut self, member: usize, text: String) -> bool
+        ensures noted { MatchBool result (AreNoted self.old member text self.new) (Differs self.old member text) }
     {
-        if member == 0 {
+        if member >= self.has.len() || self.has(member) {
             return true;
         }
-        let place = usize::from(member) - 1;
-        if place >= self.has.len() || self.has(place) {
-            return true;
-        }
-        self.note(place, text)
+        self.note(member, text)
     }
 
-    /// The same, of a member that has not answered, counted from 0.
-    fn note(&mut self, place: usize, text: String) -> bool
-        requires { place < length self.old.has.items }
-        ensures added { result ≡ true → IsAdded self.old place text self.new }
-        ensures members { length self.new.has.items ≡ length self.old.has.items }
+    /// The same, of a member that has not answered.
+    fn note(&mut self, member: usize, text: String) -> bool
+        requires member_in { member < length self.old.has.items }
+        requires is_new { has_answered self.old member ≡ false }
+        ensures noted { MatchBool result (IsAdded self.old member text self.new) (Differs self.old member text) }
     {
         let agrees = self.agrees(text);
         if agrees {
-            self.has[place] = true;
+            self.has[member] = true;
         }
         agrees
     }
 
     /// Whether a text is the same as that which is held; where none is, it is held from now on.
     fn agrees(&mut self, text: String) -> bool
-        ensures text { result ≡ true → AreSame self.old.text text self.new.text }
+        ensures text { MatchBool result (AreSame self.old.text text self.new.text) (IsAnother self.old.text text) }
         ensures has { self.new.has ≡ self.old.has }
     {
         if let Some(first) = &self.text {

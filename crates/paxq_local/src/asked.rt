@@ -7,7 +7,6 @@ ghost use Rattle.clients.specs.Hearing.{heard_in, heard_term};
 ghost use Rattle.paxq_files.specs.Commands.{command_term};
 ghost use Rattle.paxq_local.specs.Told.{answer_told, told};
 ghost use Rattle.paxq_local.specs.Asking.{IsAsked};
-ghost use Rattle.paxq_local.specs.Playing.{IsAnswerText, IsLine};
 
 use ballots::{Reply, RequestId};
 use clients::{Heard, hear, question, request};
@@ -92,8 +91,7 @@ pub(super) fn said_in(
     asked: &Asked,
     bytes: &[u8],
 ) -> Result<Option<Said>, AllocError>
-    ensures said { IfOk result (λ said. option_map (λ s. string_bytes s.text) said ≡ told asked.now.form (heard_in group asked.now.id (datagram_read bytes.now))) }
-    ensures line { IfOk result (λ said. IfSome said (λ s. IsLine asked.now.form (string_bytes s.text))) }
+    ensures { IfOk result (λ said. option_map (λ s. string_bytes s.text) said ≡ told asked.now.form (heard_in group asked.now.id (datagram_read bytes.now))) }
 {
     match hear(alloc, group, asked.id, bytes)? {
         Some(heard) => said_of(alloc, asked.form, &heard),
@@ -103,8 +101,7 @@ pub(super) fn said_in(
 
 /// What is printed where what was heard answers what was asked. It fails where memory is refused.
 pub(super) fn said_of(alloc: Global, form: Form, heard: &Heard) -> Result<Option<Said>, AllocError>
-    ensures said { IfOk result (λ said. option_map (λ s. string_bytes s.text) said ≡ told form (Some (heard_term heard.now))) }
-    ensures line { IfOk result (λ said. IfSome said (λ s. IsLine form (string_bytes s.text))) }
+    ensures { IfOk result (λ said. option_map (λ s. string_bytes s.text) said ≡ told form (Some (heard_term heard.now))) }
 {
     match form {
         Form::Submit => reply_of(alloc, heard),
@@ -118,8 +115,7 @@ pub(super) fn said_of(alloc: Global, form: Form, heard: &Heard) -> Result<Option
 
 /// What is printed of a reply.
 fn reply_of(alloc: Global, heard: &Heard) -> Result<Option<Said>, AllocError>
-    ensures said { IfOk result (λ said. option_map (λ s. string_bytes s.text) said ≡ told (Form.Submit) (Some (heard_term heard.now))) }
-    ensures line { IfOk result (λ said. IfSome said (λ s. IsLine (Form.Submit) (string_bytes s.text))) }
+    ensures { IfOk result (λ said. option_map (λ s. string_bytes s.text) said ≡ told (Form.Submit) (Some (heard_term heard.now))) }
 {
     match heard {
         Heard::Reply(reply) => with_position(reply_text(alloc, *reply), position_of(*reply)),
@@ -129,8 +125,7 @@ fn reply_of(alloc: Global, heard: &Heard) -> Result<Option<Said>, AllocError>
 
 /// What is printed of an answer.
 fn answer_of(alloc: Global, heard: &Heard) -> Result<Option<Said>, AllocError>
-    ensures said { IfOk result (λ said. option_map (λ s. string_bytes s.text) said ≡ told (Form.Ask) (Some (heard_term heard.now))) }
-    ensures line { IfOk result (λ said. IfSome said (λ s. IsLine (Form.Ask) (string_bytes s.text))) }
+    ensures { IfOk result (λ said. option_map (λ s. string_bytes s.text) said ≡ told (Form.Ask) (Some (heard_term heard.now))) }
 {
     match heard {
         Heard::Answer(_, applied, answer) => with_position(
@@ -169,8 +164,7 @@ pub(super) fn answer_in(
     id: RequestId,
     bytes: &[u8],
 ) -> Result<Option<(u8, String)>, AllocError>
-    ensures said { IfOk result (λ said. option_map (λ a. (a.0, string_bytes a.1)) said ≡ answer_told (heard_in group id (datagram_read bytes.now))) }
-    ensures line { IfOk result (λ said. IfSome said (λ a. IsAnswerText (string_bytes a.1))) }
+    ensures { IfOk result (λ said. option_map (λ a. (a.0, string_bytes a.1)) said ≡ answer_told (heard_in group id (datagram_read bytes.now))) }
 {
     match hear(alloc, group, id, bytes)? {
         Some(Heard::Answer(member, applied, answer)) => {

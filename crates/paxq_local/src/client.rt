@@ -1,13 +1,16 @@
 //! A client beside a group, which asks what a script's lines ask.
 
-ghost use Rattle.std.specs.Prelude.{IfOk, IfSome, MatchOption, string_bytes};
+ghost use Rattle.std.specs.Prelude.{◌≡◌, ℕ, List, ◌++◌, IfOk, IfSome, MatchOption, string_bytes};
 ghost use Rattle.paxq_files.specs.Commands.{command_term};
-ghost use Rattle.paxq_local.specs.Asking.{form_of};
-ghost use Rattle.paxq_local.specs.Playing.{HoldsAnswer, IsLine, IsToldAs};
+ghost use Rattle.paxq_local.specs.Asking.{form_of, id_of};
+ghost use Rattle.paxq_local.specs.Members.{HoldsSaid, IsSaidBy, IsToldAs, IsToldByFirst, number_after, question_after};
+ghost use Rattle.paxq_local.specs.Told.{Brings, told};
+ghost use Rattle.wires.specs.Wires.{Carried};
 
 use super::answers::{Answers, Told};
-use super::asked::{Asked, Form, Said, answer_in, asked_of, said_in};
+use super::asked::{Asked, Form, Said, asked_of};
 use super::group::{GROUP, Group};
+use super::heard::{listen_to_all, listen_to_first};
 use applications::Application;
 use ballots::RequestId;
 use paxq_files::Command;
@@ -40,7 +43,9 @@ impl<A: Application + Drop, D: Copy + Eq + Drop> Client<A, D> {
         members: u8,
         command: Command,
     ) -> Result<Told, AllocError>
-        ensures { IfOk result (IsToldAs (form_of (command_term command))) }
+        ensures told { Brings W.has_brought wire.old wire.new (λ brought. IfOk result (IsToldAs D.eq self.old.peers.items brought members (form_of (command_term command)) (id_of (question_after self.old.asked) (command_term command)))) }
+        ensures peers { self.new.peers.items ≡ self.old.peers.items }
+        ensures count { self.new.asked ≡ number_after self.old.asked }
     {
         let id = self.next_id();
         let Some(asked) = asked_of(alloc, GROUP, command, id, self.floor)? else {
@@ -57,7 +62,9 @@ impl<A: Application + Drop, D: Copy + Eq + Drop> Client<A, D> {
         members: u8,
         asked: &Asked,
     ) -> Result<Told, AllocError>
-        ensures { IfOk result (IsToldAs asked.now.form) }
+        ensures told { Brings W.has_brought wire.old wire.new (λ brought. IfOk result (IsToldAs D.eq self.old.peers.items brought members asked.now.form asked.now.id)) }
+        ensures peers { self.new.peers.items ≡ self.old.peers.items }
+        ensures count { self.new.asked ≡ self.old.asked }
     {
         match asked.form {
             Form::Submit | Form::AskAt => self.ask_one(alloc, wire, asked),
@@ -66,7 +73,11 @@ impl<A: Application + Drop, D: Copy + Eq + Drop> Client<A, D> {
     }
 
     /// What the next question goes by.
-    fn next_id(&mut self) -> RequestId {
+    fn next_id(&mut self) -> RequestId
+        ensures id { result ≡ question_after self.old.asked }
+        ensures peers { self.new.peers.items ≡ self.old.peers.items }
+        ensures count { self.new.asked ≡ number_after self.old.asked }
+    {
         self.asked = self.asked.saturating_add(1);
         RequestId {
             client: 0,
@@ -81,7 +92,9 @@ impl<A: Application + Drop, D: Copy + Eq + Drop> Client<A, D> {
         wire: &mut W,
         asked: &Asked,
     ) -> Result<Told, AllocError>
-        ensures { IfOk result (IsToldAs asked.now.form) }
+        ensures told { Brings W.has_brought wire.old wire.new (λ brought. IfOk result (IsToldByFirst D.eq self.old.peers.items brought asked.now.form asked.now.id)) }
+        ensures peers { self.new.peers.items ≡ self.old.peers.items }
+        ensures count { self.new.asked ≡ self.old.asked }
     {
         for turn in 0..TRIES {
             self.try_again(alloc, wire, turn);
@@ -95,21 +108,23 @@ impl<A: Application + Drop, D: Copy + Eq + Drop> Client<A, D> {
         Ok(Told::NoAnswer)
     }
 
-    /// Before each further try what was lost is sent again.
-    fn try_again<W: Wire<Address = D>>(&mut self, alloc: Global, wire: &mut W, turn: u32) {
+    /// A try begins; before each further one what was lost is sent again.
+    fn try_again<W: Wire<Address = D>>(&mut self, alloc: Global, wire: &mut W, turn: u32)
+        ensures brought { (ds : List (Carried D)) → W.has_brought wire.old ds → W.has_brought wire.new ds }
+        ensures peers { self.new.peers.items ≡ self.old.peers.items }
+        ensures count { self.new.asked ≡ self.old.asked }
+    {
+        self.group.start_try();
         if turn > 0 {
             self.group.tick(alloc, wire);
         }
     }
 
-    /// Has the members work until something comes to the client, and gives its bytes; or nothing, where nothing more comes to anybody.
-    fn next<W: Wire<Address = D>>(&mut self, alloc: Global, wire: &mut W) -> Option<&[u8]> {
-        let length = self.group.work(alloc, wire, &mut self.buffer)?;
-        Some(&self.buffer[..length])
-    }
-
     /// Notes the position of a reply.
-    fn note(&mut self, form: Form, position: u32) {
+    fn note(&mut self, form: Form, position: u32)
+        ensures peers { self.new.peers.items ≡ self.old.peers.items }
+        ensures count { self.new.asked ≡ self.old.asked }
+    {
         if let Form::Submit = form {
             self.floor = self.floor.max(position);
         }
@@ -125,30 +140,27 @@ impl<A: Application + Drop, D: Copy + Eq + Drop> Client<A, D> {
     }
 
     /// Sends a datagram to a member, counted from 0. Where the wire does not take it, it is lost.
-    fn send<W: Wire<Address = D>>(&self, wire: &mut W, member: usize, bytes: &[u8]) {
+    fn send<W: Wire<Address = D>>(&self, wire: &mut W, member: usize, bytes: &[u8])
+        ensures brought { (ds : List (Carried D)) → W.has_brought wire.old ds → W.has_brought wire.new ds }
+    {
         if let Some(peer) = self.peers.get(member) {
             let _ = wire.send(0, *peer, bytes);
         }
     }
 
-    /// Has the members work until an answer comes, or nothing more comes to anybody.
+    /// Listens until the first member answers, or this try is over.
     fn listen<W: Wire<Address = D>>(
         &mut self,
         alloc: Global,
         wire: &mut W,
         asked: &Asked,
     ) -> Result<Option<Said>, AllocError>
-        ensures { IfOk result (λ said. IfSome said (λ s. IsLine asked.now.form (string_bytes s.text))) }
+        ensures said { Brings W.has_brought wire.old wire.new (λ brought. IfOk result (λ said. IfSome said (λ s. IsSaidBy D.eq self.old.peers.items brought 0 (told asked.now.form) asked.now.id (string_bytes s.text)))) }
+        ensures peers { self.new.peers.items ≡ self.old.peers.items }
+        ensures count { self.new.asked ≡ self.old.asked }
     {
-        for _datagram in 0..u64::MAX {
-            let Some(bytes) = self.next(alloc, wire) else {
-                return Ok(None);
-            };
-            if let Some(said) = said_in(alloc, GROUP, asked, bytes)? {
-                return Ok(Some(said));
-            }
-        }
-        Ok(None)
+        let peers = self.peers.as_slice();
+        listen_to_first(alloc, &mut self.group, wire, peers, asked, &mut self.buffer)
     }
 
     /// Asks all members, and those again that have not answered, until all have, or two differ.
@@ -159,13 +171,16 @@ impl<A: Application + Drop, D: Copy + Eq + Drop> Client<A, D> {
         members: u8,
         asked: &Asked,
     ) -> Result<Told, AllocError>
-        ensures { IfOk result (IsToldAs Form.Ask) }
+        ensures told { Brings W.has_brought wire.old wire.new (λ brought. IfOk result (IsToldAs D.eq self.old.peers.items brought members (Form.Ask) asked.now.id)) }
+        ensures peers { self.new.peers.items ≡ self.old.peers.items }
+        ensures count { self.new.asked ≡ self.old.asked }
     {
         let mut answers = Answers::new(alloc, members)?;
         for turn in 0..TRIES {
             self.try_again(alloc, wire, turn);
             self.send_to_others(wire, &answers, &asked.bytes);
-            if let Some(told) = self.listen_to_all(alloc, wire, asked.id, &mut answers)? {
+            let heard = self.listen_to_others(alloc, wire, asked.id, &mut answers)?;
+            if let Some(told) = heard {
                 return Ok(told);
             }
         }
@@ -174,7 +189,9 @@ impl<A: Application + Drop, D: Copy + Eq + Drop> Client<A, D> {
     }
 
     /// Sends a datagram to the members that have not answered.
-    fn send_to_others<W: Wire<Address = D>>(&self, wire: &mut W, answers: &Answers, bytes: &[u8]) {
+    fn send_to_others<W: Wire<Address = D>>(&self, wire: &mut W, answers: &Answers, bytes: &[u8])
+        ensures brought { (ds : List (Carried D)) → W.has_brought wire.old ds → W.has_brought wire.new ds }
+    {
         for member in 0..self.peers.len() {
             if !answers.has(member) {
                 self.send(wire, member, bytes);
@@ -182,26 +199,28 @@ impl<A: Application + Drop, D: Copy + Eq + Drop> Client<A, D> {
         }
     }
 
-    /// Has the members work until all have answered, or two answers differ, or nothing more comes to anybody.
-    fn listen_to_all<W: Wire<Address = D>>(
+    /// Listens until all members have answered, or two answers differ, or this try is over.
+    fn listen_to_others<W: Wire<Address = D>>(
         &mut self,
         alloc: Global,
         wire: &mut W,
         id: RequestId,
         answers: &mut Answers,
     ) -> Result<Option<Told>, AllocError>
-        ensures { HoldsAnswer answers.old → IfOk result (λ told. MatchOption told (HoldsAnswer answers.new) (IsToldAs Form.Ask)) }
+        ensures told { Brings W.has_brought wire.old wire.new (λ brought. (members : ℕ) (before : List (Carried D)) → HoldsSaid D.eq self.old.peers.items before members id answers.old
+            → IfOk result (λ told. MatchOption told (HoldsSaid D.eq self.old.peers.items (before ++ brought) members id answers.new) (IsToldAs D.eq self.old.peers.items (before ++ brought) members (Form.Ask) id))) }
+        ensures peers { self.new.peers.items ≡ self.old.peers.items }
+        ensures count { self.new.asked ≡ self.old.asked }
     {
-        for _datagram in 0..u64::MAX {
-            let Some(bytes) = self.next(alloc, wire) else {
-                return Ok(None);
-            };
-            if let Some((member, text)) = answer_in(alloc, GROUP, id, bytes)? {
-                if let Some(told) = answers.told_with(member, text) {
-                    return Ok(Some(told));
-                }
-            }
-        }
-        Ok(None)
+        let peers = self.peers.as_slice();
+        listen_to_all(
+            alloc,
+            &mut self.group,
+            wire,
+            peers,
+            id,
+            answers,
+            &mut self.buffer,
+        )
     }
 }

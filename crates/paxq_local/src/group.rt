@@ -1,6 +1,8 @@
 //! The members of a group in one program.
 
-ghost use Rattle.std.specs.Prelude.{◌≤◌, IfSome, length};
+ghost use Rattle.std.specs.Prelude.{◌≤◌, List, IfSome, length, take};
+ghost use Rattle.paxq_local.specs.Told.{Brings, HasComeFrom};
+ghost use Rattle.wires.specs.Wires.{Carried};
 
 use applications::Application;
 use ballots::{Setup, SetupFault};
@@ -14,10 +16,16 @@ use wires::{Arrival, Wire};
 /// The group's number. Its sockets are its own, so no other group's datagrams come to it.
 pub(super) const GROUP: u32 = 0;
 
+/// How many datagrams a try takes at least, however long that is: more than the members of a group send one another at one try. So a try of a slow
+/// group does not end before what the try before it sent was taken, and each brings the group on.
+const LEAST: u32 = 1_024;
+
 /// The members, by their numbers from 1: member m stands at end m of the wire, and end 0 is the client's.
 #[derive(Drop)]
 pub(super) struct Group<A: Application + Drop, D: Copy + Eq + Drop> {
     servers: Vec<Server<MemRecords, A, D>>,
+    /// How many datagrams this try has taken.
+    taken: u32,
 }
 
 /// A member that has done nothing, with its records in memory. It fails where memory is refused.
@@ -73,19 +81,39 @@ impl<A: Application + Drop, D: Copy + Eq + Drop> Group<A, D> {
         for before in 0..members {
             servers = with_one(servers, server_of(alloc, before + 1, members, names, peers))?;
         }
-        Ok(Group { servers })
+        Ok(Group { servers, taken: 0 })
     }
 
     /// Has the first member begin a ballot.
-    pub(super) fn begin<W: Wire<Address = D>>(&mut self, alloc: Global, wire: &mut W) {
+    pub(super) fn begin<W: Wire<Address = D>>(&mut self, alloc: Global, wire: &mut W)
+        ensures brought { (ds : List (Carried D)) → W.has_brought wire.old ds → W.has_brought wire.new ds }
+    {
         if let Some(first) = self.servers.first_mut() {
             // Records in memory never fail.
             let _ = first.begin(alloc, wire);
         }
     }
 
+    /// A try begins.
+    pub(super) fn start_try(&mut self) {
+        self.taken = 0;
+    }
+
+    /// Counts a datagram of this try, and says whether the try is over: it has taken as many as it does at least, and the wire's while has passed.
+    pub(super) fn is_over<W: Wire<Address = D>>(&mut self, wire: &mut W) -> bool
+        ensures brought { (ds : List (Carried D)) → W.has_brought wire.old ds → W.has_brought wire.new ds }
+    {
+        self.taken = self.taken.saturating_add(1);
+        if self.taken < LEAST {
+            return false;
+        }
+        wire.has_while_passed()
+    }
+
     /// What was lost is sent again: the member that leads says again what it waits for, and each asks for what it has not learnt.
-    pub(super) fn tick<W: Wire<Address = D>>(&mut self, alloc: Global, wire: &mut W) {
+    pub(super) fn tick<W: Wire<Address = D>>(&mut self, alloc: Global, wire: &mut W)
+        ensures brought { (ds : List (Carried D)) → W.has_brought wire.old ds → W.has_brought wire.new ds }
+    {
         for server in self.servers.iter_mut() {
             let _ = server.tick(alloc, wire);
         }
@@ -108,7 +136,9 @@ impl<A: Application + Drop, D: Copy + Eq + Drop> Group<A, D> {
         wire: &mut W,
         arrival: Arrival<D>,
         bytes: &[u8],
-    ) {
+    )
+        ensures brought { (ds : List (Carried D)) → W.has_brought wire.old ds → W.has_brought wire.new ds }
+    {
         if arrival.end == 0 {
             return;
         }
@@ -117,24 +147,28 @@ impl<A: Application + Drop, D: Copy + Eq + Drop> Group<A, D> {
         }
     }
 
-    /// Has the members work until something comes to the client, and says how many bytes that has, at the front of the buffer; or nothing, where
-    /// nothing more comes to anybody.
+    /// Has the members work until something comes to the client, and says from where, and how many bytes that has, at the front of the buffer; or
+    /// nothing, where nothing more comes to anybody, or the try is over.
     pub(super) fn work<W: Wire<Address = D>>(
         &mut self,
         alloc: Global,
         wire: &mut W,
         buffer: &mut [u8],
-    ) -> Option<usize>
-        ensures fits { IfSome result (λ n. n ≤ length buffer.new) }
+    ) -> Option<Arrival<D>>
+        ensures fits { IfSome result (λ a. a.length ≤ length buffer.new) }
+        ensures brought { Brings W.has_brought wire.old wire.new (λ brought. IfSome result (λ a. HasComeFrom brought a.from (take a.length buffer.new))) }
     {
         for _datagram in 0..u64::MAX {
             let Ok(Some(arrival)) = wire.receive(buffer) else {
                 return None;
             };
             if arrival.end == 0 {
-                return Some(arrival.length);
+                return Some(arrival);
             }
             self.hand(alloc, wire, arrival, &buffer[..arrival.length]);
+            if self.is_over(wire) {
+                return None;
+            }
         }
         None
     }

@@ -7,6 +7,7 @@ mod answers;
 mod asked;
 mod client;
 mod group;
+mod heard;
 mod local;
 mod send;
 

@@ -144,7 +144,7 @@ fn send_once<W: Wire>(wire: &mut W, to: W::Address, asked: &Asked)
     let _ = wire.send(0, to, &asked.bytes);
 }
 
-/// Takes what comes until it is an answer, or nothing more comes.
+/// Takes what comes until it is an answer, or nothing more comes, or the wire's while has passed.
 fn listen<W: Wire>(
     alloc: Global,
     wire: &mut W,
@@ -161,11 +161,15 @@ fn listen<W: Wire>(
         if let Some(said) = said_by_one(alloc, group, asked, &buffer[..length])? {
             return Ok(Some(said));
         }
+        if wire.has_while_passed() {
+            return Ok(None);
+        }
     }
     Ok(None)
 }
 
-/// Waits until something comes to the client, and says how many bytes that has, at the front of the buffer; or nothing, where nothing more comes.
+/// Waits until something comes to the client, and says how many bytes that has, at the front of the buffer; or nothing, where nothing more comes, or the
+/// wire's while has passed.
 fn next<W: Wire>(wire: &mut W, buffer: &mut [u8]) -> Option<usize>
     ensures fits { IfSome result (λ n. n ≤ length buffer.new) }
     ensures brought { Brings W.has_brought wire.old wire.new (λ brought. IfSome result (λ n. HasCome brought (take n buffer.new))) }
@@ -176,6 +180,9 @@ fn next<W: Wire>(wire: &mut W, buffer: &mut [u8]) -> Option<usize>
         };
         if arrival.end == 0 {
             return Some(arrival.length);
+        }
+        if wire.has_while_passed() {
+            return None;
         }
     }
     None

@@ -1,26 +1,52 @@
-use Rattle.std.proofs.Common.{List, Ok, ap, ◌∙◌, subst}
+use Rattle.std.proofs.Common.{Ok, ap, refl, ◌∙◌}
 use Rattle.paxq_files.specs.Commands.{command_term}
-use Rattle.paxq_files.specs.Script.{Command, ScriptTerm}
-use Rattle.paxq_local.proofs.Lines.{Going, going-end, going-refused, going-told, told-ends}
+use Rattle.paxq_files.specs.Script.{ScriptTerm}
+use Rattle.paxq_local.proofs.Brought.{brings-none}
+use Rattle.paxq_local.proofs.Lines.{Going, going-start, plays-on, plays-out, plays-refused, plays-to-end, plays-unprinted}
 use Rattle.paxq_local.proofs.local.play.Goals as goal
+
+pub loop-command-init : goal.loop-command-init
+loop-command-init g c = record {
+  peers = refl;
+  brings = brings-none g.W.Wire.has_brought c.args.wire.now
+      (λ came. Going g.W.Address.PartialEq.eq c.args.client.now.peers.items c.args.members c.args.client.now.asked c.args.script.now.commands c.args.client.now.asked c.args.script.now.commands came (g.O.Write.contents c.args.output.now) (g.O.Write.contents c.args.output.now))
+      (going-start g.W.Address.PartialEq.eq c.args.client.now.peers.items c.args.members c.args.client.now.asked c.args.script.now.commands (g.O.Write.contents c.args.output.now));
+}
 
 pub returns-in_default-tell : goal.returns-in_default-tell
 returns-in_default-tell g c =
-    going-refused c.args.script.now.commands (g.O.Write.contents c.args.output.now) (g.O.Write.contents c.loop-command.output) c.loop-command.script.commands c.loop-command.invariant
+    plays-refused g.W.Wire.has_brought g.W.Address.PartialEq.eq c.args.client.now.peers.items c.args.members c.args.client.now.asked c.args.script.now.commands c.args.wire.now c.loop-command.wire c.loop-command.client.asked c.loop-command.script.commands
+    (g.O.Write.contents c.args.output.now) (g.O.Write.contents c.loop-command.output) c.loop-command.invariant.brings
+    c.tell.new.wire (command_term c.in-Some.command) c.next_command.new.self.commands c.loop-command.client.peers.items c.tell.result c.tell.ensures.told
 
 pub loop-command-preserved : goal.loop-command-preserved
-loop-command-preserved g c =
-    let P : List Command → Type 0 = λ cs. Going c.args.script.now.commands cs (g.O.Write.contents c.args.output.now) (g.O.Write.contents c.loop-command.output) in
-    going-told c.args.script.now.commands (g.O.Write.contents c.args.output.now) (g.O.Write.contents c.loop-command.output) (command_term c.in-Some.command) c.next_command.new.self.commands c.in-Ok.told (g.O.Write.contents c.print.new.output) c.print.result
-    (subst P (ap (λ (s : ScriptTerm). s.commands) c.in-Some.ensures.taken) c.loop-command.invariant) c.in-Ok.ensures c.print.ensures (c.in-Ok-None.is ∙ ap Ok c.in-Ok-None.field-0-is)
+loop-command-preserved g c = record {
+  peers = c.tell.ensures.peers ∙ c.loop-command.invariant.peers;
+  brings = plays-on g.W.Wire.has_brought g.W.Address.PartialEq.eq c.args.client.now.peers.items c.args.members c.args.client.now.asked c.args.script.now.commands c.args.wire.now c.loop-command.wire c.loop-command.client.asked c.loop-command.script.commands
+      (g.O.Write.contents c.args.output.now) (g.O.Write.contents c.loop-command.output) c.loop-command.invariant.brings
+      c.tell.new.wire (command_term c.in-Some.command) c.next_command.new.self.commands c.loop-command.client.peers.items c.tell.result c.tell.ensures.told
+      (ap (λ (s : ScriptTerm). s.commands) c.in-Some.ensures.taken) c.loop-command.invariant.peers c.in-Ok.told c.in-Ok.is (g.O.Write.contents c.print.new.output) c.print.result c.print.ensures
+      c.tell.new.self.asked c.tell.ensures.count (c.in-Ok-None.is ∙ ap Ok c.in-Ok-None.field-0-is);
+}
 
 pub returns-in-Ok-Some : goal.returns-in-Ok-Some
 returns-in-Ok-Some g c =
-    let P : List Command → Type 0 = λ cs. Going c.args.script.now.commands cs (g.O.Write.contents c.args.output.now) (g.O.Write.contents c.loop-command.output) in
-    told-ends c.args.script.now.commands (g.O.Write.contents c.args.output.now) (g.O.Write.contents c.loop-command.output) (command_term c.in-Some.command) c.next_command.new.self.commands c.in-Ok.told (g.O.Write.contents c.print.new.output) c.in-Ok-Some.status c.print.result
-    (subst P (ap (λ (s : ScriptTerm). s.commands) c.in-Some.ensures.taken) c.loop-command.invariant) c.in-Ok.ensures c.print.ensures (c.in-Ok-Some.is ∙ ap Ok c.in-Ok-Some.field-0-is)
+    plays-out g.W.Wire.has_brought g.W.Address.PartialEq.eq c.args.client.now.peers.items c.args.members c.args.client.now.asked c.args.script.now.commands c.args.wire.now c.loop-command.wire c.loop-command.client.asked c.loop-command.script.commands
+    (g.O.Write.contents c.args.output.now) (g.O.Write.contents c.loop-command.output) c.loop-command.invariant.brings
+    c.tell.new.wire (command_term c.in-Some.command) c.next_command.new.self.commands c.loop-command.client.peers.items c.tell.result c.tell.ensures.told
+    (ap (λ (s : ScriptTerm). s.commands) c.in-Some.ensures.taken) c.loop-command.invariant.peers c.in-Ok.told c.in-Ok.is (g.O.Write.contents c.print.new.output) c.print.result c.print.ensures
+    c.in-Ok-Some.status (c.in-Ok-Some.is ∙ ap Ok c.in-Ok-Some.field-0-is)
+
+pub returns-in-Err : goal.returns-in-Err
+returns-in-Err g c =
+    plays-unprinted g.W.Wire.has_brought g.W.Address.PartialEq.eq c.args.client.now.peers.items c.args.members c.args.client.now.asked c.args.script.now.commands c.args.wire.now c.loop-command.wire c.loop-command.client.asked c.loop-command.script.commands
+    (g.O.Write.contents c.args.output.now) (g.O.Write.contents c.loop-command.output) c.loop-command.invariant.brings
+    c.tell.new.wire (command_term c.in-Some.command) c.next_command.new.self.commands c.loop-command.client.peers.items c.tell.result c.tell.ensures.told
+    (ap (λ (s : ScriptTerm). s.commands) c.in-Some.ensures.taken) c.loop-command.invariant.peers c.in-Ok.told c.in-Ok.is (g.O.Write.contents c.print.new.output) c.print.result c.print.ensures
+    c.in-Err.stop c.in-Err.is
 
 pub returns : goal.returns
 returns g c =
-    let P : List Command → Type 0 = λ cs. Going c.args.script.now.commands cs (g.O.Write.contents c.args.output.now) (g.O.Write.contents c.loop-command.output) in
-    going-end c.args.script.now.commands (g.O.Write.contents c.args.output.now) (g.O.Write.contents c.loop-command.output) (subst P c.in_default.ensures.taken.0 c.loop-command.invariant)
+    plays-to-end g.W.Wire.has_brought g.W.Address.PartialEq.eq c.args.client.now.peers.items c.args.members c.args.client.now.asked c.args.script.now.commands c.args.wire.now c.loop-command.wire c.loop-command.client.asked c.loop-command.script.commands
+    (g.O.Write.contents c.args.output.now) (g.O.Write.contents c.loop-command.output) c.loop-command.invariant.brings
+    c.in_default.ensures.taken.0
