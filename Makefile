@@ -4,7 +4,7 @@
 CLUSTER_ENDS ?= 24
 CLUSTER_DATAGRAMS ?= 100000
 
-.PHONY: help demo test edits refusals paxq measure expressions updates record_file examples bench kills cluster sweep clean
+.PHONY: help demo test edits refusals paxq measure expressions updates readers record_file examples bench kills cluster sweep clean
 
 help:
 	@echo 'make demo      builds paxq without waiting for its proof, and runs examples/first.pxq'
@@ -16,8 +16,9 @@ help:
 	@echo 'make measure   proves measure, which runs parts for the benchmarks, and leaves it at bin/measure'
 	@echo 'make expressions  proves query_rows, which evaluates expressions for the benchmarks, and leaves it at bin/query_rows'
 	@echo 'make updates   proves update_rows, which applies lists of update primitives for the benchmarks, and leaves it at bin/update_rows'
+	@echo 'make readers   proves reader_rows, whose readers answer while a site takes requests, for the benchmarks, and leaves it at bin/reader_rows'
 	@echo 'make record_file  proves record_file, an acceptor'"'"'s record in a SQLite file, and leaves it at bin/record_file'
-	@echo 'make bench     measures bin/paxq, bin/measure, bin/query_rows, bin/update_rows and bin/record_file (figures for docs/BENCHMARKS.md);'
+	@echo 'make bench     measures bin/paxq, bin/measure, bin/query_rows, bin/update_rows, bin/reader_rows and bin/record_file (figures for docs/BENCHMARKS.md);'
 	@echo '               groups of processes beside etcd, where that is installed'
 	@echo 'make kills     ends bin/record_file in the middle of its writes, again and again: each acknowledged write has to be there;'
 	@echo '               and opens files with it that the program sqlite3 made (needs sqlite3)'
@@ -64,12 +65,17 @@ updates:
 	cd crates/update_rows && rt run -- data/updates.rows > /dev/null
 	mkdir -p bin && cp crates/update_rows/out/update_rows bin/update_rows
 
+readers:
+	.ci/prove reader_rows
+	cd crates/reader_rows && rt run -- data/readers.rows > /dev/null
+	mkdir -p bin && cp crates/reader_rows/out/reader_rows bin/reader_rows
+
 record_file:
 	.ci/prove record_file
 	cd crates/record_file && rm -f out/record_file && { rt run > /dev/null || true; }
 	mkdir -p bin && cp crates/record_file/out/record_file bin/record_file
 
-bench: paxq measure expressions updates record_file
+bench: paxq measure expressions updates readers record_file
 	bench/run bin/paxq
 	bench/limits bin/paxq
 	bench/requests bin/paxq
@@ -78,6 +84,7 @@ bench: paxq measure expressions updates record_file
 	bench/expressions bin/query_rows
 	bench/steps bin/query_rows
 	bench/updates bin/update_rows
+	bench/readers bin/reader_rows
 	bench/records bin/record_file
 	bench/cluster bin/paxq
 
