@@ -1,6 +1,5 @@
 pub mod Tables
 pub mod Puts
-pub mod Makes
 pub mod Entries
 pub mod Rows
 pub mod Plans
@@ -13,7 +12,6 @@ pub mod Axes
 pub mod Nests
 pub mod Onces
 pub mod Plants
-pub mod Leaves
 pub mod Relists
 pub mod Labels
 pub mod LabelSteps

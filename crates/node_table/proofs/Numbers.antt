@@ -8,7 +8,7 @@ use Rattle.std.proofs.lemmas.Bool.Decides.{eqb_tells}
 use Rattle.data_model.specs.Trees.{Trees, no_trees, tree, Content, append, roots, count, size}
 use Rattle.data_model.specs.Changes.{renumbered, ranked}
 use Rattle.data_model.specs.Walks.{held}
-use Rattle.node_table.specs.Flat.{Entry, Table, Holds, IsTableOf, IsChangedAt, Makes, Puts, listed, with_child}
+use Rattle.node_table.specs.Flat.{Entry, Table, Holds, IsTableOf, IsChangedAt, Puts, listed, with_child}
 use Rattle.data_model.specs.declared.node.Part.{Part}
 use Rattle.data_model.specs.declared.node.Part.TheVariants.{Attributes, Children}
 use Rattle.node_table.specs.Labels.{AllAbove, Ascends, AreNumbered, AreRanked, HasNumbers, RisesBut, AreListed, lists_in, get_before, position_in, parent_in}
@@ -137,11 +137,6 @@ pub others-put : (w : ℕ → ℕ) (f g : Table) (part : Part) (m p k : ℕ) (dk
 others-put w f g part m p k dk at_k puts h i ne =
     let P : Option Entry → Type 0 = λ o. Ascends w (lists_in o) in
     ⊎_elim (λ x. subst P (sym (ap g x.1 ∙ puts.moved dk at_k)) (subst P at_k (h k))) (λ x. subst P (sym (puts.apart i x.1 ne)) (h i)) (eqb_tells i k)
-
-pub others-make : (w : ℕ → ℕ) (f g : Table) (part : Part) (m p : ℕ) (c : Content) → Makes f g part m p c → HasNumbers w f → (i : ℕ) → i ≢ p → Ascends w (lists_in (g i))
-others-make w f g part m p c makes h i ne =
-    let P : Option Entry → Type 0 = λ o. Ascends w (lists_in o) in
-    ⊎_elim (λ x. subst P (sym (ap g x.1 ∙ makes.made)) tt) (λ x. subst P (sym (makes.apart i x.1 ne)) (h i)) (eqb_tells i c.identity)
 
 -- ---- where a list is read
 pub at-here : (xs : List ℕ) (x : ℕ) (ys : List ℕ) → slice_get (xs ++ x ∷ ys) (length xs) ≡ Some x

@@ -152,10 +152,6 @@ pub room-less : (part : Part) (k n j : ℕ) (m : Term Row) → j ≤ n → HasRo
 unfolding HasRoom
 room-less part k n j m l h = room-in-less part n j _ l h
 
-pub room-kept : (part : Part) (k n i : ℕ) (m t : Term Row) (r : Row) → i ≢ k → Changes i (Some r) m t → HasRoom part k n m → HasRoom part k n t
-unfolding HasRoom
-room-kept part k n i m t r ne u h = let P : Option Row → Type 0 = HasRoomIn part n in let e : get t k ≡ get m k = u.apart k (λ e. ne (sym e)) in subst P (sym e) h
-
 same-list : (part : Part) (r s : Row) → s.attributes ≡ r.attributes → s.children ≡ r.children → list_in part s ≡ list_in part r
 same-list Attributes r s e h = e
 same-list Children r s e h = h

@@ -1,15 +1,15 @@
 //! The flat table of nodes that a forest stands on.
 
-ghost use Rattle.std.specs.Prelude.{◌≡◌, ◌≢◌, ℕ, ◌+◌, ◌≤◌, Option, Some, None, OnOk, OnErr, IsSome, List, length, filter, not, eqb, cond, vec_len, vec_capacity, string_bytes};
+ghost use Rattle.std.specs.Prelude.{◌≡◌, ◌≢◌, ℕ, ◌+◌, ◌≤◌, Option, Some, None, OnOk, IsSome, length, filter, not, eqb, cond, vec_len, vec_capacity, string_bytes};
 ghost use Rattle.data_model.specs.declared.node.Part.{Part};
 ghost use Rattle.data_model.specs.Walks.{held};
-ghost use Rattle.node_table.specs.Flat.{Entry, IsChangedAt, Makes, Puts, with_child, with_parent, with_text, with_name, without_child, listed, IsOnceBelow};
+ghost use Rattle.node_table.specs.Flat.{Entry, IsChangedAt, Puts, with_child, with_parent, with_text, with_name, without_child, listed, IsOnceBelow};
 ghost use Rattle.node_table.specs.Rows.{table_of, entry_of_row, list_in, HasRoom};
 ghost use Rattle.node_table.specs.Labels.{place_of};
 
-use data_model::{Content, Kind, NodeId, Part};
+use data_model::{Kind, NodeId, Part};
 use row_pages::RowPages;
-use std::alloc::{AllocError, Global};
+use std::alloc::AllocError;
 
 /// What the table has of a node.
 #[derive(Clone, Drop)]
@@ -88,39 +88,6 @@ fn add_below(rows: &mut Rows, part: Part, parent: NodeId, index: usize, child: N
     if let Some(row) = rows.get_mut(parent.number()) {
         add_to(row, part, index, child);
     }
-}
-
-/// Makes a node in a list below another, in which `index` others come before it. Where memory is refused, the table says what it said.
-pub fn make_below(
-    rows: &mut Rows,
-    alloc: Global,
-    part: Part,
-    parent: NodeId,
-    index: usize,
-    node: Content,
-) -> Result<(), AllocError>
-    requires has { IsSome (table_of rows.old parent) }
-    requires within { (e : Entry) → table_of rows.old parent ≡ Some e → index ≤ length (listed part e) }
-    requires fresh { table_of rows.old node.identity ≡ None }
-    ensures made { OnOk result (Makes (table_of rows.old) (table_of rows.new) part index parent node) }
-    ensures refused { OnErr result (table_of rows.new ≡ table_of rows.old) }
-    ensures places { place_of rows.new ≡ place_of rows.old }
-{
-    reserve(rows, part, parent, 1)?;
-    let identity = node.identity;
-    let number = identity.number();
-    let row = Row {
-        kind: node.kind,
-        name: node.name,
-        text: node.text,
-        parent: Some(parent),
-        attributes: Vec::new(alloc),
-        children: Vec::new(alloc),
-        place: number,
-    };
-    rows.insert(number, row)?;
-    add_below(rows, part, parent, index, identity);
-    Ok(())
 }
 
 /// Gives a node another parent, or none.

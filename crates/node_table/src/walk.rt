@@ -1,9 +1,9 @@
 //! Walks below nodes, over the flat table.
 
-ghost use Rattle.std.specs.Prelude.{◌≡◌, ℕ, ◌++◌, ◌<◌, ◌≤◌, ◌^◌, Some, None, IfOk, cond, false, length, string_bytes};
+ghost use Rattle.std.specs.Prelude.{◌≡◌, ◌++◌, ◌<◌, ◌≤◌, ◌^◌, Some, None, IfOk, cond, false, length, string_bytes};
 ghost use Rattle.data_model.specs.Trees.{count, size, text_of, text_within};
-ghost use Rattle.node_table.specs.Flat.{AreThere, read_trees};
-ghost use Rattle.node_table.specs.Rows.{table_of, row_of};
+ghost use Rattle.node_table.specs.Flat.{read_trees};
+ghost use Rattle.node_table.specs.Rows.{table_of};
 
 use super::table::Rows;
 use data_model::NodeId;
@@ -77,28 +77,6 @@ pub fn count(rows: &Rows, ids: &[NodeId], levels: u64) -> u64
         };
         nodes += 1 + count(rows, &row.attributes, levels - 1);
         nodes += count(rows, &row.children, levels - 1);
-    }
-    nodes
-}
-
-/// Removes a list of nodes and what stands below them, at most so many levels down, and says how many they were.
-pub fn remove(rows: &mut Rows, ids: &[NodeId], levels: u64) -> u64
-    requires there { AreThere (table_of rows.old) levels (2 ^ 62) ids.now }
-    requires distinct { (i : ℕ) → count i (read_trees levels (table_of rows.old) ids.now) ≤ 1 }
-    ensures nodes { result ≡ size (read_trees levels (table_of rows.old) ids.now) }
-    ensures removed { (i : ℕ) → 0 < count i (read_trees levels (table_of rows.old) ids.now) → row_of rows.new i ≡ None }
-    ensures same { (i : ℕ) → count i (read_trees levels (table_of rows.old) ids.now) ≡ 0 → row_of rows.new i ≡ row_of rows.old i }
-{
-    let mut nodes = 0;
-    if levels == 0 {
-        return nodes;
-    }
-    for id in ids {
-        let Some(row) = rows.remove(id.number()) else {
-            return nodes;
-        };
-        nodes += 1 + remove(rows, &row.attributes, levels - 1);
-        nodes += remove(rows, &row.children, levels - 1);
     }
     nodes
 }

@@ -2,8 +2,8 @@
 //!
 //! `child PARENT NUMBER NAME` makes an element, of that number, as the first child of a node, and `plant NUMBER NAME` one with no parent;
 //! `make KIND NAME TEXT` makes a node with no parent, and `put PARENT KIND NAME TEXT` puts it below another too, as an attribute or as the
-//! first child; `take NUMBER` takes a node out of its parent, `copy NUMBER` copies its tree, `remove NUMBER` removes the tree of a node with
-//! no parent that is no document, and `raise NUMBER` lets the next node take that identity.
+//! first child; `take NUMBER` takes a node out of its parent, `copy NUMBER` copies its tree, and `raise NUMBER` lets the next node take that
+//! identity.
 
 ghost use Rattle.std.specs.Prelude.{◌≡◌, ◌≢◌, ◌<◌, ◌≤◌, ◌^◌, IsSome};
 ghost use Rattle.data_model.specs.Trees.{find};
@@ -46,7 +46,6 @@ fn take_step(
         "put" => put(alloc, forest, &mut ahead)?,
         "take" => take_out(forest, &mut ahead)?,
         "copy" => copy(alloc, forest, &mut ahead)?,
-        "remove" => remove(forest, &mut ahead)?,
         "raise" => raise(forest, &mut ahead)?,
         _ => return Ok(false),
     };
@@ -62,11 +61,19 @@ fn make_child(
 ) -> Result<Given, RowFault> {
     let parent = take_node(words)?;
     let number = words.number()?;
-    let node = element(alloc, number, words.text(alloc)?);
+    let name = words.text(alloc)?;
     if !forest.has(parent) || number < forest.next().number() || number >= LIMIT {
         return Err(RowFault::NotARow);
     }
-    forest.make_child(alloc, parent, 0, node)?;
+    forest.raise_next(NodeId::new(number));
+    put_new(
+        alloc,
+        forest,
+        parent,
+        Kind::Element,
+        name,
+        String::new(alloc),
+    )?;
     Ok(Given::Nothing)
 }
 
@@ -146,15 +153,6 @@ fn copy(alloc: Global, forest: &mut Forest, words: &mut Words<'_>) -> Result<Giv
         return Err(RowFault::NotARow);
     }
     Given::of(forest.copy(alloc, id))
-}
-
-fn remove(forest: &mut Forest, words: &mut Words<'_>) -> Result<Given, RowFault> {
-    let id = take_node(words)?;
-    if !forest.has(id) || forest.parent(id).is_some() || forest.kind(id) == Kind::Document {
-        return Err(RowFault::NotARow);
-    }
-    forest.remove(id);
-    Ok(Given::Nothing)
 }
 
 fn raise(forest: &mut Forest, words: &mut Words<'_>) -> Result<Given, RowFault> {

@@ -7,7 +7,6 @@ pub mod CallerLemmas
 pub mod Lent
 pub mod Nests
 pub mod Planted
-pub mod Removed
 pub mod Numbered
 pub mod Views
 pub mod Drafts

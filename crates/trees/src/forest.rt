@@ -1,10 +1,10 @@
 //! Forests: trees of nodes, documents by name, and the next identity.
 
-ghost use Rattle.std.specs.Prelude.{◌≡◌, ◌≢◌, ℕ, ◌+◌, ◌<◌, ◌≤◌, ◌^◌, ◌↔◌, ◌-◌, min, Option, Some, None, IfOk, OnOk, OnErr, IfSome, IsErrOf, IsSome, List, [], ◌∷◌, ◌++◌, length, map, filter, is_some, string_bytes, IsTrue, true, false, max, option_map};
+ghost use Rattle.std.specs.Prelude.{◌≡◌, ◌≢◌, ℕ, ◌+◌, ◌<◌, ◌≤◌, ◌^◌, ◌↔◌, ◌-◌, min, Option, Some, None, IfOk, OnOk, OnErr, IfSome, IsErrOf, IsSome, List, [], ◌∷◌, ◌++◌, length, filter, is_some, string_bytes, IsTrue, true, false, max, option_map};
 ghost use Rattle.std.specs.Map.{lookup};
 ghost use Rattle.std.specs.Str.{bytes_eq};
-ghost use Rattle.data_model.specs.Trees.{no_trees, append, leaf, find, count, size, height, children_of, attributes_of, parent_of, string_value_of, text_within, IsAt, Content as NodeContent};
-ghost use Rattle.data_model.specs.Changes.{with_children, with_attributes, with_content, splice, taken_out, all_moved_below, CanAllMoveBelow, pick, renumbered, ranked, without};
+ghost use Rattle.data_model.specs.Trees.{no_trees, append, leaf, find, count, size, height, children_of, attributes_of, parent_of, string_value_of, text_within, IsAt};
+ghost use Rattle.data_model.specs.Changes.{with_content, taken_out, all_moved_below, CanAllMoveBelow, pick, renumbered, ranked};
 ghost use Rattle.data_model.specs.declared.node.Kind.TheVariants.{Document};
 ghost use Rattle.data_model.specs.declared.node.Part.TheVariants.{Attributes, Children};
 ghost use Rattle.data_model.specs.Order.{identities, precedes};
@@ -19,7 +19,7 @@ ghost use Rattle.data_model.specs.Paths.{path_of, shared, order_steps_of};
 ghost use Rattle.node_table.specs.Flat.{entry_in};
 ghost use Rattle.node_table.specs.Rows.{entry_of_row};
 
-use data_model::{Content, Kind, NodeId, NodeView, Part, Tree};
+use data_model::{Kind, NodeId, NodeView, Part, Tree};
 use document_names::Names;
 use indexmap::IndexMap;
 use node_table::table::{Row, Rows};
@@ -472,36 +472,6 @@ impl Forest {
         Ok(NodeId::new(id))
     }
 
-    /// Makes a node as a child of another, before which `index` children stand.
-    ///
-    /// Its identity is the next one or a later one; the next identity follows it. Where memory is refused, all stays as it was.
-    pub fn make_child(
-        &mut self,
-        alloc: Global,
-        parent: NodeId,
-        index: usize,
-        node: Content,
-    ) -> Result<(), AllocError>
-        requires has { IsSome (find parent self.old.trees) }
-        requires within { index ≤ length (children_of parent self.old.trees) }
-        requires fresh { self.old.next ≤ node.identity }
-        requires room { node.identity < 2 ^ 62 }
-        ensures made { OnOk result
-            (self.new
-            ≡ record self.old {
-              trees = with_children parent (splice index (leaf node)) self.old.trees;
-              next = node.identity + 1;
-            }) }
-        ensures refused { OnErr result (self.new ≡ self.old) }
-    {
-        let next = node.identity.number() + 1;
-        table::make_below(&mut self.rows, alloc, Part::Children, parent, index, node)?;
-        order::settle(&mut self.rows, Part::Children, parent, index);
-        self.next = next;
-        self.nodes += 1;
-        Ok(())
-    }
-
     /// Makes the tree of a node that has a parent a tree of its own.
     pub fn take_out(&mut self, id: NodeId)
         requires has { IsSome (find id self.old.trees) }
@@ -518,15 +488,6 @@ impl Forest {
             table::drop_child(&mut self.rows, part, parent, id);
             table::set_parent(&mut self.rows, id, None);
         }
-    }
-
-    /// Removes a tree of its own with all of its nodes. It takes no memory.
-    pub fn remove(&mut self, id: NodeId)
-        requires free { parent_of id self.old.trees ≡ None }
-        requires kind { IsAt (find id self.old.trees) (λ c. c.kind ≢ Document) }
-        ensures { self.new ≡ record self.old { trees = without id self.old.trees } }
-    {
-        self.nodes -= walk::remove(&mut self.rows, &[id], self.next);
     }
 
     /// Puts trees of their own into a list below a node, one after the other.
