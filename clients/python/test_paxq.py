@@ -126,7 +126,7 @@ class Spelling(unittest.TestCase):
         self.assertIsNone(paxq.read_datagram(head(7, 2) + pair, 7, 2))
 
     def test_codes_have_their_numbers(self):
-        for number, code in (1, "XPST0003"), (13, "FODC0002"), (24, "XUTY0005"), (39, "XUDY0030"), (44, "PXQ0005"), (45, "XQST0089"):
+        for number, code in (1, "XPST0003"), (13, "FODC0002"), (24, "XUTY0005"), (39, "XUDY0030"), (44, "PXQ0005"), (45, "XQST0089"), (46, "XUTY0013"), (48, "XUST0002"):
             self.assertEqual(paxq.outcome(number), code)
 
     def test_literals(self):

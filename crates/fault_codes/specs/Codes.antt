@@ -1,7 +1,7 @@
 -- The codes of faults, with their names and numbers.
 use Rattle.std.specs.Prelude.{ℕ, List, codes}
 use Rattle.fault_codes.specs.declared.code.Code.{Code}
-use Rattle.fault_codes.specs.declared.code.Code.TheVariants.{XPST0003, XPST0008, XPST0017, XQST0090, XUST0001, XPDY0002, XPTY0004, XPTY0018, XPTY0019, XPTY0020, FOAR0001, FOAR0002, FODC0002, FORG0001, FORG0006, XQTY0024, XQDY0025, XQDY0026, XQDY0041, XQDY0064, XQDY0072, XQDY0074, XUTY0004, XUTY0005, XUTY0006, XUTY0007, XUTY0008, XUTY0010, XUTY0011, XUTY0012, XUTY0022, XUDY0009, XUDY0015, XUDY0016, XUDY0017, XUDY0021, XUDY0027, XUDY0029, XUDY0030, PXQ0001, PXQ0002, PXQ0003, PXQ0004, PXQ0005, XQST0089}
+use Rattle.fault_codes.specs.declared.code.Code.TheVariants.{XPST0003, XPST0008, XPST0017, XQST0090, XUST0001, XPDY0002, XPTY0004, XPTY0018, XPTY0019, XPTY0020, FOAR0001, FOAR0002, FODC0002, FORG0001, FORG0006, XQTY0024, XQDY0025, XQDY0026, XQDY0041, XQDY0064, XQDY0072, XQDY0074, XUTY0004, XUTY0005, XUTY0006, XUTY0007, XUTY0008, XUTY0010, XUTY0011, XUTY0012, XUTY0022, XUDY0009, XUDY0015, XUDY0016, XUDY0017, XUDY0021, XUDY0027, XUDY0029, XUDY0030, PXQ0001, PXQ0002, PXQ0003, PXQ0004, PXQ0005, XQST0089, XUTY0013, XUDY0014, XUST0002}
 
 -- the name by which XQuery, its Update Facility or this project (PXQ) calls it
 abbrev pub code_name : Code → List ℕ
@@ -50,6 +50,9 @@ code_name PXQ0003 = codes "PXQ0003"
 code_name PXQ0004 = codes "PXQ0004"
 code_name PXQ0005 = codes "PXQ0005"
 code_name XQST0089 = codes "XQST0089"
+code_name XUTY0013 = codes "XUTY0013"
+code_name XUDY0014 = codes "XUDY0014"
+code_name XUST0002 = codes "XUST0002"
 
 -- its number in messages (our own)
 abbrev pub code_number : Code → ℕ
@@ -98,3 +101,6 @@ code_number PXQ0003 = 42
 code_number PXQ0004 = 43
 code_number PXQ0005 = 44
 code_number XQST0089 = 45
+code_number XUTY0013 = 46
+code_number XUDY0014 = 47
+code_number XUST0002 = 48

@@ -99,10 +99,16 @@ pub enum Code {
     PXQ0005,
     /// A `for` and its `at` bind one name (XQuery 1.0, section 3.8.1).
     XQST0089,
+    /// What a `copy` copies is not one node (XQuery Update Facility 1.0, section 2.4.6).
+    XUTY0013,
+    /// A `modify` would change a node that its `copy` did not make (section 2.4.6).
+    XUDY0014,
+    /// A `modify` neither updates nor gives nothing (section 2.4.6).
+    XUST0002,
 }
 
 impl Code {
-    /// Its number in messages, 1 to 45.
+    /// Its number in messages, 1 to 48.
     pub fn number(self) -> u8
         ensures { result ≡ code_number self }
     {
@@ -152,13 +158,16 @@ impl Code {
             Code::PXQ0004 => 43,
             Code::PXQ0005 => 44,
             Code::XQST0089 => 45,
+            Code::XUTY0013 => 46,
+            Code::XUDY0014 => 47,
+            Code::XUST0002 => 48,
         }
     }
 
     /// The code of that number, if there is one.
     pub fn of_number(number: u8) -> Option<Code>
         ensures numbered { IfSome result (λ c. code_number c ≡ number) }
-        ensures none { result ≡ None → (number ≡ 0) ⊎ (45 < number) }
+        ensures none { result ≡ None → (number ≡ 0) ⊎ (48 < number) }
     {
         match number {
             1 => Some(Code::XPST0003),
@@ -206,6 +215,9 @@ impl Code {
             43 => Some(Code::PXQ0004),
             44 => Some(Code::PXQ0005),
             45 => Some(Code::XQST0089),
+            46 => Some(Code::XUTY0013),
+            47 => Some(Code::XUDY0014),
+            48 => Some(Code::XUST0002),
             _ => None,
         }
     }
@@ -260,6 +272,9 @@ impl Code {
             Code::PXQ0004 => "PXQ0004",
             Code::PXQ0005 => "PXQ0005",
             Code::XQST0089 => "XQST0089",
+            Code::XUTY0013 => "XUTY0013",
+            Code::XUDY0014 => "XUDY0014",
+            Code::XUST0002 => "XUST0002",
         }
     }
 }

@@ -26,7 +26,7 @@ pub not_memory : (f : ValueFault) → fault_of f ≢ Memory → f ≢ of_value.M
 not_memory f h e = h (rw e refl)
 
 -- past the last code there is none
-pub no_code : (n : ℕ) (bytes rest : List ℕ) → number_read 1 bytes ≡ Gives n rest → (0 < n) → (n ≡ 0) ⊎ (45 < n) → outcome_read bytes ≡ Fails Number
+pub no_code : (n : ℕ) (bytes rest : List ℕ) → number_read 1 bytes ≡ Gives n rest → (0 < n) → (n ≡ 0) ⊎ (48 < n) → outcome_read bytes ≡ Fails Number
 no_code zero bytes rest read some h = absurd (omega arith)
 no_code (suc i) bytes rest read some (inl e) = cc
 no_code (suc i) bytes rest read some (inr h) = rw (read, slice_get_past codes_by_number i (omega arith)) refl

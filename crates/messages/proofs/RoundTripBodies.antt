@@ -4,7 +4,7 @@ use Rattle.std.proofs.lemmas.List.{append_assoc}
 use Rattle.byteorder.specs.Endian.{big_bytes}
 use Rattle.fault_codes.specs.Codes.{code_number}
 use Rattle.fault_codes.specs.declared.code.Code.{Code}
-use Rattle.fault_codes.specs.declared.code.Code.TheVariants.{XPST0003, XPST0008, XPST0017, XQST0090, XUST0001, XPDY0002, XPTY0004, XPTY0018, XPTY0019, XPTY0020, FOAR0001, FOAR0002, FODC0002, FORG0001, FORG0006, XQTY0024, XQDY0025, XQDY0026, XQDY0041, XQDY0064, XQDY0072, XQDY0074, XUTY0004, XUTY0005, XUTY0006, XUTY0007, XUTY0008, XUTY0010, XUTY0011, XUTY0012, XUTY0022, XUDY0009, XUDY0015, XUDY0016, XUDY0017, XUDY0021, XUDY0027, XUDY0029, XUDY0030, PXQ0001, PXQ0002, PXQ0003, PXQ0004, PXQ0005, XQST0089}
+use Rattle.fault_codes.specs.declared.code.Code.TheVariants.{XPST0003, XPST0008, XPST0017, XQST0090, XUST0001, XPDY0002, XPTY0004, XPTY0018, XPTY0019, XPTY0020, FOAR0001, FOAR0002, FODC0002, FORG0001, FORG0006, XQTY0024, XQDY0025, XQDY0026, XQDY0041, XQDY0064, XQDY0072, XQDY0074, XUTY0004, XUTY0005, XUTY0006, XUTY0007, XUTY0008, XUTY0010, XUTY0011, XUTY0012, XUTY0022, XUDY0009, XUDY0015, XUDY0016, XUDY0017, XUDY0021, XUDY0027, XUDY0029, XUDY0030, PXQ0001, PXQ0002, PXQ0003, PXQ0004, PXQ0005, XQST0089, XUTY0013, XUDY0014, XUST0002}
 use Rattle.ballots.specs.Ballot.{most_members}
 use Rattle.ballots.specs.Terms.{most_answer, most_text}
 use Rattle.ballots.specs.Values.{positions}
@@ -107,6 +107,9 @@ code-back PXQ0003 rest = refl
 code-back PXQ0004 rest = refl
 code-back PXQ0005 rest = refl
 code-back XQST0089 rest = refl
+code-back XUTY0013 rest = refl
+code-back XUDY0014 rest = refl
+code-back XUST0002 rest = refl
 
 code-read : (c : Code) (rest : List ℕ) → outcome_read (code_number c ∷ rest) ≡ Gives (Some c) rest
 code-read c rest = rw (byte-back (code_number c) rest, code-back c rest) refl
