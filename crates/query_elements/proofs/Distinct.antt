@@ -9,7 +9,7 @@ use Rattle.data_model.specs.Tidy.{lacks_name, has_distinct_names}
 use Rattle.data_model.specs.Tree.{TreeTerm, all_of}
 use Rattle.data_model.specs.Trees.{Trees, no_trees, tree, roots, height}
 use Rattle.query_meaning.specs.Content.{attributes, is_attribute, has_room, most_below, most_height}
-use Rattle.query_elements.specs.NameSets.{is_among}
+use Rattle.name_sets.specs.NameSets.{is_among}
 
 -- none of the trees has one of the names
 abbrev pub lack_all : List (List ℕ) → Trees → Bool

@@ -1,16 +1,18 @@
 //! What content a node may have.
 
-ghost use Rattle.std.specs.Prelude.{◌≡◌, IfOk, IfErr, Some, None};
+ghost use Rattle.std.specs.Prelude.{◌≡◌, ◌||◌, not, true, if◌then◌else◌, ℕ, List, IfOk, IfErr, OnOk, Some, None};
+ghost use Rattle.std.specs.Str.{bytes_eq};
 ghost use Rattle.data_model.specs.Tidy.{has_distinct_names};
 ghost use Rattle.data_model.specs.Tree.{all_of};
 ghost use Rattle.query_meaning.specs.Content as meaning;
+ghost use Rattle.name_sets.specs.NameSets.{is_among};
 ghost use Rattle.evaluation.specs.Gives.{Says};
 
-use crate::name_set::NameSet;
 use copied_content::CopiedContent;
 use data_model::are_within_levels;
+use name_sets::NameSet;
 use std::alloc::{AllocError, Global};
-use trees::Tree;
+use trees::{Kind, Tree};
 use values::{Code, ValueFault};
 
 /// The most attributes and children of a node (our own limit).
@@ -58,13 +60,27 @@ fn has_distinct_attributes(alloc: Global, trees: &[Tree]) -> Result<bool, AllocE
     let mut names = NameSet::new(alloc);
     let mut rest = trees;
     while let Some((tree, others)) = rest.split_first() {
-        let is_new = names.add_attribute(tree)?;
+        let is_new = add_attribute(&mut names, tree)?;
         if !is_new {
             return Ok(false);
         }
         rest = others;
     }
     Ok(true)
+}
+
+/// Adds the name of a tree's root if that is an attribute, and answers whether no attribute had it. It fails where memory is refused.
+fn add_attribute<'a>(names: &mut NameSet<'a>, tree: &'a Tree) -> Result<bool, AllocError>
+    ensures new { IfOk result
+        (λ is_new. is_new ≡ (if meaning.is_attribute tree.now.content.kind then not (is_among tree.now.content.name names.old) else true)) }
+    ensures names { OnOk result
+        ((x : List ℕ) → is_among x names.new ≡ (if meaning.is_attribute tree.now.content.kind then bytes_eq x tree.now.content.name || is_among x names.old else is_among x names.old)) }
+{
+    let content = tree.content();
+    match content.kind {
+        Kind::Attribute => names.add(content.name.as_str()),
+        _ => Ok(true),
+    }
 }
 
 /// Whether a node may have so many trees, with so many levels, below it.

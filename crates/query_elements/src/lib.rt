@@ -6,6 +6,5 @@
 mod assembled;
 mod elements;
 mod judged;
-mod name_set;
 
 pub use elements::Elements;
