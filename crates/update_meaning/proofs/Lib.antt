@@ -3,3 +3,5 @@ pub mod Deletes
 pub mod Absent
 pub mod Tidying
 pub mod Nothing
+pub mod Each
+pub mod Stores

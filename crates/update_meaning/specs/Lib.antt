@@ -1,4 +1,5 @@
 pub mod Effects
 pub mod Brought
 pub mod Results
+pub mod Changed
 pub mod Examples

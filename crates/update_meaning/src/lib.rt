@@ -1,4 +1,4 @@
-//! What a list of update primitives makes of a store: the definition, and laws of it. There is no code that applies one yet.
+//! What a list of update primitives makes of a store, or of copies: the definitions, and laws of them. No code here applies one.
 #![tactic(auto)]
 
 pub mod laws;
