@@ -12,12 +12,12 @@ use Rattle.node_table.specs.Labels.{get_before}
 use Rattle.node_table.proofs.Numbers.{none-within}
 use Rattle.node_table.proofs.Relists.{relisted}
 use Rattle.pending.specs.Compatible.{is_among}
-use Rattle.update_meaning.specs.Results.{judged, tidied, is_within_limits, has_distinct_attributes, are_apart, are_filled, are_documents, all_nodes, is_small, IsStored}
-use Rattle.update_meaning.proofs.Tidying.{tidied-apart, tidied-filled, tidied-documents}
+use Rattle.update_meaning.specs.Results.{judged, tidied, is_within_limits, has_distinct_attributes, are_apart, are_filled, all_nodes, is_small, IsStored}
+use Rattle.update_meaning.proofs.Tidying.{tidied-apart, tidied-filled}
 use Rattle.tracked_drafts.specs.Tests.{NodeTest, all_but, is_apart, is_filled, is_named, is_limited, is_within, AllAmong, IsStoredBut}
 use Rattle.tracked_drafts.proofs.Places.{list_of, relisted-self, with_part-is}
 use Rattle.tracked_drafts.proofs.Tests.{IsLocal, root_names, apart-local, filled-local, named-local, limited-local, within-local, EndsIn, all_but-among, among-ends, all_but-spliced, ends-zero, ends-first}
-use Rattle.tracked_drafts.proofs.Rewrites.{all_but-relisted, documents-relisted, IsSameKind, all_but-content, documents-content, ParentAmong}
+use Rattle.tracked_drafts.proofs.Rewrites.{all_but-relisted, IsSameKind, all_but-content, ParentAmong}
 use Rattle.tracked_drafts.proofs.Exits.{none-apart, none-filled, none-named, none-limited, height-all}
 
 -- ---- a stored forest needs no exceptions
@@ -41,12 +41,11 @@ stored-whole ts h =
     let limits : is_within_limits ts ≡ true = subst (λ (us : Trees). is_within_limits us ≡ true) j.0 j.2 in
     let l = three (nat_le (size ts) 100000) (nat_le (height ts) 60) (all_nodes is_small ts) limits in
     record {
-      apart = none-apart 0 ts ∙ subst (λ (us : Trees). are_apart us ≡ true) j.0 (tidied-apart ts);
-      filled = none-filled 0 ts ∙ subst (λ (us : Trees). are_filled us ≡ true) j.0 (tidied-filled ts);
+      apart = none-apart 0 ts (subst (λ (us : Trees). are_apart us ≡ true) j.0 (tidied-apart ts));
+      filled = none-filled 0 ts (subst (λ (us : Trees). are_filled us ≡ true) j.0 (tidied-filled ts));
       named = none-named 0 ts ∙ subst (λ (us : Trees). has_distinct_attributes us ≡ true) j.0 j.1;
       limited = none-limited 0 ts ∙ l.1;
       within = (let h = l.0 in height-all 0 ts (grind (arith, nat_tests)));
-      documents = subst (λ (us : Trees). are_documents us ≡ true) j.0 (tidied-documents ts);
     }
 
 -- ---- what a node says
@@ -66,7 +65,6 @@ module _ (is : List ℕ) (i : ℕ) (h : Content → Content) (same : IsSameKind 
         named = one is_named named-local s.named;
         limited = one is_limited limited-local s.limited;
         within = one is_within within-local s.within;
-        documents = documents-content i h same ts ∙ s.documents;
       }
 
 pub names-kept : (i : ℕ) (h : Content → Content) → ((c : Content) → (h c).name ≡ c.name) → (us : Trees) → root_names (with_content i h us) ≡ root_names us
@@ -95,5 +93,4 @@ stored-spliced is part p from to us ts x one found among all l before s = rw (wi
       named = step is_named named-local s.named;
       limited = step is_limited limited-local s.limited;
       within = step is_within within-local s.within;
-      documents = documents-relisted part p (spliced from to us (list_of part x)) ts ∙ s.documents;
     })

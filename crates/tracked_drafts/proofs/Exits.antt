@@ -1,8 +1,9 @@
 -- A node that passes a test needs no exception; and where there is none, the tests are those of what an update leaves.
 use Prim.Native.Nat.{suc}
-use Rattle.std.proofs.Common.{◌≡◌, ℕ, ◌+◌, ◌≤◌, ◌<◌, Bool, true, false, not, ◌&&◌, ◌||◌, cond, eqb, ltb, nat_lt, List, [], ◌∷◌, refl, sym, ◌∙◌, arith, ⊎_elim, ◌⊎◌, inl, inr, Option, Some, None}
+use Rattle.std.proofs.Common.{◌≡◌, ℕ, ◌+◌, ◌≤◌, ◌<◌, Bool, true, false, not, ◌&&◌, ◌||◌, ◌==◌, cond, eqb, ltb, nat_lt, List, [], ◌∷◌, refl, sym, ◌∙◌, arith, ⊎_elim, ◌⊎◌, inl, inr, Option, Some, None}
 use Rattle.std.proofs.lemmas.Bool.Decides.{eqb_tells, nat_tests}
-use Rattle.data_model.specs.Trees.{Trees, no_trees, tree, Place, count, find_below, height}
+use Rattle.data_model.specs.Trees.{Trees, no_trees, tree, Place, count, find_below, height, is_text}
+use Rattle.pending.specs.Texts.{is_empty_text}
 use Rattle.data_model.specs.Tidy.{begins_with_text}
 use Rattle.data_model.specs.Walks.{depth_of}
 use Rattle.data_model.proofs.Climbs.{any-tells, find-absent}
@@ -128,13 +129,21 @@ all-pass i test n (tree c bs cs rest) h =
     (all-pass i test (suc n) bs p.attributes) (all-pass i test (suc n) cs p.children) (all-pass i test n rest p.others)
 
 -- ---- no exceptions
-pub none-apart : (n : ℕ) (ts : Trees) → all_but [] is_apart n ts ≡ are_apart ts
-none-apart n no_trees = refl
-none-apart n (tree c bs cs rest) = rw (none-apart (suc n) bs, none-apart (suc n) cs, none-apart n rest) refl
+root-or : (b t : Bool) → t ≡ true → (b || t) ≡ true
+root-or true t h = refl
+root-or false t h = h
 
-pub none-filled : (n : ℕ) (ts : Trees) → all_but [] is_filled n ts ≡ are_filled ts
-none-filled n no_trees = refl
-none-filled n (tree c bs cs rest) = rw (none-filled (suc n) bs, none-filled (suc n) cs, none-filled n rest) refl
+pub none-apart : (n : ℕ) (ts : Trees) → are_apart ts ≡ true → all_but [] is_apart n ts ≡ true
+none-apart n no_trees h = refl
+none-apart n (tree c bs cs rest) h =
+    let f = four (not (is_text c.kind && begins_with_text rest)) (are_apart bs) (are_apart cs) (are_apart rest) h in
+    passing [] is_apart n c bs cs rest (root-or (n == 0) (not (is_text c.kind && begins_with_text rest)) f.first) (none-apart (suc n) bs f.second) (none-apart (suc n) cs f.third) (none-apart n rest f.fourth)
+
+pub none-filled : (n : ℕ) (ts : Trees) → are_filled ts ≡ true → all_but [] is_filled n ts ≡ true
+none-filled n no_trees h = refl
+none-filled n (tree c bs cs rest) h =
+    let f = four (not (is_empty_text c)) (are_filled bs) (are_filled cs) (are_filled rest) h in
+    passing [] is_filled n c bs cs rest (root-or (n == 0) (not (is_empty_text c)) f.first) (none-filled (suc n) bs f.second) (none-filled (suc n) cs f.third) (none-filled n rest f.fourth)
 
 pub none-named : (n : ℕ) (ts : Trees) → all_but [] is_named n ts ≡ has_distinct_attributes ts
 none-named n no_trees = refl

@@ -4,3 +4,4 @@ pub mod Rewrites
 pub mod Exits
 pub mod Marks
 pub mod Changes
+pub mod Roots

@@ -12,7 +12,6 @@ use Rattle.data_model.proofs.Climbs.{any-tells}
 use Rattle.node_table.proofs.Relists.{relisted}
 use Rattle.node_table.proofs.Onces.{held-roots}
 use Rattle.pending.specs.Compatible.{is_among}
-use Rattle.update_meaning.specs.Results.{are_documents}
 use Rattle.tracked_drafts.specs.Tests.{NodeTest, all_but}
 use Rattle.tracked_drafts.proofs.Places.{find-beside, root-found}
 use Rattle.tracked_drafts.proofs.Tests.{passes, passing, IsLocal, root_names}
@@ -25,10 +24,6 @@ names-relisted part p us (tree c bs cs rest) = ap (λ xs. c.name ∷ xs) (names-
 begins-relisted : (part : Part) (p : ℕ) (us ts : Trees) → begins_with_text (relisted part p us ts) ≡ begins_with_text ts
 begins-relisted part p us no_trees = refl
 begins-relisted part p us (tree c bs cs rest) = refl
-
-pub documents-relisted : (part : Part) (p : ℕ) (us ts : Trees) → are_documents (relisted part p us ts) ≡ are_documents ts
-documents-relisted part p us no_trees = refl
-documents-relisted part p us (tree c bs cs rest) = rw (documents-relisted part p us rest) refl
 
 -- what is asked of the node whose list it is, and of the list
 module _ (is : List ℕ) (test : NodeTest) (local : IsLocal test) (p : ℕ) (us vs : Trees)
@@ -149,7 +144,3 @@ module _ (is : List ℕ) (test : NodeTest) (local : IsLocal test) (i : ℕ) (h :
           (λ u. (let z = u.1 in rw (local n c bs cs (with_content i h bs) (with_content i h cs) f (names-elsewhere i h bs (omega arith)) (names-elsewhere i h cs (omega arith))) k))
           (any-tells (held i (roots bs) + held i (roots cs))))
           names
-
-pub documents-content : (i : ℕ) (h : Content → Content) → IsSameKind h → (ts : Trees) → are_documents (with_content i h ts) ≡ are_documents ts
-documents-content i h same no_trees = refl
-documents-content i h same (tree c bs cs rest) = ⊎_elim (λ t. rw t.0 (rw (same.kind c, documents-content i h same rest) refl)) (λ t. rw (t.0, documents-content i h same rest) refl) (eqb_tells i c.identity)

@@ -47,7 +47,6 @@ stored-more is js ts f s =
       named = all_but-more is js is_named 0 ts f s.named;
       limited = all_but-more is js is_limited 0 ts f s.limited;
       within = all_but-more is js is_within 0 ts f s.within;
-      documents = s.documents;
     }
 
 -- ---- of lists a test looks at the names in them alone

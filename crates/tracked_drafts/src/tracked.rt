@@ -1,29 +1,34 @@
 //! A draft and the nodes that its changes touch.
 
-ghost use Rattle.std.specs.Prelude.{◌≡◌, ℕ, ◌<◌, ◌≤◌, ◌^◌, [], true, IfOk, IfErr, IfSome, OnOk, OnErr, IsSome, length, slice_get, string_bytes};
+ghost use Rattle.std.specs.Prelude.{◌≡◌, ℕ, ◌<◌, ◌≤◌, ◌^◌, [], true, false, Some, None, IfOk, IfErr, IfSome, OnOk, OnErr, IsSome, length, slice_get, string_bytes};
+ghost use Rattle.std.specs.List.{All};
 ghost use Rattle.data_model.specs.Changes.{with_content, with_part, part_of};
 ghost use Rattle.data_model.specs.Trees.{find, count, size, append, parent_of};
 ghost use Rattle.data_model.specs.Tree.{all_of};
 ghost use Rattle.data_model.specs.Views.{Views};
 ghost use Rattle.node_plans.specs.Splices.{spliced};
 ghost use Rattle.node_table.specs.Labels.{get_before};
-ghost use Rattle.pending.specs.Compatible.{is_among};
+ghost use Rattle.pending.specs.Compatible.{is_among, has_repeat};
+ghost use Rattle.chosen_drafts.specs.Chosen.{IsRoot, HaveSameNodes};
+ghost use Rattle.chosen_drafts.specs.Terms.{hidden, whole_draft};
 ghost use Rattle.tracked_drafts.specs.Tests.{AllAmong, Begins, IsStoredBut};
+ghost use Rattle.update_meaning.specs.Changed.{rooted_at, chosen};
 ghost use Rattle.update_meaning.specs.Results.{IsStored};
 
+use chosen_drafts::ChosenDraft;
 use data_model::{NodeId, NodeView, Part, Tree};
 use indexmap::IndexSet;
 use std::alloc::{AllocError, Global};
 use std::marker::Model;
-use trees::{Draft, Forest, Prepared};
+use trees::{Forest, Prepared};
 
-/// A draft of a stored forest, with the nodes that were touched since.
+/// A draft of a stored forest, or of some trees of any forest, with the nodes that were touched since.
 ///
-/// What was not touched stays as an update leaves it: no texts are adjacent or empty there, names are distinct, and the limits of a store are kept. What
-/// was touched is to be seen to before the draft is settled.
+/// What was not touched stays as an update leaves it: below the roots no texts are adjacent or empty there, names are distinct, and the limits of a store
+/// are kept. What was touched is to be seen to before the draft is settled.
 #[derive(Drop)]
 pub struct TrackedDraft {
-    draft: Draft,
+    draft: ChosenDraft,
     touched: IndexSet<u64>,
 }
 
@@ -42,27 +47,60 @@ impl Model for TrackedDraft {
 }
 
 impl TrackedDraft {
-    /// A draft of a forest, in which nothing is changed yet. `next` is the identity that the next node takes once the draft is settled.
+    /// A draft of all trees of a forest, in which nothing is changed yet. `next` is the identity that the next node takes once the draft is settled.
     pub fn new(alloc: Global, forest: Forest, next: NodeId) -> TrackedDraft
         requires stored { IsStored forest.trees }
         requires later { forest.next ≤ next }
         requires bound { next ≤ 2 ^ 62 }
-        ensures { result ≡ record { draft = record { before = forest; after = forest.trees; next = next }; touched = [] } }
+        ensures { result ≡ record { draft = record { before = forest; after = forest.trees; next = next; roots = None }; touched = [] } }
     {
         TrackedDraft {
-            draft: Draft::new(alloc, forest, next),
+            draft: ChosenDraft::new(alloc, forest, next),
             touched: IndexSet::new(alloc),
         }
     }
 
-    /// What a node is to say of itself and which nodes are to stand round it; `None` where none of that identity is to stand there.
+    /// A draft of the trees of these roots alone, in which nothing is changed yet and all nodes count as touched, so nothing is asked of what the
+    /// trees say. `next` is the identity that the next node takes once the draft is settled.
+    ///
+    /// Where memory is refused, it gives the forest as it was.
+    pub fn of_roots(
+        alloc: Global,
+        forest: Forest,
+        roots: &[NodeId],
+        next: NodeId,
+    ) -> Result<TrackedDraft, Forest>
+        requires distinct { has_repeat roots.now ≡ false }
+        requires roots { All (IsRoot forest.trees) roots.now }
+        requires later { forest.next ≤ next }
+        requires bound { next ≤ 2 ^ 62 }
+        ensures drafted { IfOk result
+            (λ d. d.draft
+            ≡ record { before = forest; after = chosen (rooted_at roots.now) forest.trees; next = next; roots = Some roots.now }) }
+        ensures refused { IfErr result (λ f. f ≡ forest) }
+    {
+        let Ok(marked) = marked_trees(alloc, &forest, roots) else {
+            return Err(forest);
+        };
+        let Marked {
+            roots,
+            trees,
+            touched,
+        } = marked;
+        match ChosenDraft::of_roots(alloc, forest, roots, &trees, next) {
+            Ok(draft) => Ok(TrackedDraft { draft, touched }),
+            Err(forest) => Err(forest),
+        }
+    }
+
+    /// What a node is to say of itself and which nodes are to stand round it; `None` where none of that identity is to be seen.
     pub fn node(&self, id: NodeId) -> Option<NodeView<'_>>
         ensures { Views result (find id self.now.draft.after) }
     {
         self.draft.node(id)
     }
 
-    /// How many nodes there are to be. It does not count them.
+    /// How many nodes are to be seen. It does not count them.
     pub fn len(&self) -> u64
         ensures { result ≡ size self.now.draft.after }
     {
@@ -126,7 +164,7 @@ impl TrackedDraft {
     }
 
     /// Plans that copies of some trees, with the identities that these have, come into the place of the attributes or children of a node that have
-    /// at least `from` and fewer than `to` others before them; those go with all that is below them.
+    /// at least `from` and fewer than `to` others before them; those go with all that is below them. No hidden node has an identity of theirs.
     ///
     /// Where memory is refused, the draft stays as it was.
     pub fn splice(
@@ -143,6 +181,7 @@ impl TrackedDraft {
         requires within { to ≤ length (part_of part parent self.old.draft.after) }
         requires distinct { (i : ℕ) → count i (append self.old.draft.after (all_of trees.now)) ≤ 1 }
         requires below { (i : ℕ) → 0 < count i (all_of trees.now) → i < self.old.draft.next }
+        requires apart { (i : ℕ) → 0 < count i (all_of trees.now) → count i (hidden self.old.draft) ≡ 0 }
         ensures spliced { OnOk result
             (self.new.draft
             ≡ record self.old.draft { after = with_part part parent (spliced from to (all_of trees.now)) self.old.draft.after }) }
@@ -163,13 +202,54 @@ impl TrackedDraft {
         self.draft.discard()
     }
 
-    /// Takes the memory that it takes to settle the draft. Where it is refused, it gives the forest as it was.
+    /// Takes the memory that it takes to settle the draft, with hidden trees as they are. Where it is refused, it gives the forest as it was.
     pub fn prepare(self) -> Result<Prepared, Forest>
-        ensures prepared { IfOk result (λ p. p ≡ self.draft) }
+        ensures prepared { IfOk result (λ p. p ≡ whole_draft self.draft) }
         ensures refused { IfErr result (λ f. f ≡ self.draft.before) }
     {
         self.draft.prepare()
     }
+}
+
+/// Roots of a forest, their trees, and all nodes of these.
+#[derive(Drop)]
+struct Marked {
+    roots: Vec<NodeId>,
+    trees: Vec<Tree>,
+    touched: IndexSet<u64>,
+}
+
+/// The trees of some roots, with all of their nodes marked.
+fn marked_trees(alloc: Global, forest: &Forest, roots: &[NodeId]) -> Result<Marked, AllocError>
+    requires distinct { has_repeat roots.now ≡ false }
+    requires roots { All (IsRoot forest.now.trees) roots.now }
+    ensures roots { IfOk result (λ m. m.roots.items ≡ roots.now) }
+    ensures same { IfOk result (λ m. HaveSameNodes (all_of m.trees.items) (chosen (rooted_at roots.now) forest.now.trees)) }
+    ensures marked { IfOk result (λ m. AllAmong m.touched.keys (all_of m.trees.items)) }
+{
+    let trees = trees_of(alloc, forest, roots)?;
+    let mut touched = IndexSet::new(alloc);
+    mark_all(&mut touched, &trees)?;
+    let roots = roots.to_vec(alloc)?;
+    Ok(Marked {
+        roots,
+        trees,
+        touched,
+    })
+}
+
+/// The trees of some roots, in the order of these.
+fn trees_of(alloc: Global, forest: &Forest, roots: &[NodeId]) -> Result<Vec<Tree>, AllocError>
+    requires distinct { has_repeat roots.now ≡ false }
+    requires roots { All (IsRoot forest.now.trees) roots.now }
+    ensures { IfOk result (λ trees. HaveSameNodes (all_of trees.items) (chosen (rooted_at roots.now) forest.now.trees)) }
+{
+    forest.facts();
+    let mut trees = Vec::new(alloc);
+    for root in roots {
+        trees.push(forest.tree(alloc, *root)?)?;
+    }
+    Ok(trees)
 }
 
 /// Notes that a node is touched.
@@ -195,7 +275,11 @@ fn mark_all(touched: &mut IndexSet<u64>, trees: &[Tree]) -> Result<(), AllocErro
 }
 
 /// Notes that the parent of a node is touched, where it has one.
-fn mark_parent(touched: &mut IndexSet<u64>, draft: &Draft, id: NodeId) -> Result<(), AllocError>
+fn mark_parent(
+    touched: &mut IndexSet<u64>,
+    draft: &ChosenDraft,
+    id: NodeId,
+) -> Result<(), AllocError>
     ensures marked { OnOk result (IfSome (parent_of id draft.now.after) (λ p. is_among touched.new.keys p ≡ true)) }
     ensures grows { Begins touched.old.keys touched.new.keys }
 {
@@ -208,7 +292,7 @@ fn mark_parent(touched: &mut IndexSet<u64>, draft: &Draft, id: NodeId) -> Result
 /// Notes that what stands right before a place among a node's attributes or children is touched, where anything does.
 fn mark_sibling(
     touched: &mut IndexSet<u64>,
-    draft: &Draft,
+    draft: &ChosenDraft,
     part: Part,
     parent: NodeId,
     at: usize,
@@ -223,7 +307,7 @@ fn mark_sibling(
 }
 
 /// The parent that a node is to have.
-fn parent_of(draft: &Draft, id: NodeId) -> Option<NodeId>
+fn parent_of(draft: &ChosenDraft, id: NodeId) -> Option<NodeId>
     ensures { result ≡ parent_of id draft.now.after }
 {
     match draft.node(id) {
@@ -233,7 +317,7 @@ fn parent_of(draft: &Draft, id: NodeId) -> Option<NodeId>
 }
 
 /// What is to stand right before the place `at` among a node's attributes or children.
-fn sibling_before(draft: &Draft, part: Part, parent: NodeId, at: usize) -> Option<NodeId>
+fn sibling_before(draft: &ChosenDraft, part: Part, parent: NodeId, at: usize) -> Option<NodeId>
     ensures { result ≡ get_before (part_of part parent draft.now.after) at }
 {
     match draft.node(parent) {

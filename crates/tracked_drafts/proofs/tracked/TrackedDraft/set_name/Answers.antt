@@ -4,7 +4,7 @@ use Rattle.data_model.specs.Changes.{with_content}
 use Rattle.node_plans.proofs.Results.{by-result}
 use Rattle.node_table.proofs.Entries.{some-of}
 use Rattle.pending.specs.Compatible.{is_among}
-use Rattle.trees.specs.Drafts.{DraftTerm}
+use Rattle.chosen_drafts.specs.Terms.{ChosenTerm}
 use Rattle.tracked_drafts.specs.Tests.{IsStoredBut}
 use Rattle.tracked_drafts.proofs.Marks.{begins-among, begins-trans}
 use Rattle.tracked_drafts.proofs.Tests.{stored-more}
@@ -45,7 +45,7 @@ invariant_of-self-2 c =
     let new = c.set_name.new.self in
     let is = c.mark_parent.new.touched.keys in
     let id = c.args.id in
-    let P : DraftTerm → Type 0 = λ d. IsStoredBut is d.after in
+    let P : ChosenTerm → Type 0 = λ d. IsStoredBut is d.after in
     let there = rw (sym c.self.view_is) at c.requires in
     let x = some-of (find id old.after) there in
     let among : is_among is id ≡ true = begins-among c.mark.new.touched.keys is c.mark_parent.ensures.grows id c.in_ok-mark.ensures.marked in

@@ -2,7 +2,7 @@ use Rattle.std.proofs.Common.{◌≡◌, sym, subst, inl, refl, string_bytes}
 use Rattle.data_model.specs.Trees.{Content}
 use Rattle.data_model.specs.Changes.{with_content}
 use Rattle.node_plans.proofs.Results.{by-result}
-use Rattle.trees.specs.Drafts.{DraftTerm}
+use Rattle.chosen_drafts.specs.Terms.{ChosenTerm}
 use Rattle.tracked_drafts.specs.Tests.{IsStoredBut}
 use Rattle.tracked_drafts.proofs.Marks.{begins-among}
 use Rattle.tracked_drafts.proofs.Tests.{stored-more}
@@ -27,7 +27,7 @@ invariant_of-self-2 c =
     let old = c.self.inside.draft in
     let new = c.set_text.new.self in
     let is = c.mark.new.touched.keys in
-    let P : DraftTerm → Type 0 = λ d. IsStoredBut is d.after in
+    let P : ChosenTerm → Type 0 = λ d. IsStoredBut is d.after in
     by-result c.set_text.result (new ≡ record old { after = with_content c.args.id (says c) old.after }) (new ≡ old) (P new) c.set_text.ensures.set c.set_text.ensures.refused
     (λ e. subst P (sym e) (stored-content is c.args.id (says c) (same c) c.in_ok-mark.ensures.marked old.after (inl (names-kept c.args.id (says c) (λ d. refl))) (marked c)))
     (λ e. subst P (sym e) (marked c))

@@ -9,7 +9,7 @@ use Rattle.node_plans.proofs.Results.{by-result}
 use Rattle.node_table.specs.Labels.{get_before}
 use Rattle.node_table.proofs.Entries.{some-of}
 use Rattle.pending.specs.Compatible.{is_among}
-use Rattle.trees.specs.Drafts.{DraftTerm}
+use Rattle.chosen_drafts.specs.Terms.{ChosenTerm}
 use Rattle.tracked_drafts.specs.Tests.{IsStoredBut, Begins}
 use Rattle.tracked_drafts.proofs.Marks.{begins-among, begins-trans}
 use Rattle.tracked_drafts.proofs.Places.{list_of}
@@ -61,7 +61,7 @@ invariant_of-self-2 c =
     let is = c.mark_all.new.touched.keys in
     let p = c.args.parent in
     let us = all_of c.args.trees.now in
-    let P : DraftTerm → Type 0 = λ d. IsStoredBut is d.after in
+    let P : ChosenTerm → Type 0 = λ d. IsStoredBut is d.after in
     let x = some-of (find p old.after) (rw (sym c.self.view_is) at c.requires.has) in
     let among : is_among is p ≡ true = begins-among k1 is (begins-trans k1 k2 is c.mark_sibling.ensures.grows c.mark_all.ensures.grows) p c.in_ok-mark.ensures.marked in
     let list = listed c.args.part p old.after x.0 x.1 in
