@@ -5,8 +5,11 @@ ghost use Rattle.data_model.specs.Trees.{append, count};
 ghost use Rattle.fault_codes.specs.declared.code.Code.{Code as CodeTerm};
 ghost use Rattle.pending.specs.Primitives.{primitive_term};
 ghost use Rattle.trees.specs.Drafts.{drafted_forest};
+ghost use Rattle.apply.specs.Planned.{planned_draft};
+ghost use Rattle.chosen_drafts.specs.Terms.{hidden};
 ghost use Rattle.update_meaning.specs.Brought.{new_trees};
-ghost use Rattle.update_meaning.specs.Results.{applied, updated, IsStored};
+ghost use Rattle.update_meaning.specs.Changed.{changed};
+ghost use Rattle.update_meaning.specs.Results.{applied, judged, IsStored};
 
 use fault_codes::Code;
 use pending::{PendingList, Primitive};
@@ -97,7 +100,26 @@ pub fn prepare(
     ensures code { IfErr result (λ e. (c : CodeTerm) → e.fault ≡ ApplyFault.Code c → applied (map primitive_term list.now) next forest ≡ Err c) }
     ensures refused { IfErr result (λ e. e.forest ≡ forest) }
 {
-    let mut draft = TrackedDraft::new(alloc, forest, next);
+    planned(TrackedDraft::new(alloc, forest, next), alloc, list)
+}
+
+/// Plans what a list of primitives makes of the trees that a draft shows, and takes all memory that it takes to make it.
+///
+/// Faults: `Memory`; `Code`. The forest comes back as it was.
+pub(super) fn planned(
+    draft: TrackedDraft,
+    alloc: Global,
+    list: &PendingList,
+) -> Result<Prepared, Unprepared>
+    requires distinct { (i : ℕ) → count i (append draft.draft.after (new_trees (map primitive_term list.now))) ≤ 1 }
+    requires below { (i : ℕ) → 0 < count i (new_trees (map primitive_term list.now)) → i < draft.draft.next }
+    requires apart { (i : ℕ) → 0 < count i (new_trees (map primitive_term list.now)) → count i (hidden draft.draft) ≡ 0 }
+    ensures planned { IfOk result (λ p. planned_draft draft.draft (judged (changed (map primitive_term list.now) draft.draft.after)) ≡ Ok p) }
+    ensures code { IfErr result
+        (λ e. (c : CodeTerm) → e.fault ≡ ApplyFault.Code c → judged (changed (map primitive_term list.now) draft.draft.after) ≡ Err c) }
+    ensures refused { IfErr result (λ e. e.forest ≡ draft.draft.before) }
+{
+    let mut draft = draft;
     if let Err(fault) = plan(&mut draft, alloc, list.as_slice()) {
         return Err(Unprepared {
             forest: draft.discard(),
@@ -117,9 +139,10 @@ pub fn prepare(
 fn plan(draft: &mut TrackedDraft, alloc: Global, primitives: &[Primitive]) -> Result<(), ApplyFault>
     requires distinct { (i : ℕ) → count i (append draft.old.draft.after (new_trees (map primitive_term primitives.now))) ≤ 1 }
     requires below { (i : ℕ) → 0 < count i (new_trees (map primitive_term primitives.now)) → i < draft.old.draft.next }
-    ensures planned { OnOk result (updated (map primitive_term primitives.now) draft.old.draft.after ≡ Ok draft.new.draft.after) }
-    ensures next { OnOk result (draft.new.draft.next ≡ draft.old.draft.next) }
-    ensures code { IfErr result (λ e. (c : CodeTerm) → e ≡ ApplyFault.Code c → updated (map primitive_term primitives.now) draft.old.draft.after ≡ Err c) }
+    requires apart { (i : ℕ) → 0 < count i (new_trees (map primitive_term primitives.now)) → count i (hidden draft.old.draft) ≡ 0 }
+    ensures planned { OnOk result (judged (changed (map primitive_term primitives.now) draft.old.draft.after) ≡ Ok draft.new.draft.after) }
+    ensures same { OnOk result (draft.new.draft ≡ record draft.old.draft { after = draft.new.draft.after }) }
+    ensures code { IfErr result (λ e. (c : CodeTerm) → e ≡ ApplyFault.Code c → judged (changed (map primitive_term primitives.now) draft.old.draft.after) ≡ Err c) }
     ensures before { draft.new.draft.before ≡ draft.old.draft.before }
 {
     run_stages(draft, alloc, primitives)?;

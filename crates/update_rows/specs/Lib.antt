@@ -1,2 +1,1 @@
-pub mod New
 pub mod Ready

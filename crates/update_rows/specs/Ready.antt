@@ -1,13 +1,16 @@
--- A store and lists of primitives that may be applied to it.
-use Rattle.std.specs.Prelude.{◌+◌, map}
+-- Copies and a list of primitives that may be applied to them.
+use Rattle.std.specs.Prelude.{◌≡◌, false, map}
+use Rattle.std.specs.List.{All}
 use Rattle.data_model.specs.Trees.{count}
+use Rattle.chosen_drafts.specs.Chosen.{IsRoot}
+use Rattle.pending.specs.Compatible.{has_repeat}
 use Rattle.pending.specs.Primitives.{primitive_term}
 use Rattle.update_meaning.specs.Brought.{new_trees}
-use Rattle.update_meaning.specs.Results.{IsStored}
-use Rattle.update_rows.specs.New.{AreNew}
-use Rattle.update_rows.specs.declared.desk.Desk.{Desk}
+use Rattle.update_words.specs.New.{AreNew}
+use Rattle.update_rows.specs.declared.copies.Copies.{Copies}
 
--- the store is one that an update may leave, and what the lists bring is new
-pub record IsReady (desk : Desk) : Type 0 where
-  pub stored : IsStored desk.forest.trees
-  pub brings : AreNew desk.forest.next (λ i. count i (new_trees (map primitive_term desk.list)) + count i (new_trees (map primitive_term desk.other))) desk.next
+-- the copies have distinct roots with no parent, and what the list brings is new
+pub record AreReady (copies : Copies) : Type 0 where
+  pub apart : has_repeat copies.roots.items ≡ false
+  pub roots : All (IsRoot copies.forest.trees) copies.roots.items
+  pub brings : AreNew copies.forest.next (λ i. count i (new_trees (map primitive_term copies.list))) copies.next

@@ -2,14 +2,16 @@
 //! primitive, and no text of a query is read.
 //!
 //! `tree [NAME NODE .. ] ..` describes the store of the rows after it: one or two documents with what stands below them, whose nodes are spelt
-//! as `nodes.rt` says. The documents have the identities 1 and 2; a last `next N` lets the next node take the identity N. It prints how many nodes there
+//! as `nodes.rt` of `update_words` says. The documents have the identities 1 and 2; a last `next N` lets the next node take the identity N. It prints how many nodes there
 //! are and the next identity. The store is made anew for each row.
 //!
 //! `list STEP ..` takes steps on that store and on two lists, which are empty at first, and prints what they gave with ` | ` between two of them.
 //! `loop N STEP ..` does the same N times over, each time from the store as it was described, for benchmarks: it prints what the last time gave,
 //! and makes no second store to compare with.
 //!
-//! - A primitive (`primitives.rt`) is added to the list, and after the word `other` to the other list; it prints nothing, or `PXQ0002`. The nodes of
+//! `copies TARGET .. do PRIMITIVE ..` updates copies of nodes of that store (`copies.rt`).
+//!
+//! - A primitive (`primitives.rt` there) is added to the list, and after the word `other` to the other list; it prints nothing, or `PXQ0002`. The nodes of
 //!   its trees take the identities after those of all primitives before it, and `next N` lets them take later ones.
 //! - `merge` adds the other list's primitives at the end of the list, and the other list is empty then; it prints nothing, or `PXQ0002`.
 //! - `check` prints `compatible` or the code, and `len` how many primitives are in the list.
@@ -25,18 +27,13 @@
 //! other list is gone then, the row says `memory`.
 #![tactic(auto)]
 
-mod desk;
-mod nodes;
-mod opening;
-mod primitives;
-mod printed;
+mod copies;
 mod steps;
-mod targets;
 
-use opening::opened;
 use rows::{Answers, RowFault, Words, run_table};
 use std::alloc::Global;
 use std::process::ExitCode;
+use update_words::{opened, printed};
 
 /// Ends with the table's exit status: 1 where a row is not understood, and where the file cannot be read or memory is refused.
 fn main(rt: HostRuntime) -> ExitCode {
@@ -71,6 +68,7 @@ impl Answers for UpdateRows {
         let mut words = Words::new(row);
         match words.plain()? {
             "tree" => self.work_on(alloc, words.rest()),
+            "copies" => copies::copied(alloc, &self.described, words),
             "list" => steps::taken(alloc, &self.described, words, true),
             "loop" => {
                 let times = words.number()?;

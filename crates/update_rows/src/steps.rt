@@ -1,18 +1,15 @@
 //! Steps of rows.
 
 ghost use Rattle.std.specs.Prelude.{IfOk, OnOk};
-ghost use Rattle.update_rows.specs.Ready.{IsReady};
+ghost use Rattle.update_words.specs.Ready.{IsReady};
 
-use super::desk::{Desk, Way};
-use super::opening::{opened, take_next};
-use super::primitives::read_primitive;
-use super::printed;
 use apply::ApplyFault;
 use fault_codes::Code;
 use pending::{CheckFault, ListFault};
 use rows::{RowFault, Words};
 use std::alloc::{AllocError, Global};
 use trees::Forest;
+use update_words::{Desk, Way, opened, printed, read_primitive, take_next};
 
 /// The most steps of a row, and of a turn of a `repeat`.
 const MOST_STEPS: u32 = 100_000;

@@ -8,7 +8,7 @@ use Rattle.data_model.proofs.Weights.{weigh-append}
 use Rattle.data_model.proofs.Lists.{drop-turn}
 use Rattle.pending.specs.Primitives.{PrimitiveTerm, primitive_term}
 use Rattle.pending.specs.declared.primitive.Primitive.{Primitive}
-use Rattle.trees.specs.Drafts.{DraftTerm}
+use Rattle.chosen_drafts.specs.Terms.{ChosenTerm, hidden}
 use Rattle.update_meaning.specs.Effects.{effect, effects, stage_of, of_stage, target_of}
 use Rattle.update_stages.specs.Brought.{from_stage, IsReadyFor}
 use Rattle.update_meaning.specs.Brought.{trees_of, new_trees}
@@ -58,22 +58,26 @@ all-brought i n (p ∷ ps) =
     ⊎_elim (λ a. rw a.0 (omega arith)) (λ a. rw a.0 (omega arith)) (leb_tells n (stage_of p))
 
 -- ---- a stage, of whose primitives qs the last ones, `rest`, are still to be run, where the draft was `old` as it began
-pub record Runs (stage : ℕ) (qs rest : List PrimitiveTerm) (old now : DraftTerm) : Type 0 where
+pub record Runs (stage : ℕ) (qs rest : List PrimitiveTerm) (old now : ChosenTerm) : Type 0 where
   pub runs : record now { after = effects (of_stage stage rest) now.after } ≡ record old { after = effects (of_stage stage qs) old.after }
   pub apart : (i : ℕ) → count i now.after + brought i (of_stage stage rest) + brought i (from_stage (stage + 1) qs) ≤ 1
   pub below : (i : ℕ) → 0 < brought i (of_stage stage rest) → i < now.next
   pub later : (i : ℕ) → 0 < brought i (from_stage (stage + 1) qs) → i < now.next
+  pub unseen : (i : ℕ) → 0 < brought i (of_stage stage rest) → count i (hidden now) ≡ 0
+  pub unseen_later : (i : ℕ) → 0 < brought i (from_stage (stage + 1) qs) → count i (hidden now) ≡ 0
 
-pub begin : (stage : ℕ) (qs : List PrimitiveTerm) (d : DraftTerm) → IsReadyFor stage qs d → Runs stage qs qs d d
+pub begin : (stage : ℕ) (qs : List PrimitiveTerm) (d : ChosenTerm) → IsReadyFor stage qs d → Runs stage qs qs d d
 begin stage qs d h =
     record {
       runs = refl;
       apart = λ i. omega (arith, h.distinct i, both i d.after (new_trees (from_stage stage qs)), stage-brought i stage qs);
       below = λ i l. h.below i (omega (arith, stage-brought i stage qs));
       later = λ i l. h.below i (omega (arith, stage-brought i stage qs));
+      unseen = λ i l. h.unseen i (omega (arith, stage-brought i stage qs));
+      unseen_later = λ i l. h.unseen i (omega (arith, stage-brought i stage qs));
     }
 
-module _ (stage : ℕ) (qs rest : List PrimitiveTerm) (p : PrimitiveTerm) (old now : DraftTerm) (h : Runs stage qs (p ∷ rest) old now) where
+module _ (stage : ℕ) (qs rest : List PrimitiveTerm) (p : PrimitiveTerm) (old now : ChosenTerm) (h : Runs stage qs (p ∷ rest) old now) where
   -- the next primitive is of the stage
   module _ (s : stage ≡ stage_of p) where
     is-of : (stage == stage_of p) ≡ true
@@ -91,32 +95,40 @@ module _ (stage : ℕ) (qs rest : List PrimitiveTerm) (p : PrimitiveTerm) (old n
     pub run-below : (i : ℕ) → 0 < count i (trees_of p) → i < now.next
     run-below i l = h.below i (omega (arith, brings i))
 
-    pub turn-here : (new : DraftTerm) → new ≡ record now { after = effect p now.after } → Runs stage qs rest old new
+    pub run-unseen : (i : ℕ) → 0 < count i (trees_of p) → count i (hidden now) ≡ 0
+    run-unseen i l = h.unseen i (omega (arith, brings i))
+
+    pub turn-here : (new : ChosenTerm) → new ≡ record now { after = effect p now.after } → Runs stage qs rest old new
     turn-here new e =
         let once : count (target_of p) now.after ≤ 1 = omega (arith, h.apart (target_of p)) in
         let same : new.next ≡ now.next = ap (λ d. d.next) e in
-        let finish : DraftTerm → DraftTerm = λ d. record d { after = effects (of_stage stage rest) d.after } in
-        let from : List PrimitiveTerm → DraftTerm = λ ps. record now { after = effects ps now.after } in
+        let same-hidden : (i : ℕ) → count i (hidden new) ≡ count i (hidden now) = λ i. ap (λ d. count i (hidden d)) e in
+        let finish : ChosenTerm → ChosenTerm = λ d. record d { after = effects (of_stage stage rest) d.after } in
+        let from : List PrimitiveTerm → ChosenTerm = λ ps. record now { after = effects ps now.after } in
         record {
           runs = ap finish e ∙ ap from (sym here) ∙ h.runs;
           apart = λ i. (let a : count i new.after ≡ count i (effect p now.after) = ap (λ d. count i d.after) e in omega (arith, h.apart i, brings i, count-effect i p now.after once));
           below = λ i l. (let b = h.below i (omega (arith, brings i)) in omega arith);
           later = λ i l. (let b = h.later i l in omega arith);
+          unseen = λ i l. same-hidden i ∙ h.unseen i (omega (arith, brings i));
+          unseen_later = λ i l. same-hidden i ∙ h.unseen_later i l;
         }
 
   -- it is of another
   pub turn-past : stage ≢ stage_of p → Runs stage qs rest old now
   turn-past s =
       let past : of_stage stage (p ∷ rest) ≡ of_stage stage rest = ⊎_elim (λ t. absurd (s t.1)) (λ t. rw t.0 refl) (eqb_tells stage (stage_of p)) in
-      let from : List PrimitiveTerm → DraftTerm = λ ps. record now { after = effects ps now.after } in
+      let from : List PrimitiveTerm → ChosenTerm = λ ps. record now { after = effects ps now.after } in
       record {
         runs = ap from (sym past) ∙ h.runs;
         apart = λ i. omega (arith, h.apart i, ap (brought i) past);
         below = λ i l. h.below i (omega (arith, ap (brought i) past));
         later = h.later;
+        unseen = λ i l. h.unseen i (omega (arith, ap (brought i) past));
+        unseen_later = h.unseen_later;
       }
 
-module _ (stage : ℕ) (qs : List PrimitiveTerm) (old now : DraftTerm) where
+module _ (stage : ℕ) (qs : List PrimitiveTerm) (old now : ChosenTerm) where
   pub turns-end : Runs stage qs [] old now → now ≡ record old { after = effects (of_stage stage qs) old.after }
   turns-end h = h.runs
 
@@ -125,21 +137,24 @@ module _ (stage : ℕ) (qs : List PrimitiveTerm) (old now : DraftTerm) where
       record {
         distinct = λ i. omega (arith, h.apart i, both i now.after (new_trees (from_stage (stage + 1) qs)));
         below = h.later;
+        unseen = h.unseen_later;
       }
 
   pub kept-before : (rest : List PrimitiveTerm) → Runs stage qs rest old now → now.before ≡ old.before
   kept-before rest h = ap (λ d. d.before) h.runs
 
-pub ready-first : (n : ℕ) (ps : List PrimitiveTerm) (d : DraftTerm)
-    → ((i : ℕ) → count i (append d.after (new_trees ps)) ≤ 1) → ((i : ℕ) → 0 < count i (new_trees ps) → i < d.next) → IsReadyFor n ps d
-ready-first n ps d apart below =
+pub ready-first : (n : ℕ) (ps : List PrimitiveTerm) (d : ChosenTerm)
+    → ((i : ℕ) → count i (append d.after (new_trees ps)) ≤ 1) → ((i : ℕ) → 0 < count i (new_trees ps) → i < d.next)
+    → ((i : ℕ) → 0 < count i (new_trees ps) → count i (hidden d) ≡ 0) → IsReadyFor n ps d
+ready-first n ps d apart below unseen =
     record {
       distinct = λ i. omega (arith, apart i, both i d.after (new_trees ps), both i d.after (new_trees (from_stage n ps)), all-brought i n ps);
       below = λ i l. below i (omega (arith, all-brought i n ps));
+      unseen = λ i l. unseen i (omega (arith, all-brought i n ps));
     }
 
 -- what is left of a slice, as a list and its first
-module _ (stage : ℕ) (qs : List PrimitiveTerm) (ps : List Primitive) (at : ℕ) (old now : DraftTerm) (h : Runs stage qs (map primitive_term (drop at ps)) old now) where
+module _ (stage : ℕ) (qs : List PrimitiveTerm) (ps : List Primitive) (at : ℕ) (old now : ChosenTerm) (h : Runs stage qs (map primitive_term (drop at ps)) old now) where
   pub next-turn : (p : Primitive) → at < length ps → p ≡ get_or ps at p → Runs stage qs (primitive_term p ∷ map primitive_term (drop (at + 1) ps)) old now
   next-turn p l e =
       let P : List PrimitiveTerm → Type 0 = λ rest. Runs stage qs rest old now in

@@ -2,6 +2,7 @@
 
 ghost use Rattle.std.specs.Prelude.{◌≡◌, ℕ, ◌<◌, ◌≤◌, OnOk, OnErr};
 ghost use Rattle.data_model.specs.Changes.{with_part};
+ghost use Rattle.chosen_drafts.specs.Terms.{hidden};
 ghost use Rattle.data_model.specs.Tree.{all_of};
 ghost use Rattle.data_model.specs.Trees.{append, count};
 ghost use Rattle.update_stages.specs.Places.{shared, from_of, to_of, IsLengthOf};
@@ -61,6 +62,7 @@ pub(super) fn put_into(
 ) -> Result<(), AllocError>
     requires distinct { (i : ℕ) → count i (append draft.old.draft.after (all_of trees.now)) ≤ 1 }
     requires below { (i : ℕ) → 0 < count i (all_of trees.now) → i < draft.old.draft.next }
+    requires apart { (i : ℕ) → 0 < count i (all_of trees.now) → count i (hidden draft.old.draft) ≡ 0 }
     ensures put { OnOk result
         (draft.new.draft
         ≡ record draft.old.draft { after = with_part part id (shared share (all_of trees.now)) draft.old.draft.after }) }

@@ -1,6 +1,7 @@
 //! The change of one primitive.
 
 ghost use Rattle.std.specs.Prelude.{◌≡◌, ℕ, ◌<◌, ◌≤◌, OnOk, OnErr, string_bytes};
+ghost use Rattle.chosen_drafts.specs.Terms.{hidden};
 ghost use Rattle.data_model.specs.Changes.{with_content};
 ghost use Rattle.data_model.specs.Trees.{append, count};
 ghost use Rattle.pending.specs.Primitives.{primitive_term};
@@ -79,6 +80,7 @@ pub(super) fn run(
 ) -> Result<(), AllocError>
     requires distinct { (i : ℕ) → count i (append draft.old.draft.after (trees_of (primitive_term primitive.now))) ≤ 1 }
     requires below { (i : ℕ) → 0 < count i (trees_of (primitive_term primitive.now)) → i < draft.old.draft.next }
+    requires apart { (i : ℕ) → 0 < count i (trees_of (primitive_term primitive.now)) → count i (hidden draft.old.draft) ≡ 0 }
     ensures run { OnOk result
         (draft.new.draft ≡ record draft.old.draft { after = effect (primitive_term primitive.now) draft.old.draft.after }) }
     ensures refused { OnErr result (draft.new.draft ≡ draft.old.draft) }

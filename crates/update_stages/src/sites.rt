@@ -1,6 +1,7 @@
 //! Where a node stands in a list of its parent, and trees that come to stand there.
 
 ghost use Rattle.std.specs.Prelude.{◌≡◌, ℕ, ◌<◌, ◌≤◌, ◌==◌, position, IfSome, OnOk, OnErr};
+ghost use Rattle.chosen_drafts.specs.Terms.{hidden};
 ghost use Rattle.data_model.specs.Tree.{all_of};
 ghost use Rattle.data_model.specs.Trees.{append, count, parent_of};
 ghost use Rattle.update_meaning.specs.Effects.{with_tree_below};
@@ -100,6 +101,7 @@ pub(super) fn put_beside(
 ) -> Result<(), AllocError>
     requires distinct { (i : ℕ) → count i (append draft.old.draft.after (all_of trees.now)) ≤ 1 }
     requires below { (i : ℕ) → 0 < count i (all_of trees.now) → i < draft.old.draft.next }
+    requires apart { (i : ℕ) → 0 < count i (all_of trees.now) → count i (hidden draft.old.draft) ≡ 0 }
     ensures put { OnOk result
         (draft.new.draft
         ≡ record draft.old.draft { after = with_tree_below id (beside side (all_of trees.now)) draft.old.draft.after }) }

@@ -1,6 +1,7 @@
 //! The stages of an update (XQuery Update Facility 1.0, section 3.2.2).
 
 ghost use Rattle.std.specs.Prelude.{◌≡◌, ℕ, ◌<◌, ◌≤◌, ◌+◌, map, OnOk, OnErr};
+ghost use Rattle.chosen_drafts.specs.Terms.{hidden};
 ghost use Rattle.data_model.specs.Trees.{append, count};
 ghost use Rattle.pending.specs.Primitives.{primitive_term};
 ghost use Rattle.update_meaning.specs.Effects.{effects, of_stage, staged};
@@ -36,7 +37,7 @@ fn run_stage(
 
 /// Changes a draft by primitives, stage by stage (XQuery Update Facility 1.0, section 3.2.2).
 ///
-/// A primitive whose target stands nowhere changes nothing. Where memory is refused, the draft is left half changed.
+/// A primitive whose target is not to be seen changes nothing. Where memory is refused, the draft is left half changed.
 pub fn run_stages(
     draft: &mut TrackedDraft,
     alloc: Global,
@@ -44,6 +45,7 @@ pub fn run_stages(
 ) -> Result<(), AllocError>
     requires distinct { (i : ℕ) → count i (append draft.old.draft.after (new_trees (map primitive_term primitives.now))) ≤ 1 }
     requires below { (i : ℕ) → 0 < count i (new_trees (map primitive_term primitives.now)) → i < draft.old.draft.next }
+    requires apart { (i : ℕ) → 0 < count i (new_trees (map primitive_term primitives.now)) → count i (hidden draft.old.draft) ≡ 0 }
     ensures staged { OnOk result
         (draft.new.draft
         ≡ record draft.old.draft { after = staged (map primitive_term primitives.now) draft.old.draft.after }) }

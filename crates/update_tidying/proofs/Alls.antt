@@ -1,9 +1,9 @@
 -- Trees that pass a test but for some nodes, and then but for one node fewer.
-use Rattle.std.proofs.Common.{◌≡◌, ℕ, ◌+◌, Bool, true, false, not, ◌||◌, ◌&&◌, eqb, List, [], ◌∷◌, refl, ap, sym, ◌∙◌, arith, ⊎_elim, Option, Some, subst}
+use Rattle.std.proofs.Common.{◌≡◌, ℕ, ◌+◌, Bool, true, false, not, ◌||◌, ◌&&◌, ◌==◌, eqb, List, [], ◌∷◌, refl, ap, sym, ◌∙◌, arith, ⊎_elim, Option, Some, subst}
 use Prim.Native.Nat.{suc}
 use Rattle.std.proofs.lemmas.Bool.Decides.{eqb_tells}
 use Rattle.data_model.specs.Trees.{Trees, no_trees, tree, Content, append, roots, count, is_text}
-use Rattle.data_model.specs.Tidy.{begins_with_text, is_document}
+use Rattle.data_model.specs.Tidy.{begins_with_text}
 use Rattle.data_model.specs.declared.node.Part.{Part}
 use Rattle.data_model.specs.declared.node.Part.TheVariants.{Attributes, Children}
 use Rattle.data_model.proofs.Firsts.{eqb-swap}
@@ -13,14 +13,20 @@ use Rattle.node_plans.specs.Splices.{rest_of}
 use Rattle.pending.specs.Compatible.{is_among}
 use Rattle.tracked_drafts.specs.Tests.{NodeTest, all_but, is_apart, is_filled}
 use Rattle.pending.specs.Texts.{is_empty_text, before_merged}
-use Rattle.update_meaning.specs.Results.{all_merged, all_filled, stored, are_documents}
+use Rattle.update_meaning.specs.Results.{all_merged, all_filled}
+use Rattle.update_tidying.specs.Texts.{merged_below, filled_below}
 use Rattle.tracked_drafts.proofs.Tests.{passes, passing, all_but-rest}
-use Rattle.update_meaning.proofs.Booleans.{never, not-true, and-left, and-right}
+use Rattle.update_meaning.proofs.Booleans.{never, not-true}
+use Rattle.tracked_drafts.proofs.Roots.{StandsAtRoots}
 use Rattle.update_tidying.proofs.Merges.{more}
 
 or-true : (a b : Bool) → b ≡ true → (a || b) ≡ true
 or-true true b e = refl
 or-true false b e = e
+
+-- no root stands below others
+below-root : (n : ℕ) → (suc n == 0) ≡ false
+below-root n = ⊎_elim (λ t. (let z = t.1 in absurd (omega arith))) (λ t. t.0) (eqb_tells (suc n) 0)
 
 -- another node is among those that are left out as before
 head-other : (i j : ℕ) (is : List ℕ) (a b : Bool) → eqb i j ≡ false → a ≡ b → (is_among (i ∷ is) j || a) ≡ true → (is_among is j || b) ≡ true
@@ -48,6 +54,15 @@ but-passing f i is test q n (tree c bs cs rest) holds pass h =
     ⊎_elim (λ t. or-true (is_among is c.identity) (test n c bs cs (begins_with_text rest)) (subst P t.1 (pass (entry_of c q (roots bs) (roots cs)) (ap f t.1 ∙ holds.0) n bs cs (begins_with_text rest))))
     (λ t. head-other i c.identity is (test n c bs cs (begins_with_text rest)) (test n c bs cs (begins_with_text rest)) t.0 refl s.here) (eqb_tells i c.identity) in
     passing is test n c bs cs rest head (but-passing f i is test (Some c.identity) (suc n) bs holds.1 pass s.attributes) (but-passing f i is test (Some c.identity) (suc n) cs holds.2 pass s.children) (but-passing f i is test q n rest holds.3 pass s.others)
+
+-- ---- a node that stands at the roots alone, where all roots pass
+pub but-root : (i : ℕ) (is : List ℕ) (test : NodeTest) → ((c : Content) (bs cs : Trees) (b : Bool) → test 0 c bs cs b ≡ true) → (ts : Trees) → StandsAtRoots i ts
+    → all_but (i ∷ is) test 0 ts ≡ true → all_but is test 0 ts ≡ true
+but-root i is test pass no_trees at h = refl
+but-root i is test pass (tree c bs cs rest) at h =
+    let s = passes (i ∷ is) test 0 c bs cs rest h in
+    passing is test 0 c bs cs rest (or-true (is_among is c.identity) (test 0 c bs cs (begins_with_text rest)) (pass c bs cs (begins_with_text rest))) (but-gone i is test 1 bs at.0 s.attributes)
+    (but-gone i is test 1 cs at.1 s.children) (but-root i is test pass rest at.2 s.others)
 
 -- ---- a list of a node that becomes another
 begins-relisted : (part : Part) (p : ℕ) (us ts : Trees) → begins_with_text (relisted part p us ts) ≡ begins_with_text ts
@@ -107,7 +122,7 @@ pub but-merged : (is : List ℕ) (n k : ℕ) (xs : Trees) (c : Content) (s : Lis
 but-merged is n k no_trees c s bs cs rs z e h =
     let i = c.identity in
     let q = passes (i ∷ is) is_apart n c bs cs rs h in
-    passing is is_apart n (more c s) bs cs (rest_of k rs) (or-true (is_among is i) (not (is_text c.kind && begins_with_text (rest_of k rs))) (rw e (never (is_text c.kind))))
+    passing is is_apart n (more c s) bs cs (rest_of k rs) (or-true (is_among is i) ((n == 0) || not (is_text c.kind && begins_with_text (rest_of k rs))) (or-true (n == 0) (not (is_text c.kind && begins_with_text (rest_of k rs))) (rw e (never (is_text c.kind)))))
     (but-gone i is is_apart (suc n) bs (omega arith) q.attributes) (but-gone i is is_apart (suc n) cs (omega arith) q.children)
     (all_but-rest is is_apart n k rs (but-gone i is is_apart n rs (omega arith) q.others))
 but-merged is n k (tree x ds es xs) c s bs cs rs z e h =
@@ -116,8 +131,8 @@ but-merged is n k (tree x ds es xs) c s bs cs rs z e h =
     ⊎_elim (λ t. (let y = rw t.0 at z in absurd (omega arith)))
     (λ t. (let y = rw t.0 at z in
     passing is is_apart n x ds es (append xs (tree (more c s) bs cs (rest_of k rs)))
-    (head-other i x.identity is (not (is_text x.kind && begins_with_text (append xs (tree c bs cs rs)))) (not (is_text x.kind && begins_with_text (append xs (tree (more c s) bs cs (rest_of k rs))))) t.0
-    (ap (λ b. not (is_text x.kind && b)) (begins-append xs c s bs cs rs (rest_of k rs))) q.here)
+    (head-other i x.identity is ((n == 0) || not (is_text x.kind && begins_with_text (append xs (tree c bs cs rs)))) ((n == 0) || not (is_text x.kind && begins_with_text (append xs (tree (more c s) bs cs (rest_of k rs))))) t.0
+    (ap (λ b. (n == 0) || not (is_text x.kind && b)) (begins-append xs c s bs cs rs (rest_of k rs))) q.here)
     (but-gone i is is_apart (suc n) ds (omega arith) q.attributes) (but-gone i is is_apart (suc n) es (omega arith) q.children)
     (but-merged is n k xs c s bs cs rs (omega arith) e q.others))) (eqb_tells i x.identity)
 
@@ -130,28 +145,35 @@ but-left is n (tree x ds es xs) c bs cs rs z h =
     let q = passes (i ∷ is) is_filled n x ds es (append xs (tree c bs cs rs)) h in
     ⊎_elim (λ t. (let y = rw t.0 at z in absurd (omega arith)))
     (λ t. (let y = rw t.0 at z in
-    passing is is_filled n x ds es (append xs rs) (head-other i x.identity is (not (is_empty_text x)) (not (is_empty_text x)) t.0 refl q.here)
+    passing is is_filled n x ds es (append xs rs) (head-other i x.identity is ((n == 0) || not (is_empty_text x)) ((n == 0) || not (is_empty_text x)) t.0 refl q.here)
     (but-gone i is is_filled (suc n) ds (omega arith) q.attributes) (but-gone i is is_filled (suc n) es (omega arith) q.children)
     (but-left is n xs c bs cs rs (omega arith) q.others))) (eqb_tells i x.identity)
 
 -- ---- where no node is left out
-pub apart-merged : (n : ℕ) (ts : Trees) → all_but [] is_apart n ts ≡ true → all_merged ts ≡ ts
+apart-merged : (n : ℕ) (ts : Trees) → all_but [] is_apart (suc n) ts ≡ true → all_merged ts ≡ ts
 apart-merged n no_trees h = refl
 apart-merged n (tree c bs cs rest) h =
-    let s = passes [] is_apart n c bs cs rest h in
-    rw (apart-merged (suc n) bs s.attributes, apart-merged (suc n) cs s.children, apart-merged n rest s.others) (before-same c bs cs rest s.here)
+    let s = passes [] is_apart (suc n) c bs cs rest h in
+    rw (apart-merged (suc n) bs s.attributes, apart-merged (suc n) cs s.children, apart-merged n rest s.others) (before-same c bs cs rest (rw (below-root n) at s.here))
   where
     before-same : (c : Content) (bs cs rest : Trees) → not (is_text c.kind && begins_with_text rest) ≡ true → before_merged c bs cs rest ≡ tree c bs cs rest
     before-same c bs cs no_trees h = refl
     before-same c bs cs (tree d ds es rest) h = rw (not-true (is_text c.kind && is_text d.kind) h) refl
 
-pub filled-all : (n : ℕ) (ts : Trees) → all_but [] is_filled n ts ≡ true → all_filled ts ≡ ts
+pub apart-below : (ts : Trees) → all_but [] is_apart 0 ts ≡ true → merged_below ts ≡ ts
+apart-below no_trees h = refl
+apart-below (tree c bs cs rest) h =
+    let s = passes [] is_apart 0 c bs cs rest h in
+    rw (apart-merged 0 bs s.attributes, apart-merged 0 cs s.children, apart-below rest s.others) refl
+
+filled-all : (n : ℕ) (ts : Trees) → all_but [] is_filled (suc n) ts ≡ true → all_filled ts ≡ ts
 filled-all n no_trees h = refl
 filled-all n (tree c bs cs rest) h =
-    let s = passes [] is_filled n c bs cs rest h in
-    rw (not-true (is_empty_text c) s.here, filled-all (suc n) bs s.attributes, filled-all (suc n) cs s.children, filled-all n rest s.others) refl
+    let s = passes [] is_filled (suc n) c bs cs rest h in
+    rw (not-true (is_empty_text c) (rw (below-root n) at s.here), filled-all (suc n) bs s.attributes, filled-all (suc n) cs s.children, filled-all n rest s.others) refl
 
-pub documents-stored : (ts : Trees) → are_documents ts ≡ true → stored ts ≡ ts
-documents-stored no_trees h = refl
-documents-stored (tree c bs cs rest) h =
-    rw (and-left (is_document c.kind) (are_documents rest) h, documents-stored rest (and-right (is_document c.kind) (are_documents rest) h)) refl
+pub filled-all-below : (ts : Trees) → all_but [] is_filled 0 ts ≡ true → filled_below ts ≡ ts
+filled-all-below no_trees h = refl
+filled-all-below (tree c bs cs rest) h =
+    let s = passes [] is_filled 0 c bs cs rest h in
+    rw (filled-all 0 bs s.attributes, filled-all 0 cs s.children, filled-all-below rest s.others) refl

@@ -1,22 +1,30 @@
 -- What the calls of the code need of the trees, and what they leave.
 use Prim.Native.Nat.{suc}
-use Rattle.std.proofs.Common.{◌≡◌, ℕ, ◌+◌, ◌-◌, ◌≤◌, ◌<◌, true, false, List, [], ◌∷◌, ◌++◌, length, take, drop, refl, ap, sym, ◌∙◌, arith, ◌&&◌, get_or, Some, None, IsSome, subst}
+use Rattle.std.proofs.Common.{◌≡◌, ℕ, ◌+◌, ◌-◌, ◌≤◌, ◌<◌, true, false, not, ◌||◌, ◌==◌, Bool, List, [], ◌∷◌, ◌++◌, length, take, drop, refl, ap, sym, ◌∙◌, arith, ◌&&◌, get_or, Some, None, IsSome, subst, ⊎_elim}
 use Rattle.std.specs.List.{slice_get}
 use Rattle.std.specs.Str.{bytes_eq}
 use Rattle.std.proofs.lemmas.List.{take_rest}
 use Rattle.data_model.specs.Changes.{with_part, with_content, part_of}
-use Rattle.data_model.specs.Trees.{Trees, no_trees, append, count, find, is_text}
+use Rattle.data_model.specs.Trees.{Trees, no_trees, tree, append, count, find, is_text}
 use Rattle.data_model.proofs.Climbs.{AreDistinct}
 use Rattle.data_model.proofs.Weights.{append-none}
 use Rattle.node_plans.specs.Splices.{spliced}
 use Rattle.node_table.specs.Flat.{entry_in}
 use Rattle.tracked_drafts.specs.Tests.{is_apart, is_filled, Begins}
 use Rattle.update_tidying.specs.declared.site.Site.{Site}
-use Rattle.update_tidying.specs.Texts.{is_text_at, text_at, first_texts, texts_of, IsTextAt, Merges, Empties}
-use Rattle.update_tidying.proofs.Alls.{but-passing}
+use Rattle.update_tidying.specs.Texts.{is_text_at, text_at, first_texts, texts_of, IsNoTextBelow, IsTextAt, Merges, Empties, merged_below, filled_below}
+use Rattle.tracked_drafts.proofs.Roots.{at-roots}
+use Rattle.update_meaning.specs.Results.{all_merged, all_filled}
+use Rattle.update_meaning.specs.Changed.{tidied_below}
+use Rattle.update_tidying.proofs.Alls.{but-passing, but-root}
 use Rattle.update_tidying.proofs.Cuts.{get-drop, get-begins}
 use Rattle.update_tidying.proofs.Places.{get-at}
 use Rattle.update_tidying.proofs.Steps.{after_place, followers, followers_text, without_followers, with_followers, Merged, merged-at, Left, left-at, holds-found, kind-of}
+
+-- first the one, then the other
+pub both-below : (ts : Trees) → filled_below (merged_below ts) ≡ tidied_below ts
+both-below no_trees = refl
+both-below (tree c bs cs rest) = ap (tree c (all_filled (all_merged bs)) (all_filled (all_merged cs))) (both-below rest)
 
 -- no trees are added
 pub none-added : (ts : Trees) → AreDistinct ts → (i : ℕ) → count i (append ts no_trees) ≤ 1
@@ -86,11 +94,19 @@ says-so i ts us vs ws text said e f h is =
     let P : Trees → Type 0 = Merges i ts in
     subst P (sym (is ∙ (λ t. with_content i (λ c. record c { text = e t }) (f t)))) h
 
--- what is no text has nothing to take in
-pub takes-none : (i : ℕ) (ts : Trees) → AreDistinct ts → is_text_at (find i ts) ≡ false → Merges i ts ts
+or-true : (a b : Bool) → b ≡ true → (a || b) ≡ true
+or-true true b e = refl
+or-true false b e = e
+
+-- what is no text has nothing to take in, and a root has no neighbours
+pub takes-none : (i : ℕ) (ts : Trees) → AreDistinct ts → IsNoTextBelow i ts → Merges i ts ts
 takes-none i ts d none = record {
   merged = refl;
-  apart = λ is a. but-passing (λ j. entry_in j ts) i is is_apart None 0 ts (holds-found None ts d) (λ e at m bs cs b. (let z : is_text e.kind ≡ false = sym (kind-of (find i ts) e at).0 ∙ none in rw z refl)) a;
+  apart = λ is a. ⊎_elim
+      (λ no. but-passing (λ j. entry_in j ts) i is is_apart None 0 ts (holds-found None ts d)
+      (λ e at m bs cs b. (let z : is_text e.kind ≡ false = sym (kind-of (find i ts) e at).0 ∙ no in or-true (m == 0) (not (is_text e.kind && b)) (rw z refl))) a)
+      (λ top. but-root i is is_apart (λ c bs cs b. refl) ts (at-roots i ts d top) a)
+      none;
 }
 
 -- ---- an empty text goes
@@ -117,5 +133,10 @@ goes-none i ts d none = record {
   filled = refl;
   others = λ is a. but-passing (λ j. entry_in j ts) i is is_filled None 0 ts (holds-found None ts d)
       (λ e at m bs cs b. (let k = kind-of (find i ts) e at in
-      let z : (is_text e.kind && bytes_eq e.text []) ≡ false = (λ t. sym k.0 t && bytes_eq (sym k.1 t) []) ∙ none in rw z refl)) a;
+      let z : (is_text e.kind && bytes_eq e.text []) ≡ false = (λ t. sym k.0 t && bytes_eq (sym k.1 t) []) ∙ none in or-true (m == 0) (not (is_text e.kind && bytes_eq e.text [])) (rw z refl))) a;
 }
+
+-- and so does a node that is no text below another
+pub goes-nowhere : (i : ℕ) (ts : Trees) → AreDistinct ts → IsNoTextBelow i ts → Empties i ts ts
+goes-nowhere i ts d none =
+    ⊎_elim (λ no. goes-none i ts d (rw no refl)) (λ top. record { filled = refl; others = λ is a. but-root i is is_filled (λ c bs cs b. refl) ts (at-roots i ts d top) a }) none

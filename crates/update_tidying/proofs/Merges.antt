@@ -11,6 +11,7 @@ use Rattle.node_table.proofs.Relists.{relisted}
 use Rattle.node_plans.specs.Splices.{rest_of}
 use Rattle.pending.specs.Texts.{before_merged, is_empty_text}
 use Rattle.update_meaning.specs.Results.{all_merged, all_filled}
+use Rattle.update_tidying.specs.Texts.{merged_below, filled_below}
 use Rattle.update_tidying.proofs.Leading.{leading, leading_text}
 
 -- ---- texts that follow a text
@@ -72,7 +73,7 @@ pub filled-without : (c : Content) (bs cs rest : Trees) → is_empty_text c ≡ 
 filled-without c bs cs rest h = rw h refl
 
 -- ---- a list of a node that becomes one that is the same once it is tidied
-pub merged-relisted : (part : Part) (p : ℕ) (us vs ts : Trees) → all_merged us ≡ all_merged vs → all_merged (relisted part p us ts) ≡ all_merged (relisted part p vs ts)
+merged-relisted : (part : Part) (p : ℕ) (us vs ts : Trees) → all_merged us ≡ all_merged vs → all_merged (relisted part p us ts) ≡ all_merged (relisted part p vs ts)
 merged-relisted part p us vs no_trees h = refl
 merged-relisted Attributes p us vs (tree c bs cs rest) h =
     let d = merged-relisted Attributes p us vs cs h in
@@ -83,7 +84,7 @@ merged-relisted Children p us vs (tree c bs cs rest) h =
     let r = merged-relisted Children p us vs rest h in
     ⊎_elim (λ t. rw (t.0, h, b, r) refl) (λ t. rw (t.0, b, merged-relisted Children p us vs cs h, r) refl) (eqb_tells p c.identity)
 
-pub filled-relisted : (part : Part) (p : ℕ) (us vs ts : Trees) → all_filled us ≡ all_filled vs → all_filled (relisted part p us ts) ≡ all_filled (relisted part p vs ts)
+filled-relisted : (part : Part) (p : ℕ) (us vs ts : Trees) → all_filled us ≡ all_filled vs → all_filled (relisted part p us ts) ≡ all_filled (relisted part p vs ts)
 filled-relisted part p us vs no_trees h = refl
 filled-relisted Attributes p us vs (tree c bs cs rest) h =
     let d = filled-relisted Attributes p us vs cs h in
@@ -92,4 +93,27 @@ filled-relisted Attributes p us vs (tree c bs cs rest) h =
 filled-relisted Children p us vs (tree c bs cs rest) h =
     let b = filled-relisted Children p us vs bs h in
     let r = filled-relisted Children p us vs rest h in
+    ⊎_elim (λ t. rw (t.0, h, b, r) refl) (λ t. rw (t.0, b, filled-relisted Children p us vs cs h, r) refl) (eqb_tells p c.identity)
+
+-- the same below the roots
+pub merged-below-relisted : (part : Part) (p : ℕ) (us vs ts : Trees) → all_merged us ≡ all_merged vs → merged_below (relisted part p us ts) ≡ merged_below (relisted part p vs ts)
+merged-below-relisted part p us vs no_trees h = refl
+merged-below-relisted Attributes p us vs (tree c bs cs rest) h =
+    let d = merged-relisted Attributes p us vs cs h in
+    let r = merged-below-relisted Attributes p us vs rest h in
+    ⊎_elim (λ t. rw (t.0, h, d, r) refl) (λ t. rw (t.0, merged-relisted Attributes p us vs bs h, d, r) refl) (eqb_tells p c.identity)
+merged-below-relisted Children p us vs (tree c bs cs rest) h =
+    let b = merged-relisted Children p us vs bs h in
+    let r = merged-below-relisted Children p us vs rest h in
+    ⊎_elim (λ t. rw (t.0, h, b, r) refl) (λ t. rw (t.0, b, merged-relisted Children p us vs cs h, r) refl) (eqb_tells p c.identity)
+
+pub filled-below-relisted : (part : Part) (p : ℕ) (us vs ts : Trees) → all_filled us ≡ all_filled vs → filled_below (relisted part p us ts) ≡ filled_below (relisted part p vs ts)
+filled-below-relisted part p us vs no_trees h = refl
+filled-below-relisted Attributes p us vs (tree c bs cs rest) h =
+    let d = filled-relisted Attributes p us vs cs h in
+    let r = filled-below-relisted Attributes p us vs rest h in
+    ⊎_elim (λ t. rw (t.0, h, d, r) refl) (λ t. rw (t.0, filled-relisted Attributes p us vs bs h, d, r) refl) (eqb_tells p c.identity)
+filled-below-relisted Children p us vs (tree c bs cs rest) h =
+    let b = filled-relisted Children p us vs bs h in
+    let r = filled-below-relisted Children p us vs rest h in
     ⊎_elim (λ t. rw (t.0, h, b, r) refl) (λ t. rw (t.0, b, filled-relisted Children p us vs cs h, r) refl) (eqb_tells p c.identity)

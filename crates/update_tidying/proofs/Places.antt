@@ -1,65 +1,28 @@
 -- Where a text stands: below a parent, at a place of one of its lists.
 use Prim.Native.Nat.{zero, suc}
-use Rattle.std.proofs.Common.{◌≡◌, ◌==◌, ℕ, ◌<◌, true, false, List, [], ◌∷◌, length, get_or, refl, ap, sym, ◌∙◌, arith, ⊎_elim, ◌⊎◌, inl, inr, Option, Some, None}
+use Rattle.std.proofs.Common.{◌≡◌, ◌==◌, ℕ, ◌<◌, true, false, List, [], ◌∷◌, length, get_or, refl, ap, sym, ◌∙◌, arith, ⊎_elim, inr, Option, Some, None}
 use Rattle.std.specs.List.{slice_get, position, position_or_len}
 use Rattle.std.specs.Option.{MatchOption}
 use Rattle.std.proofs.lemmas.Bool.{eqb-true, lt-ltb}
 use Rattle.std.proofs.lemmas.Bool.Decides.{eqb_tells}
 use Rattle.std.proofs.lemmas.List.Quantifiers.{position-Some}
 use Rattle.data_model.specs.Axes.{is_in}
-use Rattle.data_model.specs.Tidy.{is_document}
-use Rattle.data_model.specs.Trees.{Trees, no_trees, tree, Place, first, find, find_below, parent_at, children_of, attributes_of, is_text}
+use Rattle.data_model.specs.Trees.{Trees, Place, find, parent_at, children_of, attributes_of, is_text}
 use Rattle.data_model.specs.Views.{Views}
-use Rattle.data_model.specs.declared.node.Kind.{Kind}
-use Rattle.data_model.specs.declared.node.Kind.TheVariants.{Document, Element, Attribute, Text, Comment, Instruction}
 use Rattle.data_model.specs.declared.node.NodeView.{NodeView}
 use Rattle.data_model.proofs.Climbs.{AreDistinct}
 use Rattle.data_model.proofs.Firsts.{eqb-swap}
 use Rattle.data_model.proofs.Weights.{eqb-same}
 use Rattle.node_table.proofs.Axes.{parent-lists}
-use Rattle.update_meaning.specs.Results.{are_documents}
-use Rattle.update_meaning.proofs.Booleans.{and-left, and-right}
-use Rattle.update_tidying.specs.Texts.{is_text_at, IsTextBelow}
-
--- ---- a root is a document
-first-cases : (a b : Option Place) (x : Place) → first a b ≡ Some x → (a ≡ Some x) ⊎ (b ≡ Some x)
-first-cases None b x h = inr h
-first-cases (Some y) b x h = inl h
-
-inner-parent : (p i : ℕ) (ts : Trees) (x : Place) → find_below (Some p) i ts ≡ Some x → x.parent ≡ None → ⊥
-inner-parent p i no_trees x h none = cc
-inner-parent p i (tree c bs cs rest) x h none =
-    ⊎_elim (λ t. (let y = rw t.0 at h in let z : x.parent ≡ Some p = cc in let n : None ≡ Some p = sym none ∙ z in cc))
-    (λ t. (let y = rw t.0 at h in
-    ⊎_elim (λ a. inner-parent c.identity i bs x a none)
-    (λ b. ⊎_elim (λ a. inner-parent c.identity i cs x a none) (λ a. inner-parent p i rest x a none) (first-cases (find_below (Some c.identity) i cs) (find_below (Some p) i rest) x b))
-    (first-cases (find_below (Some c.identity) i bs) (first (find_below (Some c.identity) i cs) (find_below (Some p) i rest)) x y))) (eqb_tells i c.identity)
-
-root-document : (i : ℕ) (ts : Trees) (x : Place) → are_documents ts ≡ true → find i ts ≡ Some x → x.parent ≡ None → is_document x.content.kind ≡ true
-root-document i no_trees x d h none = cc
-root-document i (tree c bs cs rest) x d h none =
-    ⊎_elim (λ t. (let y = rw t.0 at h in let z : c.kind ≡ x.content.kind = cc in ap is_document (sym z) ∙ and-left (is_document c.kind) (are_documents rest) d))
-    (λ t. (let y = rw t.0 at h in
-    ⊎_elim (λ a. absurd (inner-parent c.identity i bs x a none))
-    (λ b. ⊎_elim (λ a. absurd (inner-parent c.identity i cs x a none)) (λ a. root-document i rest x (and-right (is_document c.kind) (are_documents rest) d) a none) (first-cases (find_below (Some c.identity) i cs) (find_below None i rest) x b))
-    (first-cases (find_below (Some c.identity) i bs) (first (find_below (Some c.identity) i cs) (find_below None i rest)) x y))) (eqb_tells i c.identity)
-
-no-document-text : (k : Kind) → is_document k ≡ true → is_text k ≡ false
-no-document-text Document h = refl
-no-document-text Element h = refl
-no-document-text Attribute h = refl
-no-document-text Text h = cc
-no-document-text Comment h = refl
-no-document-text Instruction h = refl
+use Rattle.update_tidying.specs.Texts.{is_text_at, IsNoTextBelow, IsTextBelow}
 
 -- a text, of which one look-up reads its parent
-pub text-below : (i : ℕ) (ts : Trees) (v : NodeView) → are_documents ts ≡ true → Views (Some v) (find i ts) → is_text v.kind ≡ true → MatchOption v.parent (is_text_at (find i ts) ≡ false) (λ p. IsTextBelow p i ts)
-text-below i ts v d view text = by (find i ts) v.parent refl refl view
+pub text-below : (i : ℕ) (ts : Trees) (v : NodeView) → Views (Some v) (find i ts) → is_text v.kind ≡ true → MatchOption v.parent (IsNoTextBelow i ts) (λ p. IsTextBelow p i ts)
+text-below i ts v view text = by (find i ts) v.parent refl refl view
   where
-    by : (o : Option Place) (q : Option ℕ) → find i ts ≡ o → v.parent ≡ q → Views (Some v) o → MatchOption q (is_text_at (find i ts) ≡ false) (λ p. IsTextBelow p i ts)
+    by : (o : Option Place) (q : Option ℕ) → find i ts ≡ o → v.parent ≡ q → Views (Some v) o → MatchOption q (IsNoTextBelow i ts) (λ p. IsTextBelow p i ts)
     by None q e f view = absurd view
-    by (Some x) None e f view =
-        ap is_text_at e ∙ no-document-text x.content.kind (root-document i ts x d e (sym view.parent ∙ f))
+    by (Some x) None e f view = inr (ap parent_at e ∙ sym view.parent ∙ f)
     by (Some x) (Some p) e f view = record { text = ap is_text_at e ∙ ap is_text (sym view.kind) ∙ text; parent = ap parent_at e ∙ sym view.parent ∙ f }
 
 pub no-text : (i : ℕ) (ts : Trees) (v : NodeView) → Views (Some v) (find i ts) → is_text v.kind ≡ false → is_text_at (find i ts) ≡ false

@@ -16,13 +16,12 @@ use Rattle.node_table.proofs.Relists.{relisted, emptied, weigh-relisted}
 use Rattle.node_table.proofs.Tables.{Holds-same}
 use Rattle.node_plans.specs.Splices.{first_of, rest_of, spliced}
 use Rattle.node_plans.proofs.Sites.{Site, site, weigh-cut, roots-rest, Holds-rest}
-use Rattle.update_meaning.specs.Results.{all_merged, all_filled}
 use Rattle.tracked_drafts.proofs.Tests.{first-rest}
 use Rattle.tracked_drafts.specs.Tests.{all_but, is_apart, is_filled}
 use Rattle.pending.specs.Texts.{is_empty_text}
 use Rattle.update_tidying.proofs.Leading.{leading, leading_text}
-use Rattle.update_tidying.specs.Texts.{is_text_at, text_at, first_texts, texts_of}
-use Rattle.update_tidying.proofs.Merges.{more, leading-ends, merged-leading, merged-append, merged-relisted, filled-append, filled-relisted, filled-without, rest-zero}
+use Rattle.update_tidying.specs.Texts.{is_text_at, text_at, first_texts, texts_of, merged_below, filled_below}
+use Rattle.update_tidying.proofs.Merges.{more, leading-ends, merged-leading, merged-append, merged-below-relisted, filled-append, filled-below-relisted, filled-without, rest-zero}
 use Rattle.update_tidying.proofs.Alls.{but-relisted, but-merged, but-left}
 use Rattle.update_tidying.proofs.Cuts.{cut-after, cut-at, content-relisted, content-at, part-same, get-drop, get-within}
 
@@ -106,7 +105,7 @@ pub record Merged (part : Part) (p k i : ℕ) (ts : Trees) : Type 0 where
   pub parent : IsSome (find p ts)
   pub within : suc k + followers part p k ts ≤ length (part_of part p ts)
   pub stays : IsSome (find i (without_followers part p k ts))
-  pub same : all_merged (with_followers part p k i ts) ≡ all_merged ts
+  pub same : merged_below (with_followers part p k i ts) ≡ merged_below ts
   pub apart : (is : List ℕ) → all_but (i ∷ is) is_apart 0 ts ≡ true → all_but is is_apart 0 (with_followers part p k i ts) ≡ true
   pub alone : followers part p k ts ≡ 0 → (is : List ℕ) → all_but (i ∷ is) is_apart 0 ts ≡ true → all_but is is_apart 0 ts ≡ true
 
@@ -114,7 +113,7 @@ pub record Merged (part : Part) (p k i : ℕ) (ts : Trees) : Type 0 where
 pub record Left (part : Part) (p k i : ℕ) (ts : Trees) : Type 0 where
   pub parent : IsSome (find p ts)
   pub within : suc k ≤ length (part_of part p ts)
-  pub same : all_filled (with_part part p (spliced k (suc k) no_trees) ts) ≡ all_filled ts
+  pub same : filled_below (with_part part p (spliced k (suc k) no_trees) ts) ≡ filled_below ts
   pub filled : (is : List ℕ) → all_but (i ∷ is) is_filled 0 ts ≡ true → all_but is is_filled 0 (with_part part p (spliced k (suc k) no_trees) ts) ≡ true
 
 parent-there : (part : Part) (p k i : ℕ) (ts : Trees) → slice_get (part_of part p ts) k ≡ Some i → IsSome (find p ts)
@@ -253,7 +252,7 @@ module _ (part : Part) (p k i : ℕ) (ts : Trees) (d : AreDistinct ts) (h : slic
     parent = there;
     within = (let few = leading-within rs in let e = n-is in let l = ap length after-here in let m = get-within k i ids h in omega arith);
     stays = stays;
-    same = ap all_merged after-is ∙ merged-relisted part p vs (append xs (tree c bs cs rs)) ts (merged-append xs (tree (more c (leading_text rs)) bs cs (rest_of (leading rs) rs)) (tree c bs cs rs) (merged-leading c bs cs rs text)) ∙ sym (ap all_merged trees-are);
+    same = ap merged_below after-is ∙ merged-below-relisted part p vs (append xs (tree c bs cs rs)) ts (merged-append xs (tree (more c (leading_text rs)) bs cs (rest_of (leading rs) rs)) (tree c bs cs rs) (merged-leading c bs cs rs text)) ∙ sym (ap merged_below trees-are);
     apart = λ is a. (let P : Trees → Type 0 = λ t. all_but is is_apart 0 t ≡ true in subst P (sym after-is) (apart-then is a));
     alone = λ z is a. (let P : Trees → Type 0 = λ t. all_but is is_apart 0 t ≡ true in subst P (vs-alone z) (apart-then is a));
   }
@@ -272,7 +271,7 @@ module _ (part : Part) (p k i : ℕ) (ts : Trees) (d : AreDistinct ts) (h : slic
   left-here empty = record {
     parent = there;
     within = (let m = get-within k i ids h in omega arith);
-    same = ap all_filled gone-is ∙ filled-relisted part p (append xs rs) (append xs (tree c bs cs rs)) ts (filled-append xs rs (tree c bs cs rs) (sym (filled-without c bs cs rs empty))) ∙ sym (ap all_filled trees-are);
+    same = ap filled_below gone-is ∙ filled-below-relisted part p (append xs rs) (append xs (tree c bs cs rs)) ts (filled-append xs rs (tree c bs cs rs) (sym (filled-without c bs cs rs empty))) ∙ sym (ap filled_below trees-are);
     filled = λ is a. (
         let P : Trees → Type 0 = λ t. all_but is is_filled 0 t ≡ true in
         let Q : Trees → Type 0 = λ t. all_but (c.identity ∷ is) is_filled 0 t ≡ true in

@@ -3,8 +3,7 @@
 ghost use Rattle.std.specs.Prelude.{◌≡◌, [], OnOk, bytes_eq};
 ghost use Rattle.data_model.specs.Trees.{find};
 ghost use Rattle.tracked_drafts.specs.Tests.{Begins};
-ghost use Rattle.update_meaning.specs.Results.{all_filled};
-ghost use Rattle.update_tidying.specs.Texts.{text_at, IsTextAt, Empties};
+ghost use Rattle.update_tidying.specs.Texts.{filled_below, text_at, IsNoTextBelow, IsTextAt, Empties};
 
 use super::site::{Site, site_of};
 use data_model::NodeId;
@@ -21,7 +20,7 @@ fn is_empty(draft: &TrackedDraft, id: NodeId) -> bool
     }
 }
 
-/// Takes out a node, where it is a text that says nothing.
+/// Takes out a node, where it is a text below another node that says nothing.
 fn empty(draft: &mut TrackedDraft, alloc: Global, id: NodeId) -> Result<(), AllocError>
     ensures empties { OnOk result (Empties id draft.old.draft.after draft.new.draft.after) }
     ensures same { draft.new.draft ≡ record draft.old.draft { after = draft.new.draft.after } }
@@ -37,9 +36,9 @@ fn empty(draft: &mut TrackedDraft, alloc: Global, id: NodeId) -> Result<(), Allo
     }
 }
 
-/// Takes out empty texts, wherever nodes were touched. Where memory is refused, the draft is left half tidied.
+/// Takes out empty texts below the roots, wherever nodes were touched. Where memory is refused, the draft is left half tidied.
 pub(super) fn empty_all(draft: &mut TrackedDraft, alloc: Global) -> Result<(), AllocError>
-    ensures filled { OnOk result (draft.new.draft ≡ record draft.old.draft { after = all_filled draft.old.draft.after }) }
+    ensures filled { OnOk result (draft.new.draft ≡ record draft.old.draft { after = filled_below draft.old.draft.after }) }
     ensures same { draft.new.draft ≡ record draft.old.draft { after = draft.new.draft.after } }
 {
     draft.facts();

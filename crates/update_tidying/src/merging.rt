@@ -3,8 +3,7 @@
 ghost use Rattle.std.specs.Prelude.{◌≡◌, ℕ, [], ◌∷◌, true, IfOk, OnOk, string_bytes};
 ghost use Rattle.data_model.specs.Trees.{find};
 ghost use Rattle.tracked_drafts.specs.Tests.{Begins};
-ghost use Rattle.update_meaning.specs.Results.{all_merged};
-ghost use Rattle.update_tidying.specs.Texts.{first_texts, texts_of, IsTextAt, Merges};
+ghost use Rattle.update_tidying.specs.Texts.{first_texts, merged_below, texts_of, IsNoTextBelow, IsTextAt, Merges};
 
 use super::site::{Site, is_text, siblings, site_of};
 use data_model::NodeId;
@@ -62,7 +61,7 @@ fn merge_at(
     draft.set_text(id, text)
 }
 
-/// Merges the texts that come right after a node into it, where it is a text.
+/// Merges the texts that come right after a node into it, where it is a text below another node.
 fn merge(draft: &mut TrackedDraft, alloc: Global, id: NodeId) -> Result<(), AllocError>
     ensures merges { OnOk result (Merges id draft.old.draft.after draft.new.draft.after) }
     ensures same { draft.new.draft ≡ record draft.old.draft { after = draft.new.draft.after } }
@@ -75,9 +74,9 @@ fn merge(draft: &mut TrackedDraft, alloc: Global, id: NodeId) -> Result<(), Allo
     }
 }
 
-/// Merges adjacent texts, wherever nodes were touched. Where memory is refused, the draft is left half tidied.
+/// Merges adjacent texts below the roots, wherever nodes were touched. Where memory is refused, the draft is left half tidied.
 pub(super) fn merge_all(draft: &mut TrackedDraft, alloc: Global) -> Result<(), AllocError>
-    ensures merged { OnOk result (draft.new.draft ≡ record draft.old.draft { after = all_merged draft.old.draft.after }) }
+    ensures merged { OnOk result (draft.new.draft ≡ record draft.old.draft { after = merged_below draft.old.draft.after }) }
     ensures same { draft.new.draft ≡ record draft.old.draft { after = draft.new.draft.after } }
 {
     draft.facts();

@@ -4,7 +4,7 @@ ghost use Rattle.std.specs.Prelude.{◌≡◌, ◌==◌, true, false, Some, Matc
 ghost use Rattle.std.specs.List.{position};
 ghost use Rattle.data_model.specs.Changes.{part_of};
 ghost use Rattle.data_model.specs.Trees.{find, parent_of};
-ghost use Rattle.update_tidying.specs.Texts.{is_text_at, IsTextAt, IsTextBelow};
+ghost use Rattle.update_tidying.specs.Texts.{is_text_at, IsNoTextBelow, IsTextAt, IsTextBelow};
 
 use data_model::{NodeId, Part};
 use tracked_drafts::TrackedDraft;
@@ -50,9 +50,9 @@ fn position(ids: &[NodeId], id: NodeId) -> Option<usize>
     ids.iter().position(|it| *it == id)
 }
 
-/// The parent of a text. What is no text has none here; each text has one, since the roots are documents.
+/// The parent of a text, if it has one. What is no text has none here.
 fn parent_of_text(draft: &TrackedDraft, id: NodeId) -> Option<NodeId>
-    ensures { MatchOption result (is_text_at (find id draft.now.draft.after) ≡ false) (λ p. IsTextBelow p id draft.now.draft.after) }
+    ensures { MatchOption result (IsNoTextBelow id draft.now.draft.after) (λ p. IsTextBelow p id draft.now.draft.after) }
 {
     draft.facts();
     match draft.node(id) {
@@ -61,9 +61,9 @@ fn parent_of_text(draft: &TrackedDraft, id: NodeId) -> Option<NodeId>
     }
 }
 
-/// Where a text stands below its parent; `None` for what is no text.
+/// Where a text stands below its parent; `None` for what is no text, and for a text that has none.
 pub(super) fn site_of(draft: &TrackedDraft, id: NodeId) -> Option<Site>
-    ensures { MatchOption result (is_text_at (find id draft.now.draft.after) ≡ false) (λ site. IsTextAt site id draft.now.draft.after) }
+    ensures { MatchOption result (IsNoTextBelow id draft.now.draft.after) (λ site. IsTextAt site id draft.now.draft.after) }
 {
     draft.facts();
     let Some(parent) = parent_of_text(draft, id) else {

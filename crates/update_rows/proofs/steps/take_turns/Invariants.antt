@@ -1,4 +1,4 @@
-use Rattle.update_rows.specs.Ready.{IsReady}
+use Rattle.update_words.specs.Ready.{IsReady}
 use Rattle.update_rows.proofs.steps.take_turns.Given as goal
 
 abbrev pub invariant-loop-turn : goal.invariant-loop-turn

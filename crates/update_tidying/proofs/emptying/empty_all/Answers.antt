@@ -3,8 +3,8 @@ use Rattle.std.proofs.Math.ListN.{drop_of_length-le}
 use Rattle.data_model.specs.Trees.{Trees}
 use Rattle.tracked_drafts.specs.Tests.{all_but, is_filled}
 use Rattle.tracked_drafts.proofs.Marks.{begins-trans}
-use Rattle.trees.specs.Drafts.{DraftTerm}
-use Rattle.update_tidying.proofs.Alls.{filled-all}
+use Rattle.chosen_drafts.specs.Terms.{ChosenTerm}
+use Rattle.update_tidying.proofs.Alls.{filled-all-below}
 use Rattle.update_tidying.proofs.Calls.{touched-next}
 use Rattle.update_tidying.proofs.emptying.empty_all.Goals as goal
 
@@ -16,7 +16,7 @@ loop-at-preserved c =
     let turn : c.loop-at.at < c.touched_len-at-end.result = c.loop-at-test.true in
     let next = touched-next start c.loop-at.draft.touched c.loop-at.at c.in-Some.id was.touched (omega arith) (sym c.in-Some.ensures) in
     let left : List ℕ → Type 0 = λ is. all_but is is_filled 0 c.loop-at.draft.draft.after ≡ true in
-    let after : DraftTerm → DraftTerm = λ d. record d { after = c.empty.new.draft.draft.after } in
+    let after : ChosenTerm → ChosenTerm = λ d. record d { after = c.empty.new.draft.draft.after } in
     let step = c.in_ok-empty.ensures in
     record {
       end = was.end;
@@ -34,5 +34,5 @@ returns-clause-filled c =
     let turned : c.touched_len-at-end.result ≤ c.loop-at.at = c.loop-at-test.false in
     let left : List ℕ → Type 0 = λ is. all_but is is_filled 0 c.loop-at.draft.draft.after ≡ true in
     let none = subst left (drop_of_length-le start (omega arith)) was.others in
-    let after : Trees → DraftTerm = λ t. record c.args.draft.now.draft { after = t } in
-    was.same ∙ ap after (sym (filled-all 0 c.loop-at.draft.draft.after none) ∙ was.filled)
+    let after : Trees → ChosenTerm = λ t. record c.args.draft.now.draft { after = t } in
+    was.same ∙ ap after (sym (filled-all-below c.loop-at.draft.draft.after none) ∙ was.filled)

@@ -1,7 +1,7 @@
 use Rattle.std.proofs.Common.{◌<◌, ◌^◌, length, ap, sym, arith, IsSome, subst}
 use Rattle.data_model.specs.Trees.{Trees, find}
 use Rattle.node_plans.proofs.Results.{on-ok}
-use Rattle.trees.specs.Drafts.{DraftTerm}
+use Rattle.chosen_drafts.specs.Terms.{ChosenTerm}
 use Rattle.update_tidying.proofs.Calls.{none-added, takes, says-so}
 use Rattle.update_tidying.proofs.merging.merge_at.Goals as goal
 
@@ -29,7 +29,7 @@ splice-requires-clause-distinct c = none-added c.args.draft.now.draft.after c.fa
 pub set_text-requires : goal.set_text-requires
 set_text-requires c =
     let t = takes c.args.site c.args.id c.first_texts.result c.siblings-ids.result.now c.args.draft.now.draft.after c.facts.ensures.distinct c.requires c.siblings-ids.ensures c.first_texts.ensures in
-    let P : DraftTerm → Type 0 = λ d. IsSome (find c.args.id d.after) in
+    let P : ChosenTerm → Type 0 = λ d. IsSome (find c.args.id d.after) in
     let e = c.in_ok-splice.ensures in
     subst P (sym e.spliced) t.stays
 
@@ -37,6 +37,6 @@ pub returns-clause-merges : goal.returns-clause-merges
 returns-clause-merges c =
     let t = takes c.args.site c.args.id c.first_texts.result c.siblings-ids.result.now c.args.draft.now.draft.after c.facts.ensures.distinct c.requires c.siblings-ids.ensures c.first_texts.ensures in
     let e = c.in_ok-splice.ensures in
-    let after : DraftTerm → Trees = λ d. d.after in
+    let after : ChosenTerm → Trees = λ d. d.after in
     on-ok c.set_text.result _ _ c.set_text.ensures.set
     (λ is. says-so c.args.id c.args.draft.now.draft.after c.splice.new.self.draft.after _ c.set_text.new.self.draft.after _ _ c.in_ok-text.ensures (ap after e.spliced) t.merges (ap after is))

@@ -3,4 +3,4 @@ use Rattle.update_tidying.proofs.Places.{text-below}
 use Rattle.update_tidying.proofs.site.parent_of_text.Goals as goal
 
 pub returns-in-Some : goal.returns-in-Some
-returns-in-Some c = text-below c.args.id c.args.draft.now.draft.after c.in-Some.view c.facts.ensures.stored.documents c.in-Some.ensures (sym c.is_text.ensures ∙ c.if-is_text.true)
+returns-in-Some c = text-below c.args.id c.args.draft.now.draft.after c.in-Some.view c.in-Some.ensures (sym c.is_text.ensures ∙ c.if-is_text.true)

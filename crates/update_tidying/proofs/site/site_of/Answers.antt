@@ -1,4 +1,4 @@
-use Rattle.std.proofs.Common.{◌==◌, ℕ, ◌<◌, ◌^◌, List, length, ap, sym, ◌∙◌, arith}
+use Rattle.std.proofs.Common.{inl, ◌==◌, ℕ, ◌<◌, ◌^◌, List, length, ap, sym, ◌∙◌, arith}
 use Rattle.std.specs.List.{slice_get, position}
 use Rattle.update_tidying.proofs.Places.{place-found, text-listed}
 use Rattle.update_tidying.proofs.site.site_of.Goals as goal
@@ -21,6 +21,6 @@ returns-in-Some-position-2 c =
 
 pub returns-in-None : goal.returns-in-None
 returns-in-None c =
-    text-listed c.in-Some.parent c.args.id c.args.draft.now.draft.after c.facts.ensures.distinct c.in-Some.ensures
+    inl (text-listed c.in-Some.parent c.args.id c.args.draft.now.draft.after c.facts.ensures.distinct c.in-Some.ensures
     (ap (λ (xs : List ℕ). position (λ j. j == c.args.id) xs) (sym c.siblings.ensures) ∙ sym c.in_default-position.ensures)
-    (ap (λ (xs : List ℕ). position (λ j. j == c.args.id) xs) (sym c.siblings-2.ensures) ∙ sym c.in-None.ensures)
+    (ap (λ (xs : List ℕ). position (λ j. j == c.args.id) xs) (sym c.siblings-2.ensures) ∙ sym c.in-None.ensures))

@@ -1,4 +1,0 @@
-use Rattle.update_rows.proofs.printed.+push_nodes.Given as goal
-
-abbrev pub decreases-push_nodes : goal.decreases-push_nodes
-decreases-push_nodes l = l.levels

@@ -1,0 +1,4 @@
+use Rattle.update_words.proofs.printed.+push_nodes.Given as goal
+
+abbrev pub decreases-push_nodes : goal.decreases-push_nodes
+decreases-push_nodes l = l.levels
