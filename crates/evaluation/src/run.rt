@@ -1,9 +1,10 @@
 //! What an evaluation has come to.
 
-ghost use Rattle.std.specs.Prelude.{◌≡◌, ◌≤◌, ◌<◌, ◌^◌, ◌-◌, ℕ, Ok, Err, IfOk, IfErr, OnOk, OnErr, map};
+ghost use Rattle.std.specs.Prelude.{◌≡◌, ◌≤◌, ◌<◌, ◌^◌, ◌-◌, ℕ, [], Ok, Err, IfOk, IfErr, OnOk, OnErr, map};
 ghost use Rattle.data_model.specs.Tree.{trees_of_tree};
-ghost use Rattle.data_model.specs.Trees.{count};
+ghost use Rattle.data_model.specs.Trees.{count, no_trees};
 ghost use Rattle.pending.specs.Primitives.{primitive_term};
+ghost use Rattle.shelves.specs.Shelf.{ComesAfter};
 ghost use Rattle.values.specs.Atoms.{atomized};
 ghost use Rattle.values.specs.Comparisons.{general_compared, pairs_compared, tried};
 ghost use Rattle.query_meaning.specs.Meaning.{start};
@@ -15,6 +16,7 @@ use pending::{ListFault, PendingList, Primitive};
 use shelves::Shelf;
 use std::alloc::{AllocError, Global};
 use std::marker::Model;
+use std::mem;
 use trees::{Forest, NodeId, Tree};
 use values::{Atom, Code, Comparison, ValueFault, atomize, compare_general};
 
@@ -130,6 +132,38 @@ impl<'a> Evaluation<'a> {
     {
         let Evaluation { primitives, .. } = self;
         primitives
+    }
+
+    /// Takes the primitives out, in the order in which they were added, and leaves none. It takes no memory.
+    pub fn take_primitives(&mut self) -> PendingList
+        ensures taken { map primitive_term result ≡ self.old.primitives }
+        ensures left { self.new ≡ record self.old { primitives = [] } }
+    {
+        let none = PendingList::new(self.alloc);
+        mem::replace(&mut self.primitives, none)
+    }
+
+    /// Puts other primitives in the place of these, which are dropped.
+    pub fn put_primitives(&mut self, primitives: PendingList)
+        ensures { self.new ≡ record self.old { primitives = map primitive_term primitives } }
+    {
+        self.primitives = primitives;
+    }
+
+    /// Takes the trees out that were made, and leaves none: the next node takes the identity that was next. It takes no memory.
+    pub fn take_own(&mut self) -> Forest
+        ensures taken { result ≡ self.old.shelf.own }
+        ensures left { self.new ≡ record self.old { shelf = record self.old.shelf { own = record { trees = no_trees; documents = []; next = self.old.shelf.own.next } } } }
+    {
+        self.shelf.take_own(self.alloc)
+    }
+
+    /// Puts other trees in the place of those that were made, which are dropped.
+    pub fn put_own(&mut self, own: Forest)
+        requires { ComesAfter self.old.shelf.lent own }
+        ensures { self.new ≡ record self.old { shelf = record self.old.shelf { own = own } } }
+    {
+        self.shelf.put_own(own);
     }
 
     /// So many new nodes: they take the next identities, of which it gives the first. Code: PXQ0003 where the evaluation would have

@@ -10,11 +10,12 @@ ghost use Rattle.data_model.specs.Order.{identities, precedes};
 ghost use Rattle.data_model.specs.Views.{Views};
 ghost use Rattle.data_model.specs.Axes.{is_in};
 ghost use Rattle.trees.specs.Forest.{IsDocument};
-ghost use Rattle.shelves.specs.Shelf.{ShelfTerm, shelf_trees, IsShelf};
+ghost use Rattle.shelves.specs.Shelf.{ShelfTerm, shelf_trees, ComesAfter, IsShelf};
 ghost use Rattle.data_model.specs.Tree.{trees_of_tree};
 
 use std::alloc::{AllocError, Global};
 use std::marker::Model;
+use std::mem;
 use trees::{Forest, Kind, MakeFault, NodeId, NodeView, Tree};
 
 /// A lent forest that stays as it is, and an own forest of the nodes that are made beside it, seen as one.
@@ -62,6 +63,25 @@ impl<'a> Shelf<'a> {
     {
         let Shelf { own, .. } = self;
         own
+    }
+
+    /// Takes the own forest out, and leaves one with no nodes in its place, whose first node takes the identity that was next. It takes no
+    /// memory.
+    pub fn take_own(&mut self, alloc: Global) -> Forest
+        ensures taken { result ≡ self.old.own }
+        ensures left { self.new ≡ record self.old { own = record { trees = no_trees; documents = []; next = self.old.own.next } } }
+    {
+        self.own.bounds();
+        let empty = Forest::empty(alloc, self.own.next());
+        mem::replace(&mut self.own, empty)
+    }
+
+    /// Puts another own forest in the place of this one, which is dropped.
+    pub fn put_own(&mut self, own: Forest)
+        requires { ComesAfter self.old.lent own }
+        ensures { self.new ≡ record self.old { own = own } }
+    {
+        self.own = own;
     }
 
     /// Identities are distinct and below the next one, both forests are sound, and the own identities come after the lent ones. It does nothing.
