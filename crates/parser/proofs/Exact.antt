@@ -1,7 +1,7 @@
 -- What the passes give is the expression of a text.
 use Rattle.std.proofs.Common.{◌≡◌, ℕ, Bool, true, false, ◌||◌, if◌then◌else◌, List, [], Option, Some, None, Result, Ok, Err, IfOk, refl, ap, subst, sym, ◌∙◌}
 use Rattle.fault_codes.specs.declared.code.Code.{Code}
-use Rattle.fault_codes.specs.declared.code.Code.TheVariants.{XPST0008, XPST0017, XUST0001, XQST0089, PXQ0001}
+use Rattle.fault_codes.specs.declared.code.Code.TheVariants.{XPST0008, XPST0017, XQST0089, PXQ0001}
 use Rattle.query_tokens.specs.declared.fault.ParseFault.{ParseFault}
 use Rattle.query_tokens.specs.declared.token.Token.{Token}
 use Rattle.query_tokens.specs.Lexing.{tokens}
@@ -13,8 +13,9 @@ use Rattle.query_grammar.proofs.Sound.{sound_query}
 use Rattle.static_checks.specs.Brackets.{nests_too_deep}
 use Rattle.static_checks.specs.Functions.{has_unknown_call}
 use Rattle.static_checks.specs.Variables.{binds_a_name_twice, has_unbound}
-use Rattle.static_checks.specs.Categories.{judged}
-use Rattle.static_checks.specs.Static.{HasNoFault, IsAnswer, IsExpression, checked, of_grammar, of_read, of_tokens, parsed}
+use Rattle.static_checks.specs.Categories.{is_faulty, judged}
+use Rattle.static_checks.specs.Static.{HasNoFault, IsAnswer, IsExpression, checked, of_grammar, of_read, of_tokens, parsed, unless_fault}
+use Rattle.static_checks.proofs.Faults.{none_is}
 use Rattle.parser.proofs.Whole.{whole}
 
 -- a test that finds nothing
@@ -24,6 +25,10 @@ passed b code r h = ap (λ t. if t then Err code else r) h
 found_nothing : (b : Bool) (code : Code) (r : Result Expr Code) (x : Expr) → (if b then Err code else r) ≡ Ok x → (b ≡ false) × (r ≡ Ok x)
 found_nothing true code r x h = absurd (let f : ⊥ = cc in f)
 found_nothing false code r x h = (refl, h)
+
+no_fault_found : (f : Option Code) (x y : Expr) → unless_fault f x ≡ Ok y → (f ≡ None) × ((let r : Result Expr Code = Ok x in r) ≡ Ok y)
+no_fault_found None x y h = (refl, h)
+no_fault_found (Some code) x y h = absurd (let f : ⊥ = cc in f)
 
 same_expression : (x y : Expr) → (let r : Result Expr Code = Ok x in r) ≡ Ok y → x ≡ y
 same_expression x y h = cc
@@ -35,7 +40,7 @@ faultless x h =
     passed (has_unknown_call x) XPST0017 _ h.functions
     ∙ (passed (binds_a_name_twice x) XQST0089 _ h.names
     ∙ (passed (has_unbound x []) XPST0008 _ h.variables
-    ∙ passed (judged x).is_misplaced XUST0001 _ h.categories))
+    ∙ ap (λ f. unless_fault f x) h.categories))
 
 none_of : (a b c m : Bool) → false ≡ a || (b || (c || m)) → (a ≡ false) × ((b ≡ false) × ((c ≡ false) × (m ≡ false)))
 none_of true b c m h = absurd (let f : ⊥ = cc in f)
@@ -44,10 +49,10 @@ none_of false false true m h = absurd (let f : ⊥ = cc in f)
 none_of false false false m h = (refl, (refl, (refl, sym h)))
 
 -- where one walk finds no fault, no pass does
-pub no_fault : (x : Expr) → false ≡ has_unknown_call x || (binds_a_name_twice x || (has_unbound x [] || (judged x).is_misplaced)) → checked x ≡ Ok x
+pub no_fault : (x : Expr) → false ≡ has_unknown_call x || (binds_a_name_twice x || (has_unbound x [] || is_faulty (judged x))) → checked x ≡ Ok x
 no_fault x h =
-    let none = none_of (has_unknown_call x) (binds_a_name_twice x) (has_unbound x []) (judged x).is_misplaced h in
-    faultless x (record { functions = none.0; names = none.1.0; variables = none.1.1.0; categories = none.1.1.1 })
+    let none = none_of (has_unknown_call x) (binds_a_name_twice x) (has_unbound x []) (is_faulty (judged x)) h in
+    faultless x (record { functions = none.0; names = none.1.0; variables = none.1.1.0; categories = none_is (judged x).fault none.1.1.1 })
 
 pub complete : (level : ℕ) (text : List ℕ) (x : Expr) → IsExpression level text x → parsed level text ≡ Ok x
 complete level text x h =
@@ -63,7 +68,7 @@ in_checked x y h =
     let functions = found_nothing (has_unknown_call x) XPST0017 _ y h in
     let names = found_nothing (binds_a_name_twice x) XQST0089 _ y functions.1 in
     let variables = found_nothing (has_unbound x []) XPST0008 _ y names.1 in
-    let categories = found_nothing (judged x).is_misplaced XUST0001 _ y variables.1 in
+    let categories = no_fault_found (judged x).fault x y variables.1 in
     (same_expression x y categories.1, record { functions = functions.0; names = names.0; variables = variables.0; categories = categories.0 })
 
 in_grammar : (o : Option Expr) (x : Expr) → of_grammar o ≡ Ok x → (o ≡ Some x) × HasNoFault x

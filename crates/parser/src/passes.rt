@@ -9,8 +9,7 @@ use query_grammar::Expr;
 use query_rules::read_query;
 use query_tokens::{ParseFault, Tokens, read_tokens};
 use static_checks::{
-    binds_a_name_twice, has_fault, has_misplaced_update, has_unbound, has_unknown_call,
-    nests_too_deep,
+    binds_a_name_twice, category_fault, has_fault, has_unbound, has_unknown_call, nests_too_deep,
 };
 use std::alloc::Global;
 use values::Code;
@@ -28,10 +27,10 @@ fn check_in_turn(alloc: Global, x: &Expr) -> Result<(), ParseFault>
     if has_unbound(alloc, x)? {
         return Err(ParseFault::Static(Code::XPST0008));
     }
-    if has_misplaced_update(x) {
-        return Err(ParseFault::Static(Code::XUST0001));
+    match category_fault(x) {
+        Some(code) => Err(ParseFault::Static(code)),
+        None => Ok(()),
     }
-    Ok(())
 }
 
 /// The passes over an expression: in one walk, and then one after another only where there is a fault.
@@ -70,7 +69,7 @@ fn of_tokens(alloc: Global, level: u8, tokens: Tokens) -> Result<Expr, ParseFaul
 /// Faults are sought in passes over the whole text, and the first pass that finds one gives the code (XQuery 1.0, section 2.3.1,
 /// leaves the order open): tokens (`XPST0003`, `XQST0090`, `PXQ0002`), more than 200 open brackets (`PXQ0001`), the grammar (`XPST0003`),
 /// functions (`XPST0017`), names that one clause binds twice (`XQST0089`), variables that are not bound (`XPST0008`), updating
-/// expressions where none may stand (`XUST0001`). `Memory` says that memory was refused, and nothing of the text.
+/// expressions where none may stand (`XUST0001`) and copies that are changed by what gives items (`XUST0002`). `Memory` says that memory was refused, and nothing of the text.
 #[tactic(auto, using(crate::proofs::Exact::answered))]
 pub fn parse(alloc: Global, level: u8, text: &str) -> Result<Expr, ParseFault>
     ensures answer { IsAnswer (parsed level (chars text.now)) result }

@@ -4,6 +4,7 @@ use Rattle.std.specs.List.{list_any}
 use Rattle.data_model.specs.Trees.{Trees, no_trees, tree}
 use Rattle.data_model.specs.declared.node.Kind.{Kind as NodeKind}
 use Rattle.data_model.specs.declared.node.Kind.TheVariants as node
+use Rattle.fault_codes.specs.declared.code.Code.TheVariants.{XUST0001}
 use Rattle.query_grammar.specs.declared.functions.Function.{Function}
 use Rattle.query_grammar.specs.declared.functions.Function.TheVariants as function
 use Rattle.query_grammar.specs.Grammar.{of_list}
@@ -14,13 +15,14 @@ use Rattle.query_grammar.specs.declared.ast.Expr.TheVariants as e
 use Rattle.query_grammar.specs.declared.ast.Expr.TheViews.{the_lemmas}
 use Rattle.query_grammar.specs.declared.ast.Name.TheVariants.{Written}
 use Rattle.query_grammar.specs.declared.ast.Sign.TheVariants.{Minus}
-use Rattle.static_checks.specs.Categories.{Form, outside, Judged, judged, judged_form, form_of, is_updating, is_simple, may_not_stand, categories}
+use Rattle.static_checks.specs.Categories.{Form, outside, Judged, judged, judged_form, form_of, is_faulty, is_mixed, is_updating, is_simple, may_not_stand, categories}
 use Rattle.static_checks.specs.declared.categories.Category.TheVariants.{Updating, Vacuous, Simple}
 use Rattle.static_checks.specs.Functions.{is_unknown_call, has_unknown_call}
 use Rattle.static_checks.specs.Inside.{children}
 use Rattle.static_checks.specs.Parts.{Part, Scope, parts, under}
 use Rattle.static_checks.specs.Static.{HasNoFault}
 use Rattle.static_checks.specs.Variables.{has_twice_bound, binds_a_name_twice, is_unbound, has_unbound, unbound_step}
+use Rattle.static_checks.proofs.Faults.{faulty_form, none_is, some_when}
 use Rattle.static_checks.proofs.Folds.{parts_under}
 use Rattle.static_checks.proofs.Forms.{judged_out, map_form}
 use Rattle.static_checks.proofs.Here.{unknown_out, twice_out}
@@ -33,7 +35,7 @@ pub record IsPlain (x : Expr) : Type 0 where
   pub names : binds_a_name_twice x ≡ false
   pub variables : (bound : Scope) → has_unbound x bound ≡ false
   pub category : is_updating (judged x).category ≡ false
-  pub placed : (judged x).is_misplaced ≡ false
+  pub placed : is_faulty (judged x) ≡ false
 
 abbrev pub ArePlain : List Expr → Type 0
 ArePlain [] = Unit {0}
@@ -55,7 +57,7 @@ none_updates : (xs : List Expr) → ArePlain xs → list_any is_updating (catego
 none_updates [] h = refl
 none_updates (x ∷ xs) h = ap₂ (λ a b. a || b) h.0.category (none_updates xs h.1)
 
-none_misplaced : (xs : List Expr) → ArePlain xs → list_any (λ (j : Judged). j.is_misplaced) (map judged xs) ≡ false
+none_misplaced : (xs : List Expr) → ArePlain xs → list_any is_faulty (map judged xs) ≡ false
 none_misplaced [] h = refl
 none_misplaced (x ∷ xs) h = ap₂ (λ a b. a || b) h.0.placed (none_misplaced xs h.1)
 
@@ -68,8 +70,8 @@ abbrev giving : List Expr → Form Expr
 giving xs = outside (form_of {A = Expr} Expr-F.Context).own xs
 
 -- what is judged of it
-gives_items : (xs : List Expr) → ArePlain xs → (judged_form (map_form judged (giving xs))).is_misplaced ≡ false
-gives_items xs h = ap (λ b. b || false) (all_may_stand xs h)
+gives_items : (xs : List Expr) → ArePlain xs → is_faulty (judged_form (map_form judged (giving xs))) ≡ false
+gives_items xs h = faulty_form (map_form judged (giving xs)) ∙ ap (λ b. b || false) (all_may_stand xs h)
 
 abbrev of_results : List Expr → Form Expr
 of_results xs = form_of (Expr-F.Sequence xs)
@@ -81,8 +83,11 @@ sequence_updates xs h = ap (λ u. is_updating (cond u Updating (cond (list_any i
     either true = refl
     either false = refl
 
-sequence_placed : (xs : List Expr) → ArePlain xs → (judged_form (map_form judged (of_results xs))).is_misplaced ≡ false
-sequence_placed xs h = ap₂ (λ m u. m || (false || (u && list_any is_simple (categories (map judged xs))))) (none_misplaced xs h) (none_updates xs h)
+sequence_placed : (xs : List Expr) → ArePlain xs → is_faulty (judged_form (map_form judged (of_results xs))) ≡ false
+sequence_placed xs h =
+    let cs = categories (map judged xs) in
+    faulty_form (map_form judged (of_results xs))
+    ∙ ap₂ (λ m s. m || (false || s)) (none_misplaced xs h) (some_when (is_mixed cs) XUST0001 ∙ ap (λ u. u && list_any is_simple cs) (none_updates xs h))
 
 -- an expression of this layer, with these parts
 module _ (x : Expr) (y : Expr-F Expr) (xs : List Expr) (is : out-Expr x ≡ y) (inside : parts y ≡ under [] xs) (h : ArePlain xs)
@@ -99,7 +104,7 @@ module _ (x : Expr) (y : Expr-F Expr) (xs : List Expr) (is : out-Expr x ≡ y) (
       (parts_mapped (fold-Expr (Scope → Bool) unbound_step) y ∙ ap (map (mapped (fold-Expr (Scope → Bool) unbound_step))) inside)
       ∙ no_variables bound xs h
 
-  plain : (f : Form Expr) → form_of y ≡ f → is_updating (judged_form (map_form judged f)).category ≡ false → (judged_form (map_form judged f)).is_misplaced ≡ false → IsPlain x
+  plain : (f : Form Expr) → form_of y ≡ f → is_updating (judged_form (map_form judged f)).category ≡ false → is_faulty (judged_form (map_form judged f)) ≡ false → IsPlain x
   plain f formed updates misplaced =
       let so : judged x ≡ judged_form (map_form judged f) = judged_out x ∙ ap (λ z. judged_form (map_form judged (form_of z))) is ∙ ap (λ g. judged_form (map_form judged g)) formed in
       record {
@@ -107,7 +112,7 @@ module _ (x : Expr) (y : Expr-F Expr) (xs : List Expr) (is : out-Expr x ≡ y) (
         names = twice_out x ∙ ap₂ (λ a b. a || b) (ap has_twice_bound is ∙ once) (ap (list_any binds_a_name_twice) its_children ∙ no_names xs h);
         variables = unbound;
         category = ap (λ j. is_updating j.category) so ∙ updates;
-        placed = ap (λ j. j.is_misplaced) so ∙ misplaced;
+        placed = ap is_faulty so ∙ misplaced;
       }
 
 -- one that gives items
@@ -166,4 +171,4 @@ plain_trees (tree c bs cs rest) =
     (plain_constructor c.kind c.name c.text (tree_expressions bs ++ tree_expressions cs) (both (tree_expressions bs) (tree_expressions cs) (plain_trees bs) (plain_trees cs)), plain_trees rest)
 
 pub no_fault : (x : Expr) → IsPlain x → HasNoFault x
-no_fault x h = record { functions = h.functions; names = h.names; variables = h.variables []; categories = h.placed }
+no_fault x h = record { functions = h.functions; names = h.names; variables = h.variables []; categories = none_is (judged x).fault h.placed }

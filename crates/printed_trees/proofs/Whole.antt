@@ -15,7 +15,7 @@ use Rattle.values.specs.declared.atom.Atom.{Atom}
 use Rattle.values.specs.declared.atom.Atom.TheVariants as a
 use Rattle.values.specs.declared.atom.Item.{Item}
 use Rattle.values.specs.declared.atom.Item.TheVariants as item
-use Rattle.fault_codes.specs.declared.code.Code.TheVariants.{XPST0008, XPST0017, XUST0001, XQST0089, PXQ0001}
+use Rattle.fault_codes.specs.declared.code.Code.TheVariants.{XPST0008, XPST0017, XQST0089, PXQ0001}
 use Rattle.query_tokens.specs.Lexing.{is_separated}
 use Rattle.query_tokens.specs.declared.token.Token.{Token}
 use Rattle.query_grammar.specs.declared.ast.Expr.{Expr}
@@ -26,7 +26,7 @@ use Rattle.static_checks.specs.Brackets.{most_open}
 use Rattle.static_checks.specs.Categories.{judged}
 use Rattle.static_checks.specs.Functions.{has_unknown_call}
 use Rattle.static_checks.specs.Variables.{binds_a_name_twice, has_unbound}
-use Rattle.static_checks.specs.Static.{IsExpression, parsed, of_read, of_grammar}
+use Rattle.static_checks.specs.Static.{IsExpression, parsed, of_read, of_grammar, unless_fault}
 use Rattle.printed_trees.specs.Constructors.{IsPrintable, is_tidy_root, IsPrintableTree, IsPrintableAtom, IsPrintableItem, tree_expressions, place_expression, atom_expression, item_expression}
 use Rattle.printed_trees.proofs.Spelling.{string, node_spelling, tree_spellings, integer_spelling, atom_spelling}
 use Rattle.printed_trees.proofs.Spelt.{IsSpelt, string_spelt, integer_spelt, boolean_spelt, constructor_spelt, trees_spelt, query}
@@ -297,7 +297,7 @@ expression_is_parsed level text x h =
     ∙ cond-false (has_unknown_call x) (Err XPST0017) _ h.faultless.functions
     ∙ cond-false (binds_a_name_twice x) (Err XQST0089) _ h.faultless.names
     ∙ cond-false (has_unbound x []) (Err XPST0008) _ h.faultless.variables
-    ∙ cond-false (judged x).is_misplaced (Err XUST0001) (Ok x) h.faultless.categories
+    ∙ ap (λ f. unless_fault f x) h.faultless.categories
 
 pub item_is_parsed : (level : ℕ) (ts : Trees) (i : Item) → IsPrintableItem ts i → parsed level (chars (item_text ts i)) ≡ Ok (item_expression ts i)
 item_is_parsed level ts i h = expression_is_parsed level (chars (item_text ts i)) (item_expression ts i) (item_is_expression level ts i h)

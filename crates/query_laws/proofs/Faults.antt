@@ -1,7 +1,7 @@
 -- The passes answer the first fault.
 use Rattle.std.proofs.Common.{◌≡◌, ◌⊎◌, inl, inr, ⊎_elim, ℕ, Bool, true, false, if◌then◌else◌, List, [], Option, Some, None, Result, Err, refl, ap, subst, sym, ◌∙◌}
 use Rattle.fault_codes.specs.declared.code.Code.{Code}
-use Rattle.fault_codes.specs.declared.code.Code.TheVariants.{XPST0003, XPST0008, XPST0017, XUST0001, XQST0089, PXQ0001}
+use Rattle.fault_codes.specs.declared.code.Code.TheVariants.{XPST0003, XPST0008, XPST0017, XQST0089, PXQ0001}
 use Rattle.query_tokens.specs.declared.token.Token.{Token}
 use Rattle.query_tokens.specs.Lexing.{tokens}
 use Rattle.query_tokens.specs.Reading.{Read, Gives, Fails}
@@ -14,9 +14,9 @@ use Rattle.static_checks.specs.Brackets.{nests_too_deep}
 use Rattle.static_checks.specs.Functions.{has_unknown_call}
 use Rattle.static_checks.specs.Variables.{binds_a_name_twice, has_unbound}
 use Rattle.static_checks.specs.Categories.{judged}
-use Rattle.static_checks.specs.Static.{checked, of_grammar, of_read, parsed}
+use Rattle.static_checks.specs.Static.{checked, of_grammar, of_read, parsed, unless_fault}
 use Rattle.parser.proofs.Whole.{whole}
-use Rattle.query_laws.specs.Faults.{IsReadAs, FaultOf, UnknownCall, NameBoundTwice, UnboundVariable, MisplacedUpdate, FirstFault, OfTokens, OfBrackets, OfGrammar, OfExpression}
+use Rattle.query_laws.specs.Faults.{IsReadAs, FaultOf, UnknownCall, NameBoundTwice, UnboundVariable, ByCategory, FirstFault, OfTokens, OfBrackets, OfGrammar, OfExpression}
 
 -- a pass answers, or those after it do
 answers : (b : Bool) (c code : Code) (r : Result Expr Code) → (if b then Err c else r) ≡ Err code → ((b ≡ true) × (c ≡ code)) ⊎ ((b ≡ false) × (r ≡ Err code))
@@ -29,15 +29,17 @@ found b c r h = ap (λ t. if t then Err c else r) h
 passed : (b : Bool) (c : Code) (r : Result Expr Code) → b ≡ false → (if b then Err c else r) ≡ r
 passed b c r h = ap (λ t. if t then Err c else r) h
 
+by_category : (f : Option Code) (x : Expr) (code : Code) → unless_fault f x ≡ Err code → f ≡ Some code
+by_category (Some c) x code h = cc
+by_category None x code h = absurd (let f : ⊥ = cc in f)
+
 -- From the answer to the fault.
 
 of_checked : (x : Expr) (code : Code) → checked x ≡ Err code → FaultOf x code
 of_checked x code h = ⊎_elim (λ f. subst (FaultOf x) f.1 (UnknownCall f.0))
     (λ a. ⊎_elim (λ f. subst (FaultOf x) f.1 (NameBoundTwice a.0 f.0))
     (λ b. ⊎_elim (λ f. subst (FaultOf x) f.1 (UnboundVariable a.0 b.0 f.0))
-    (λ c. ⊎_elim (λ f. subst (FaultOf x) f.1 (MisplacedUpdate a.0 b.0 c.0 f.0))
-    (λ d. absurd (let e = d.1 in let f : ⊥ = cc in f))
-    (answers (judged x).is_misplaced XUST0001 code _ c.1))
+    (λ c. ByCategory code a.0 b.0 c.0 (by_category (judged x).fault x code c.1))
     (answers (has_unbound x []) XPST0008 code _ b.1))
     (answers (binds_a_name_twice x) XQST0089 code _ a.1))
     (answers (has_unknown_call x) XPST0017 code _ h)
@@ -70,8 +72,8 @@ checking : (x : Expr) (code : Code) → FaultOf x code → checked x ≡ Err cod
 checking x _ (UnknownCall a) = found (has_unknown_call x) XPST0017 _ a
 checking x _ (NameBoundTwice a b) = passed (has_unknown_call x) XPST0017 _ a ∙ found (binds_a_name_twice x) XQST0089 _ b
 checking x _ (UnboundVariable a b c) = passed (has_unknown_call x) XPST0017 _ a ∙ (passed (binds_a_name_twice x) XQST0089 _ b ∙ found (has_unbound x []) XPST0008 _ c)
-checking x _ (MisplacedUpdate a b c d) =
-    passed (has_unknown_call x) XPST0017 _ a ∙ (passed (binds_a_name_twice x) XQST0089 _ b ∙ (passed (has_unbound x []) XPST0008 _ c ∙ found (judged x).is_misplaced XUST0001 _ d))
+checking x code (ByCategory _ a b c d) =
+    passed (has_unknown_call x) XPST0017 _ a ∙ (passed (binds_a_name_twice x) XQST0089 _ b ∙ (passed (has_unbound x []) XPST0008 _ c ∙ ap (λ f. unless_fault f x) d))
 
 read_as : (level : ℕ) (text : List ℕ) (ts : List Token) → IsReadAs text ts → parsed level text ≡ of_grammar (query level ts)
 read_as level text ts r = ap (of_read level) r.read ∙ passed (nests_too_deep 0 ts) PXQ0001 _ r.shallow

@@ -9,10 +9,11 @@ use Rattle.query_grammar.specs.declared.ast.Expr.TheViews.{the_lemmas}
 use Rattle.query_grammar.specs.declared.ast.Expr.TheOpen.{Expr-F}
 use Rattle.query_grammar.specs.declared.functions.Function.{Function}
 use Rattle.query_grammar.specs.Functions.{takes}
-use Rattle.static_checks.specs.Categories.{Judged, judged, judged_form, may_not_stand, categories, category_of, mixes}
+use Rattle.static_checks.specs.Categories.{Form, Judged, judged, is_faulty, may_not_stand, categories, category_of, inner_fault}
 use Rattle.static_checks.specs.Functions.{is_unknown_call, has_unknown_call}
 use Rattle.static_checks.specs.Inside.{children}
 use Rattle.static_checks.specs.Static.{IsExpression}
+use Rattle.static_checks.proofs.Faults.{faulty_form, none_is}
 use Rattle.static_checks.proofs.Forms.{map_form, judged_out, children_in_order}
 use Rattle.static_checks.proofs.Here.{unknown_out}
 use Rattle.static_checks.proofs.Passes.{any_map}
@@ -62,7 +63,7 @@ known level text x f? arguments h within =
 -- Categories.
 
 abbrev misplaced : Expr → Bool
-misplaced x = (judged x).is_misplaced
+misplaced x = is_faulty (judged x)
 
 neither_of : {A : Type 0} (f g : A → Bool) (xs : List A) → list_any (λ x. f x || g x) xs ≡ false → (list_any f xs ≡ false) × (list_any g xs ≡ false)
 neither_of f g [] h = (refl, refl)
@@ -75,19 +76,22 @@ categories_of [] = refl
 categories_of (x ∷ xs) = ap (λ cs. category x ∷ cs) (categories_of xs)
 
 module _ (x : Expr) (h : misplaced x ≡ false) where
-  whole : (judged_form (map_form judged (form x))).is_misplaced ≡ false
-  whole = ap (λ (j : Judged). j.is_misplaced) (sym (judged_out x)) ∙ h
+  abbrev judged_parts : Form Judged
+  judged_parts = map_form judged (form x)
 
   abbrev rest : Bool
-  rest = list_any may_not_stand (map judged (form x).after) || mixes (form x).own (categories (map judged (form x).inner))
+  rest = list_any may_not_stand (map judged (form x).after) || is_some (inner_fault (form x).own (categories (map judged (form x).inner)))
 
-  front : (list_any may_not_stand (map judged (form x).before) ≡ false) × (list_any (λ (j : Judged). j.is_misplaced) (map judged (form x).inner) || rest ≡ false)
+  whole : list_any may_not_stand judged_parts.before || (list_any is_faulty judged_parts.inner || rest) ≡ false
+  whole = sym (faulty_form judged_parts) ∙ (ap is_faulty (sym (judged_out x)) ∙ h)
+
+  front : (list_any may_not_stand (map judged (form x).before) ≡ false) × (list_any is_faulty (map judged (form x).inner) || rest ≡ false)
   front = neither _ _ whole
 
-  middle : (list_any (λ (j : Judged). j.is_misplaced) (map judged (form x).inner) ≡ false) × (rest ≡ false)
+  middle : (list_any is_faulty (map judged (form x).inner) ≡ false) × (rest ≡ false)
   middle = neither _ _ front.1
 
-  back : (list_any may_not_stand (map judged (form x).after) ≡ false) × (mixes (form x).own (categories (map judged (form x).inner)) ≡ false)
+  back : (list_any may_not_stand (map judged (form x).after) ≡ false) × (is_some (inner_fault (form x).own (categories (map judged (form x).inner))) ≡ false)
   back = neither _ _ middle.1
 
   apart : (zs : List Expr) → list_any may_not_stand (map judged zs) ≡ false → (list_any updates zs ≡ false) × (list_any misplaced zs ≡ false)
@@ -99,15 +103,15 @@ module _ (x : Expr) (h : misplaced x ≡ false) where
       ∙ list_any-append misplaced (form x).before ((form x).inner ++ (form x).after)
       ∙ both_false _ _ (apart (form x).before front.0).1
       (list_any-append misplaced (form x).inner (form x).after
-      ∙ both_false _ _ (sym (any_map (λ (j : Judged). j.is_misplaced) judged (form x).inner) ∙ middle.0) (apart (form x).after back.0).1)
+      ∙ both_false _ _ (sym (any_map is_faulty judged (form x).inner) ∙ middle.0) (apart (form x).after back.0).1)
 
   is_placed : IsPlaced x
   is_placed = record {
     before = (apart (form x).before front.0).0;
     after = (apart (form x).after back.0).0;
-    alike = ap (mixes (form x).own) (sym (categories_of (form x).inner)) ∙ back.1;
+    alike = ap (inner_fault (form x).own) (sym (categories_of (form x).inner)) ∙ none_is _ back.1;
     of_inner = ap (λ (j : Judged). j.category) (judged_out x) ∙ ap (category_of (form x).own) (categories_of (form x).inner);
   }
 
 pub placed : (level : ℕ) (text : List ℕ) (x inner : Expr) → IsExpression level text x → StandsIn inner x → IsPlaced inner
-placed level text x inner h within = is_placed inner (throughout misplaced no_misplaced_part inner x within h.faultless.categories)
+placed level text x inner h within = is_placed inner (throughout misplaced no_misplaced_part inner x within (ap is_some h.faultless.categories))

@@ -1,8 +1,8 @@
 -- The first fault of a text, in the order of the passes (our own choice): tokens, brackets, grammar, functions, names that one clause
 -- binds twice, variables, categories.
-use Rattle.std.specs.Prelude.{◌≡◌, ℕ, true, false, List, []}
+use Rattle.std.specs.Prelude.{◌≡◌, ℕ, true, false, List, [], Some}
 use Rattle.fault_codes.specs.declared.code.Code.{Code}
-use Rattle.fault_codes.specs.declared.code.Code.TheVariants.{XPST0003, XPST0008, XPST0017, XUST0001, XQST0089, PXQ0001}
+use Rattle.fault_codes.specs.declared.code.Code.TheVariants.{XPST0003, XPST0008, XPST0017, XQST0089, PXQ0001}
 use Rattle.query_tokens.specs.declared.token.Token.{Token}
 use Rattle.query_tokens.specs.Lexing.{tokens}
 use Rattle.query_tokens.specs.Reading.{Gives, Fails}
@@ -29,7 +29,7 @@ pub data FaultOf (x : Expr) : Code → Type 0 where
   UnknownCall : has_unknown_call x ≡ true → FaultOf x XPST0017
   NameBoundTwice : has_unknown_call x ≡ false → binds_a_name_twice x ≡ true → FaultOf x XQST0089
   UnboundVariable : has_unknown_call x ≡ false → binds_a_name_twice x ≡ false → has_unbound x [] ≡ true → FaultOf x XPST0008
-  MisplacedUpdate : has_unknown_call x ≡ false → binds_a_name_twice x ≡ false → has_unbound x [] ≡ false → (judged x).is_misplaced ≡ true → FaultOf x XUST0001
+  ByCategory : (code : Code) → has_unknown_call x ≡ false → binds_a_name_twice x ≡ false → has_unbound x [] ≡ false → (judged x).fault ≡ Some code → FaultOf x code
 
 -- the code of the first pass over a text in which a fault stands
 pub data FirstFault (level : ℕ) (text : List ℕ) : Code → Type 0 where

@@ -73,7 +73,8 @@ fn is_read(alloc: Global, text: &str) -> Result<bool, AllocError> {
         Some(ParseFault::Memory) => Err(AllocError),
         Some(fault) => Ok(
             fault == ParseFault::Static(Code::XPST0017)
-                || fault == ParseFault::Static(Code::XUST0001),
+                || fault == ParseFault::Static(Code::XUST0001)
+                || fault == ParseFault::Static(Code::XUST0002),
         ),
     }
 }

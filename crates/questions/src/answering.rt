@@ -21,35 +21,30 @@ use std::alloc::{AllocError, Global};
 use trees::Forest;
 use values::{Item, LimitedText, ValueFault, push_item};
 
-/// Memory was refused.
-#[derive(Clone, Copy, PartialEq, Eq, Debug)]
-pub struct NoMemory;
-
-impl From<AllocError> for NoMemory {
-    fn from(_refused: AllocError) -> NoMemory {
-        NoMemory
-    }
-}
-
 /// What a question of that text gives from a forest at a level of the language (1 or 2). It fails where memory is refused.
 ///
 /// The answer is the code of the text's first static fault; or `PXQ0004`, where the text is an updating expression; or the code of the
 /// first fault of its evaluation; or `PXQ0005`, where the items' texts, joined by line feeds, have more than 32,768 bytes; or these texts.
 /// The limit is our own, and an answer never takes more memory than that for its text.
 #[tactic(auto, unfolding(crate::specs::Answers::answer))]
-pub fn answer(alloc: Global, forest: &Forest, level: u8, question: &str) -> Result<Answer, NoMemory>
+pub fn answer(
+    alloc: Global,
+    forest: &Forest,
+    level: u8,
+    question: &str,
+) -> Result<Answer, AllocError>
     requires next { forest.now.next ≤ 2 ^ 61 }
     ensures { IfOk result (λ a. answered a ≡ answer forest.now level question.now) }
 {
     match parse(alloc, level, question) {
         Ok(x) => answer_expression(alloc, forest, &x),
         Err(ParseFault::Static(code)) => Ok(Answer::Fault(code)),
-        Err(ParseFault::Memory) => Err(NoMemory),
+        Err(ParseFault::Memory) => Err(AllocError),
     }
 }
 
 /// What an expression gives.
-fn answer_expression(alloc: Global, forest: &Forest, x: &Expr) -> Result<Answer, NoMemory>
+fn answer_expression(alloc: Global, forest: &Forest, x: &Expr) -> Result<Answer, AllocError>
     requires next { forest.now.next ≤ 2 ^ 61 }
     ensures { IfOk result (λ a. answered a ≡ of_expression forest.now x.now) }
 {
@@ -59,7 +54,7 @@ fn answer_expression(alloc: Global, forest: &Forest, x: &Expr) -> Result<Answer,
     match evaluate(alloc, x, forest) {
         Ok(outcome) => answer_items(alloc, outcome.shelf(), outcome.items()),
         Err(ValueFault::Code(code)) => Ok(Answer::Fault(code)),
-        Err(ValueFault::Memory) => Err(NoMemory),
+        Err(ValueFault::Memory) => Err(AllocError),
     }
 }
 
@@ -71,7 +66,7 @@ fn is_updating(x: &Expr) -> bool
 }
 
 /// The texts of items, or the code where they are too long.
-fn answer_items(alloc: Global, shelf: &Shelf<'_>, items: &[Item]) -> Result<Answer, NoMemory>
+fn answer_items(alloc: Global, shelf: &Shelf<'_>, items: &[Item]) -> Result<Answer, AllocError>
     requires there { AreThere (shelf_trees shelf.now) items.now }
     ensures { IfOk result (λ a. answered a ≡ printed (map (item_text (shelf_trees shelf.now)) items.now)) }
 {

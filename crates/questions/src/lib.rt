@@ -5,4 +5,4 @@
 
 mod answering;
 
-pub use answering::{NoMemory, answer};
+pub use answering::answer;

@@ -3,4 +3,4 @@
 
 mod running;
 
-pub use running::{Ending, NoMemory, run};
+pub use running::{Ending, run};

@@ -16,13 +16,9 @@ use fault_codes::Code;
 use meaning_laws::laws::{identities_are_limited, primitives_bring_new_nodes};
 use parser::{Expr, ParseFault, parse};
 use pending::{CheckFault, PendingList};
-use std::alloc::Global;
+use std::alloc::{AllocError, Global};
 use trees::{Forest, NodeId};
 use values::ValueFault;
-
-/// Memory was refused.
-#[derive(Clone, Copy, PartialEq, Eq, Debug)]
-pub struct NoMemory;
 
 /// How a request ended.
 #[derive(Clone, Copy, PartialEq, Eq, Debug)]
@@ -38,7 +34,7 @@ pub enum Ending {
 /// The text is parsed and evaluated; its update primitives, where they may stand in one list, are applied all at once. After a fault the forest is as it
 /// was, its next identity too. Where memory is refused, the request counts as not run, and the forest is as it was.
 #[tactic(auto, unfolding(crate::specs::Requests::run))]
-pub fn run(alloc: Global, forest: &mut Forest, level: u8, text: &str) -> Result<Ending, NoMemory>
+pub fn run(alloc: Global, forest: &mut Forest, level: u8, text: &str) -> Result<Ending, AllocError>
     requires next { forest.old.next ≤ 2 ^ 61 }
     requires stored { IsStored forest.old.trees }
     ensures ran { IfOk result (λ ending. run forest.old level text.now ≡ record { forest = forest.new; ending = ending }) }
@@ -49,12 +45,12 @@ pub fn run(alloc: Global, forest: &mut Forest, level: u8, text: &str) -> Result<
     match parse(alloc, level, text) {
         Ok(x) => run_expression(alloc, forest, &x),
         Err(ParseFault::Static(code)) => Ok(Ending::Fault(code)),
-        Err(ParseFault::Memory) => Err(NoMemory),
+        Err(ParseFault::Memory) => Err(AllocError),
     }
 }
 
 /// Runs an expression on a stored forest.
-fn run_expression(alloc: Global, forest: &mut Forest, x: &Expr) -> Result<Ending, NoMemory>
+fn run_expression(alloc: Global, forest: &mut Forest, x: &Expr) -> Result<Ending, AllocError>
     requires next { forest.old.next ≤ 2 ^ 61 }
     requires stored { IsStored forest.old.trees }
     ensures ran { IfOk result (λ ending. of_evaluated forest.old (evaluated x.now forest.old) ≡ record { forest = forest.new; ending = ending }) }
@@ -71,7 +67,7 @@ fn run_expression(alloc: Global, forest: &mut Forest, x: &Expr) -> Result<Ending
             (outcome.into_primitives(), next)
         }
         Err(ValueFault::Code(code)) => return Ok(Ending::Fault(code)),
-        Err(ValueFault::Memory) => return Err(NoMemory),
+        Err(ValueFault::Memory) => return Err(AllocError),
     };
     update(alloc, forest, &primitives, next)
 }
@@ -82,7 +78,7 @@ fn update(
     forest: &mut Forest,
     primitives: &PendingList,
     next: NodeId,
-) -> Result<Ending, NoMemory>
+) -> Result<Ending, AllocError>
     requires stored { IsStored forest.old.trees }
     requires later { forest.old.next ≤ next }
     requires bound { next ≤ 2 ^ 62 }
@@ -98,11 +94,11 @@ fn update(
     match primitives.check(alloc) {
         Ok(()) => {}
         Err(CheckFault::Code(code)) => return Ok(Ending::Fault(code)),
-        Err(CheckFault::Memory) => return Err(NoMemory),
+        Err(CheckFault::Memory) => return Err(AllocError),
     }
     match apply(forest, alloc, primitives, next) {
         Ok(()) => Ok(Ending::Done),
         Err(ApplyFault::Code(code)) => Ok(Ending::Fault(code)),
-        Err(ApplyFault::Memory) => Err(NoMemory),
+        Err(ApplyFault::Memory) => Err(AllocError),
     }
 }

@@ -119,3 +119,8 @@ judged_out x = fold_out-Expr Judged (λ y. judged_form (form_of y)) x ∙ ap jud
 
 pub children_in_order : (x : Expr) → children x ≡ (form x).before ++ ((form x).inner ++ (form x).after)
 children_in_order x = in_order (out-Expr x)
+
+-- the parts as they are judged
+pub judged_in_order : (x : Expr) → map judged (children x) ≡ map judged (form x).before ++ (map judged (form x).inner ++ map judged (form x).after)
+judged_in_order x = ap (map judged) (children_in_order x) ∙ map_both judged (form x).before ((form x).inner ++ (form x).after)
+    ∙ ap (λ js. map judged (form x).before ++ js) (map_both judged (form x).inner (form x).after)

@@ -1,4 +1,5 @@
 pub mod Folds
+pub mod Faults
 pub mod Mapped
 pub mod Passes
 pub mod Here
@@ -10,3 +11,4 @@ pub mod Scopes
 pub mod Bindings
 pub mod Unbound
 pub mod Whole
+pub mod Codes

@@ -1,21 +1,19 @@
 -- What a walk over the parts of an expression comes to.
-use Rattle.std.proofs.Common.{◌≡◌, ◌≤◌, ◌<◌, ⊎_elim, inl, inr, subst, ℕ, suc, ◌+◌, Bool, true, false, ◌&&◌, ◌||◌, nat_le, nat_lt, if◌then◌else◌, List, [], ◌∷◌, ◌++◌, map, length, drop, slice_get, Option, Some, None, refl, ap, ap₂, sym, ◌∙◌, arith}
+use Rattle.std.proofs.Common.{◌≡◌, ◌≤◌, ◌<◌, ⊎_elim, inl, inr, subst, ℕ, suc, ◌+◌, Bool, true, false, ◌&&◌, ◌||◌, nat_le, nat_lt, if◌then◌else◌, List, [], ◌∷◌, ◌++◌, map, length, drop, slice_get, Option, Some, None, is_some, refl, ap, ap₂, sym, ◌∙◌, arith}
 use Rattle.std.proofs.lemmas.Bool.{le-leb, lt-leb, lt-ltb, le-ltb}
 use Rattle.std.specs.List.{list_any}
+use Rattle.fault_codes.specs.declared.code.Code.TheVariants.{XUST0001, XUST0002}
 use Rattle.query_grammar.specs.declared.ast.Expr.{Expr}
-use Rattle.static_checks.specs.Categories.{Form, Judged, judged_form, judged, is_updating, is_simple, may_not_stand, categories, category_of, mixes}
+use Rattle.static_checks.specs.Categories.{Form, Judged, judged_form, judged, is_updating, is_simple, may_not_stand, is_faulty, categories, category_of, is_mixed, joined, inner_fault}
 use Rattle.static_checks.specs.Inside.{IsInner, children, is_inner, nothing, seen, taken, walk, placed, concluded}
 use Rattle.static_checks.specs.declared.categories.Category.{Category}
+use Rattle.static_checks.specs.declared.categories.Category.TheVariants.{Simple}
 use Rattle.static_checks.specs.declared.categories.Own.{Own}
 use Rattle.static_checks.specs.declared.categories.Own.TheVariants.{Updates, OfResults, GivesItems}
 use Rattle.static_checks.specs.declared.judging.Found.{Found}
-use Rattle.static_checks.proofs.Forms.{map_form, form, judged_out, children_in_order}
+use Rattle.static_checks.proofs.Forms.{map_form, form, judged_out, judged_in_order}
+use Rattle.static_checks.proofs.Faults.{any_both, faulty_form, some_when}
 use Rattle.static_checks.proofs.Folds.{dropped, ended, length_mapped, or_more}
-use Rattle.static_checks.proofs.Mapped.{map_both}
-
--- something in a part is misplaced
-abbrev is_bad : Judged → Bool
-is_bad j = j.is_misplaced
 
 -- one part where none may update
 outside_one : {A : Type 0} (m u inner : Bool) (X Y : Option A) → inner ≡ false
@@ -53,7 +51,7 @@ module _ (f t : ℕ) where
   before [] rest i found h = let same : i ≡ i + 0 = omega arith in ap (λ k. walk f t k rest found) same
   before (j ∷ js) rest i found h =
       let next : suc i + length js ≡ i + suc (length js) = omega arith in
-      outside_one j.is_misplaced (is_updating j.category) (is_inner f t i) _ _ (below i (omega (arith, h)))
+      outside_one (is_faulty j) (is_updating j.category) (is_inner f t i) _ _ (below i (omega (arith, h)))
       ∙ ap (λ o. if may_not_stand j then None else o) (before js rest (suc i) found (omega (arith, h)))
       ∙ one_of_both (may_not_stand j) (list_any may_not_stand js) (walk f t (suc i + length js) rest found)
       ∙ ap (λ k. if may_not_stand j || list_any may_not_stand js then None else walk f t k rest found) next
@@ -62,7 +60,7 @@ module _ (f t : ℕ) where
   after : (js : List Judged) (i : ℕ) (found : Found) → t ≤ i → walk f t i js found ≡ (if list_any may_not_stand js then None else Some found)
   after [] i found h = refl
   after (j ∷ js) i found h =
-      outside_one j.is_misplaced (is_updating j.category) (is_inner f t i) _ _ (above i h)
+      outside_one (is_faulty j) (is_updating j.category) (is_inner f t i) _ _ (above i h)
       ∙ ap (λ o. if may_not_stand j then None else o) (after js (suc i) found (omega (arith, h)))
       ∙ one_of_both (may_not_stand j) (list_any may_not_stand js) (Some found)
 
@@ -81,23 +79,19 @@ module _ (f t : ℕ) where
   seen_none found = ap₂ (λ u s. record { updates = u; simple = s }) (or_none found.updates) (or_none found.simple)
 
   inside : (js rest : List Judged) (i : ℕ) (found : Found) → f ≤ i → i + length js ≤ t
-      → walk f t i (js ++ rest) found ≡ (if list_any is_bad js then None else walk f t (i + length js) rest (all_seen found (categories js)))
+      → walk f t i (js ++ rest) found ≡ (if list_any is_faulty js then None else walk f t (i + length js) rest (all_seen found (categories js)))
   inside [] rest i found h k = let same : i ≡ i + 0 = omega arith in ap₂ (λ n s. walk f t n rest s) same (seen_none found)
   inside (j ∷ js) rest i found h k =
       let next : suc i + length js ≡ i + suc (length js) = omega arith in
-      inside_one j.is_misplaced (is_inner f t i) _ _ (within i h (omega (arith, k)))
-      ∙ ap (λ o. if is_bad j then None else o) (inside js rest (suc i) (seen found j.category) (omega (arith, h)) (omega (arith, k)))
-      ∙ one_of_both (is_bad j) (list_any is_bad js) (walk f t (suc i + length js) rest (all_seen (seen found j.category) (categories js)))
-      ∙ ap₂ (λ n s. if is_bad j || list_any is_bad js then None else walk f t n rest s) next (seen_more found j.category (categories js))
-
-  any_both : {A : Type 0} (p : A → Bool) (xs ys : List A) → list_any p (xs ++ ys) ≡ list_any p xs || list_any p ys
-  any_both p [] ys = refl
-  any_both p (x ∷ xs) ys = ap (λ b. p x || b) (any_both p xs ys) ∙ sym (or_more (p x) (list_any p xs) (list_any p ys))
+      inside_one (is_faulty j) (is_inner f t i) _ _ (within i h (omega (arith, k)))
+      ∙ ap (λ o. if is_faulty j then None else o) (inside js rest (suc i) (seen found j.category) (omega (arith, h)) (omega (arith, k)))
+      ∙ one_of_both (is_faulty j) (list_any is_faulty js) (walk f t (suc i + length js) rest (all_seen (seen found j.category) (categories js)))
+      ∙ ap₂ (λ n s. if is_faulty j || list_any is_faulty js then None else walk f t n rest s) next (seen_more found j.category (categories js))
 
   -- what is found of the inner parts tells the category
   tells : (own : Own) (b m a : Bool) (cs : List Category)
       → concluded own (if b then None else (if m then None else (if a then None else Some (all_seen nothing cs))))
-      ≡ placed (record { category = category_of own cs; is_misplaced = b || (m || (a || mixes own cs)) })
+      ≡ (if b || (m || (a || is_some (inner_fault own cs))) then None else Some (category_of own cs))
   tells Updates true m a cs = refl
   tells Updates false true a cs = refl
   tells Updates false false true cs = refl
@@ -105,11 +99,17 @@ module _ (f t : ℕ) where
   tells GivesItems true m a cs = refl
   tells GivesItems false true a cs = refl
   tells GivesItems false false true cs = refl
-  tells GivesItems false false false cs = refl
+  tells GivesItems false false false cs = ap (λ x. if x then None else Some Simple) (sym (some_when (list_any is_simple cs) XUST0002))
   tells OfResults true m a cs = refl
   tells OfResults false true a cs = refl
   tells OfResults false false true cs = refl
-  tells OfResults false false false cs = refl
+  tells OfResults false false false cs = ap (λ x. if x then None else Some (joined cs)) (sym (some_when (is_mixed cs) XUST0001))
+
+  placed_form : (x : Form Judged)
+      → (if list_any may_not_stand x.before || (list_any is_faulty x.inner || (list_any may_not_stand x.after || is_some (inner_fault x.own (categories x.inner)))) then None
+      else Some (category_of x.own (categories x.inner)))
+      ≡ placed (judged_form x)
+  placed_form x = ap (λ b. if b then None else Some (category_of x.own (categories x.inner))) (sym (faulty_form x))
 
   -- the walk over the parts of a form
   over_inner : (x : Form Judged) → f ≡ length x.before → t ≡ length x.before + length x.inner
@@ -119,8 +119,9 @@ module _ (f t : ℕ) where
       (before x.before (x.inner ++ x.after) 0 nothing (omega (arith, from))
       ∙ ap (λ o. if list_any may_not_stand x.before then None else o)
       (inside x.inner x.after (0 + length x.before) nothing (omega (arith, from)) (omega (arith, to))
-      ∙ ap (λ o. if list_any is_bad x.inner then None else o) (after x.after (0 + length x.before + length x.inner) (all_seen nothing (categories x.inner)) (omega (arith, to)))))
-      ∙ tells x.own (list_any may_not_stand x.before) (list_any is_bad x.inner) (list_any may_not_stand x.after) (categories x.inner)
+      ∙ ap (λ o. if list_any is_faulty x.inner then None else o) (after x.after (0 + length x.before + length x.inner) (all_seen nothing (categories x.inner)) (omega (arith, to)))))
+      ∙ tells x.own (list_any may_not_stand x.before) (list_any is_faulty x.inner) (list_any may_not_stand x.after) (categories x.inner)
+      ∙ placed_form x
 
   over_outer : (own : Own) (bs zs : List Judged) → t ≡ 0
       → concluded own (walk f t 0 (bs ++ zs) nothing) ≡ placed (judged_form (record { own = own; before = bs; inner = []; after = zs }))
@@ -130,6 +131,7 @@ module _ (f t : ℕ) where
       ∙ ap (λ b. if b then None else Some nothing) (any_both may_not_stand bs zs)
       ∙ sym (one_of_both (list_any may_not_stand bs) (list_any may_not_stand zs) (Some nothing)))
       ∙ tells own (list_any may_not_stand bs) false (list_any may_not_stand zs) []
+      ∙ placed_form (record { own = own; before = bs; inner = []; after = zs })
 
   over_form : (x : Form Judged) → IsInner x f t → concluded x.own (walk f t 0 (x.before ++ (x.inner ++ x.after)) nothing) ≡ placed (judged_form x)
   over_form x = ⊎_elim
@@ -142,14 +144,10 @@ module _ (f t : ℕ) where
       (λ h. inl (ap (map judged) h.0, h.1))
       (λ h. inr (h.0 ∙ sym (length_mapped judged x.before), omega (arith, h.1, length_mapped judged x.before, length_mapped judged x.inner)))
 
-  mapped_order : (x : Expr) → map judged (children x) ≡ map judged (form x).before ++ (map judged (form x).inner ++ map judged (form x).after)
-  mapped_order x = ap (map judged) (children_in_order x) ∙ map_both judged (form x).before ((form x).inner ++ (form x).after)
-      ∙ ap (λ js. map judged (form x).before ++ js) (map_both judged (form x).inner (form x).after)
-
   -- the walk over an expression's parts tells its category
   pub whole : (x : Expr) → IsInner (form x) f t → concluded (form x).own (walk f t 0 (map judged (children x)) nothing) ≡ placed (judged x)
   whole x h =
-      ap (λ js. concluded (form x).own (walk f t 0 js nothing)) (mapped_order x)
+      ap (λ js. concluded (form x).own (walk f t 0 js nothing)) (judged_in_order x)
       ∙ over_form (map_form judged (form x)) (mapped_inner (form x) h)
       ∙ ap placed (sym (judged_out x))
 
@@ -159,11 +157,11 @@ and_then None g = None
 and_then (Some a) g = g a
 
 one_step : (j : Judged) (inner : Bool) (found : Found) (rest : Found → Option Found)
-    → (if j.is_misplaced then None else (if inner then rest (seen found j.category) else (if is_updating j.category then None else rest found)))
+    → (if is_faulty j then None else (if inner then rest (seen found j.category) else (if is_updating j.category then None else rest found)))
     ≡ and_then (placed j) (λ c. and_then (taken found c inner) rest)
-one_step j inner found rest = by j.is_misplaced inner (is_updating j.category) refl refl refl
+one_step j inner found rest = by (is_faulty j) inner (is_updating j.category) refl refl refl
   where
-    by : (m i u : Bool) → j.is_misplaced ≡ m → inner ≡ i → is_updating j.category ≡ u
+    by : (m i u : Bool) → is_faulty j ≡ m → inner ≡ i → is_updating j.category ≡ u
         → (if m then None else (if i then rest (seen found j.category) else (if u then None else rest found)))
         ≡ and_then (if m then None else Some j.category) (λ c. and_then (elim i as (λ x. Option Found) [ true ↦ Some (seen found c) | false ↦ (if is_updating c then None else Some found) ]) rest)
     by true i u a b c = refl

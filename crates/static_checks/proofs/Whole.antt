@@ -2,7 +2,7 @@
 use Rattle.std.proofs.Common.{◌≡◌, ◌⊎◌, ⊎_elim, inl, inr, ℕ, ◌+◌, Bool, true, false, ◌||◌, [], map, drop, slice_get, Option, Some, None, is_some, not, if◌then◌else◌, refl, ap, sym, ◌∙◌}
 use Rattle.std.specs.List.{list_any}
 use Rattle.query_grammar.specs.declared.ast.Expr.{Expr, out-Expr}
-use Rattle.static_checks.specs.Categories.{judged}
+use Rattle.static_checks.specs.Categories.{is_faulty, judged}
 use Rattle.static_checks.specs.Functions.{has_unknown_call}
 use Rattle.static_checks.specs.Inside.{IsInner, children, concluded, is_inner, nothing, taken, walk}
 use Rattle.static_checks.specs.Parts.{Scope, parts}
@@ -81,13 +81,13 @@ placed_is : (b : Bool) (c d : Category) → Some d ≡ (if b then None else Some
 placed_is true c d h = absurd (let f : ⊥ = cc in f)
 placed_is false c d h = refl
 
-pub fault_told : (x : Expr) → IsFaulty x [] → true ≡ has_unknown_call x || (binds_a_name_twice x || (has_unbound x [] || (judged x).is_misplaced))
-fault_told x h = or_one (has_unknown_call x) (binds_a_name_twice x) (has_unbound x []) (judged x).is_misplaced
-    (⊎_elim (λ e. inl e) (⊎_elim (λ e. inr (inl e)) (⊎_elim (λ e. inr (inr (inl (e [] (λ y. refl))))) (λ e. inr (inr (inr (misplaced_is (judged x).is_misplaced (judged x).category e)))))) h)
+pub fault_told : (x : Expr) → IsFaulty x [] → true ≡ has_unknown_call x || (binds_a_name_twice x || (has_unbound x [] || is_faulty (judged x)))
+fault_told x h = or_one (has_unknown_call x) (binds_a_name_twice x) (has_unbound x []) (is_faulty (judged x))
+    (⊎_elim (λ e. inl e) (⊎_elim (λ e. inr (inl e)) (⊎_elim (λ e. inr (inr (inl (e [] (λ y. refl))))) (λ e. inr (inr (inr (misplaced_is (is_faulty (judged x)) (judged x).category e)))))) h)
 
-pub none_told : (x : Expr) (c : Category) → IsFaultless x [] c → false ≡ has_unknown_call x || (binds_a_name_twice x || (has_unbound x [] || (judged x).is_misplaced))
-none_told x c h = or_none (has_unknown_call x) (binds_a_name_twice x) (has_unbound x []) (judged x).is_misplaced
-    h.functions h.twice (h.variables [] (λ y. refl)) (placed_is (judged x).is_misplaced (judged x).category c h.place)
+pub none_told : (x : Expr) (c : Category) → IsFaultless x [] c → false ≡ has_unknown_call x || (binds_a_name_twice x || (has_unbound x [] || is_faulty (judged x)))
+none_told x c h = or_none (has_unknown_call x) (binds_a_name_twice x) (has_unbound x []) (is_faulty (judged x))
+    h.functions h.twice (h.variables [] (λ y. refl)) (placed_is (is_faulty (judged x)) (judged x).category c h.place)
 
 is_one : (r : Bool) → false ≡ not r → r ≡ true
 is_one true h = refl
@@ -97,6 +97,6 @@ is_nought : (r : Bool) → true ≡ not r → r ≡ false
 is_nought false h = refl
 is_nought true h = absurd (let f : ⊥ = cc in f)
 
-pub told : (x : Expr) (o : Option Category) (r : Bool) → IsWalked x [] o → is_some o ≡ not r → r ≡ has_unknown_call x || (binds_a_name_twice x || (has_unbound x [] || (judged x).is_misplaced))
+pub told : (x : Expr) (o : Option Category) (r : Bool) → IsWalked x [] o → is_some o ≡ not r → r ≡ has_unknown_call x || (binds_a_name_twice x || (has_unbound x [] || is_faulty (judged x)))
 told x None r h e = is_one r e ∙ fault_told x h
 told x (Some c) r h e = is_nought r e ∙ none_told x c h

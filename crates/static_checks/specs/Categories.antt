@@ -1,6 +1,9 @@
--- Categories, and where an updating expression may stand (XQuery Update Facility 1.0, sections 2.1 and 2.5).
-use Rattle.std.specs.Prelude.{Bool, true, false, ◌||◌, ◌&&◌, if◌then◌else◌, List, [], ◌∷◌, ◌++◌, map, option_to_list}
+-- Categories, and where an updating expression may stand (XQuery Update Facility 1.0, sections 2.1, 2.4.6 and 2.5). Parts are judged before the
+-- whole, and what the whole asks from the left; the first fault counts (our own choice).
+use Rattle.std.specs.Prelude.{Bool, true, false, ◌||◌, ◌&&◌, if◌then◌else◌, List, [], ◌∷◌, ◌++◌, map, option_to_list, Option, Some, None, is_some}
 use Rattle.std.specs.List.{list_any}
+use Rattle.fault_codes.specs.declared.code.Code.{Code}
+use Rattle.fault_codes.specs.declared.code.Code.TheVariants.{XUST0001, XUST0002}
 use Rattle.query_grammar.specs.declared.ast.Expr.{Expr, fold-Expr}
 use Rattle.query_grammar.specs.declared.ast.Expr.TheOpen.{Expr-F}
 use Rattle.static_checks.specs.Parts.{source_of, sources, keys, parts_alone}
@@ -48,14 +51,17 @@ form_of (Expr-F.Rename x y) = outside Updates (x ∷ y ∷ [])
 form_of (Expr-F.Copy bs x y) = record { own = GivesItems; before = sources bs; inner = x ∷ []; after = y ∷ [] }
 form_of x = outside GivesItems (parts_alone x)
 
--- an expression's category, and whether an updating expression stands in it where none may
+-- an expression's category, and the code of the first fault of this pass in it
 pub record Judged : Type 0 where
   pub category : Category
-  pub is_misplaced : Bool
+  pub fault : Option Code
+
+abbrev pub is_faulty : Judged → Bool
+is_faulty j = is_some j.fault
 
 -- it may not stand where no updating expression may
 abbrev pub may_not_stand : Judged → Bool
-may_not_stand j = is_updating j.category || j.is_misplaced
+may_not_stand j = is_updating j.category || is_faulty j
 
 abbrev pub categories : List Judged → List Category
 categories js = map (λ (j : Judged). j.category) js
@@ -66,15 +72,35 @@ category_of Updates cs = Updating
 category_of OfResults cs = joined cs
 category_of GivesItems cs = Simple
 
--- the whole is made of an updating part and a simple one
-abbrev pub mixes : Own → List Category → Bool
-mixes OfResults cs = is_mixed cs
-mixes _ cs = false
+abbrev pub or_else : Option Code → Option Code → Option Code
+or_else (Some code) other = Some code
+or_else None other = other
+
+abbrev pub first_fault : List Judged → Option Code
+first_fault [] = None
+first_fault (j ∷ js) = or_else j.fault (first_fault js)
+
+abbrev pub when : Bool → Code → Option Code
+when b code = if b then Some code else None
+
+-- what the inner parts may not be: an updating one beside a simple one; and a copy, which alone gives items and has an inner part, may not be
+-- changed by a simple one
+abbrev pub inner_fault : Own → List Category → Option Code
+inner_fault OfResults cs = when (is_mixed cs) XUST0001
+inner_fault GivesItems cs = when (list_any is_simple cs) XUST0002
+inner_fault Updates cs = None
+
+-- what the whole asks of its parts
+abbrev pub own_fault : Form Judged → Option Code
+own_fault f =
+    or_else (when (list_any is_updating (categories f.before)) XUST0001)
+    (or_else (inner_fault f.own (categories f.inner))
+    (when (list_any is_updating (categories f.after)) XUST0001))
 
 abbrev pub judged_form : Form Judged → Judged
 judged_form f = record {
   category = category_of f.own (categories f.inner);
-  is_misplaced = list_any may_not_stand f.before || (list_any (λ (j : Judged). j.is_misplaced) f.inner || (list_any may_not_stand f.after || mixes f.own (categories f.inner)));
+  fault = or_else (first_fault (f.before ++ (f.inner ++ f.after))) (own_fault f);
 }
 
 unfoldable pub judged : Expr → Judged

@@ -1,9 +1,10 @@
 -- What the code asks of the parts of an expression.
-use Rattle.std.specs.Prelude.{◌≡◌, ◌⊎◌, ◌+◌, ℕ, suc, Bool, true, false, ◌&&◌, ◌||◌, nat_le, nat_lt, if◌then◌else◌, List, [], ◌∷◌, length, Option, Some, None}
+use Rattle.std.specs.Prelude.{◌≡◌, ◌⊎◌, ◌+◌, ℕ, suc, Bool, true, false, ◌&&◌, ◌||◌, ◌-◌, nat_le, nat_lt, if◌then◌else◌, List, [], ◌∷◌, length, map, take, drop, Option, Some, None}
+use Rattle.std.specs.List.{list_any}
 use Rattle.query_grammar.specs.declared.ast.Expr.{Expr, out-Expr}
 use Rattle.query_grammar.specs.declared.ast.Expr.TheOpen.{Expr-F}
 use Rattle.static_checks.specs.Parts.{parts_alone}
-use Rattle.static_checks.specs.Categories.{Form, Judged, is_updating, is_simple}
+use Rattle.static_checks.specs.Categories.{Form, Judged, categories, is_faulty, is_updating, is_simple, judged}
 use Rattle.static_checks.specs.declared.categories.Category.{Category}
 use Rattle.static_checks.specs.declared.categories.Category.TheVariants.{Updating, Vacuous, Simple}
 use Rattle.static_checks.specs.declared.categories.Own.{Own}
@@ -40,6 +41,14 @@ nothing = record { updates = false; simple = false }
 abbrev pub seen : Found → Category → Found
 seen found c = record { updates = found.updates || is_updating c; simple = found.simple || is_simple c }
 
+-- the parts from an index on, up to another
+abbrev pub between : (from to : ℕ) → List Expr → List Expr
+between from to xs = take (to - from) (drop from xs)
+
+-- what the categories of parts come to
+abbrev pub found_in : List Expr → Found
+found_in xs = record { updates = list_any is_updating (categories (map judged xs)); simple = list_any is_simple (categories (map judged xs)) }
+
 -- a part of that category, inner or not
 abbrev pub taken : Found → Category → (inner : Bool) → Option Found
 taken found c true = Some (seen found c)
@@ -49,16 +58,16 @@ taken found c false = if is_updating c then None else Some found
 abbrev pub walk : (from to index : ℕ) → List Judged → Found → Option Found
 walk from to i [] found = Some found
 walk from to i (j ∷ js) found =
-    if j.is_misplaced then None
+    if is_faulty j then None
     else (if is_inner from to i then walk from to (suc i) js (seen found j.category)
     else (if is_updating j.category then None else walk from to (suc i) js found))
 
--- the category, if nothing is misplaced
+-- the category, if there is no fault
 abbrev pub placed : Judged → Option Category
-placed j = if j.is_misplaced then None else Some j.category
+placed j = if is_faulty j then None else Some j.category
 
 abbrev pub concluded : Own → Option Found → Option Category
 concluded own None = None
 concluded Updates (Some found) = Some Updating
 concluded OfResults (Some found) = if found.updates && found.simple then None else Some (if found.updates then Updating else (if found.simple then Simple else Vacuous))
-concluded GivesItems (Some found) = Some Simple
+concluded GivesItems (Some found) = if found.simple then None else Some Simple

@@ -3,7 +3,7 @@
 -- binds twice, variables that are not bound, categories.
 use Rattle.std.specs.Prelude.{◌≡◌, ℕ, false, if◌then◌else◌, List, [], Option, Some, None, Result, Ok, Err}
 use Rattle.fault_codes.specs.declared.code.Code.{Code}
-use Rattle.fault_codes.specs.declared.code.Code.TheVariants.{XPST0003, XPST0008, XPST0017, XUST0001, XQST0089, PXQ0001}
+use Rattle.fault_codes.specs.declared.code.Code.TheVariants.{XPST0003, XPST0008, XPST0017, XQST0089, PXQ0001}
 use Rattle.query_tokens.specs.declared.fault.ParseFault.{ParseFault}
 use Rattle.query_tokens.specs.declared.fault.ParseFault.TheVariants.{Memory, Static}
 use Rattle.query_tokens.specs.declared.token.Token.{Token}
@@ -17,14 +17,17 @@ use Rattle.static_checks.specs.Functions.{has_unknown_call}
 use Rattle.static_checks.specs.Variables.{binds_a_name_twice, has_unbound}
 use Rattle.static_checks.specs.Categories.{judged}
 
+abbrev pub unless_fault : Option Code → Expr → Result Expr Code
+unless_fault (Some code) x = Err code
+unless_fault None x = Ok x
+
 -- the passes over an expression
 abbrev pub checked : Expr → Result Expr Code
 checked x =
     if has_unknown_call x then Err XPST0017
     else (if binds_a_name_twice x then Err XQST0089
     else (if has_unbound x [] then Err XPST0008
-    else (if (judged x).is_misplaced then Err XUST0001
-    else Ok x)))
+    else unless_fault (judged x).fault x))
 
 -- what the grammar has for tokens, checked
 abbrev pub of_grammar : Option Expr → Result Expr Code
@@ -53,7 +56,7 @@ pub record HasNoFault (x : Expr) : Type 0 where
   pub functions : has_unknown_call x ≡ false
   pub names : binds_a_name_twice x ≡ false
   pub variables : has_unbound x [] ≡ false
-  pub categories : (judged x).is_misplaced ≡ false
+  pub categories : (judged x).fault ≡ None
 
 -- the text is spelt as the expression at a level, and has no static fault
 pub record IsExpression (level : ℕ) (text : List ℕ) (x : Expr) : Type 0 where

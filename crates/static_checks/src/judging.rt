@@ -1,14 +1,15 @@
 //! Where updating expressions stand.
 
-ghost use Rattle.std.specs.Prelude.{◌≡◌, ◌||◌, Some, [], length};
+ghost use Rattle.std.specs.Prelude.{◌≡◌, ◌||◌, true, false, Some, None, [], length, map};
 ghost use Rattle.query_grammar.specs.declared.ast.Expr.{out-Expr};
-ghost use Rattle.static_checks.specs.Categories.{form_of, is_simple, is_updating, judged};
-ghost use Rattle.static_checks.specs.declared.categories.Own.TheVariants.{OfResults};
-ghost use Rattle.static_checks.specs.Inside.{IsInner, concluded, is_inner, placed, taken};
+ghost use Rattle.static_checks.specs.Categories.{first_fault, form_of, is_faulty, is_simple, is_updating, judged};
+ghost use Rattle.static_checks.specs.declared.categories.Own.TheVariants.{GivesItems, OfResults};
+ghost use Rattle.static_checks.specs.Inside.{IsInner, between, children, concluded, found_in, is_inner, placed, seen, taken};
 
 use crate::categories::{Category, Own};
 use crate::parts::part;
 use query_grammar::Expr;
+use values::Code;
 
 /// What the category of an expression comes from, and which of its parts are the inner ones, where an updating expression may stand.
 #[derive(Clone, Copy)]
@@ -63,30 +64,42 @@ pub(crate) fn is_inner(inner: Inner, index: u128) -> bool
     inner.from <= index && index < inner.to
 }
 
+/// What is found with one part more of that category.
+fn seen(found: Found, category: Category) -> Found
+    ensures { result ≡ seen found category }
+{
+    Found {
+        updates: found.updates || category == Category::Updating,
+        simple: found.simple || category == Category::Simple,
+    }
+}
+
 /// One part more; nothing where it updates and may not.
 pub(crate) fn taken(found: Found, category: Category, is_inner: bool) -> Option<Found>
     ensures { result ≡ taken found category is_inner }
 {
-    let updates = category == Category::Updating;
     if is_inner {
-        Some(Found {
-            updates: found.updates || updates,
-            simple: found.simple || category == Category::Simple,
-        })
-    } else if updates {
+        Some(seen(found, category))
+    } else if category == Category::Updating {
         None
     } else {
         Some(found)
     }
 }
 
-/// The category of the whole; nothing where an updating inner part stands beside a simple one.
+/// The category of the whole; nothing where an updating inner part stands beside a simple one, or a copy is changed by a simple one.
 pub(crate) fn concluded(own: Own, found: Found) -> Option<Category>
     ensures { result ≡ concluded own (Some found) }
 {
     match own {
         Own::Updates => Some(Category::Updating),
-        Own::GivesItems => Some(Category::Simple),
+        Own::GivesItems => {
+            if found.simple {
+                None
+            } else {
+                Some(Category::Simple)
+            }
+        }
         Own::OfResults => {
             if found.updates && found.simple {
                 None
@@ -101,7 +114,7 @@ pub(crate) fn concluded(own: Own, found: Found) -> Option<Category>
     }
 }
 
-/// The category of an expression, and nothing where an updating expression stands in it where none may.
+/// The category of an expression, and nothing where there is a fault in it.
 pub(crate) fn judged(x: &Expr) -> Option<Category>
     ensures { result ≡ placed (judged x.now) }
 {
@@ -120,6 +133,74 @@ pub(crate) fn judged(x: &Expr) -> Option<Category>
     concluded(inner.own, found)
 }
 
+/// What the categories of the parts come to whose indices are `from` and those after it, but for `to` and those after that.
+fn found_between(x: &Expr, from: u128, to: u128) -> Found
+    ensures { result ≡ found_in (between from to (children x.now)) }
+{
+    let mut found = Found {
+        updates: false,
+        simple: false,
+    };
+    let mut index = from;
+    while index < to {
+        let Some(y) = part(x, index) else {
+            return found;
+        };
+        found = seen(found, category(y));
+        index += 1;
+    }
+    found
+}
+
+/// Whether that is a copy which is changed by a simple expression, and has no updating source.
+fn is_changed_by_simple(own: Own, before: Found, inner: Found) -> bool
+    ensures is { result ≡ true → (own ≡ GivesItems) × ((inner.simple ≡ true) × (before.updates ≡ false)) }
+    ensures not { result ≡ false → own ≡ GivesItems → inner.simple ≡ true → before.updates ≡ true }
+{
+    match own {
+        Own::GivesItems => inner.simple && !before.updates,
+        Own::Updates => false,
+        Own::OfResults => false,
+    }
+}
+
+/// The code of the fault of an expression in whose parts there is none.
+fn own_code(x: &Expr) -> Code
+    requires faulty { is_faulty (judged x.now) ≡ true }
+    requires parts { first_fault (map judged (children x.now)) ≡ None }
+    ensures { (judged x.now).fault ≡ Some result }
+{
+    let inner = inner_of(x);
+    let before = found_between(x, 0, inner.from);
+    let changes = found_between(x, inner.from, inner.to);
+    if is_changed_by_simple(inner.own, before, changes) {
+        Code::XUST0002
+    } else {
+        Code::XUST0001
+    }
+}
+
+/// The code of the first fault in an expression by categories: an updating expression stands where none may (XQuery Update Facility 1.0,
+/// section 2.5: XUST0001), or what a copy is changed by is neither updating nor vacuous (section 2.4.6: XUST0002). Parts are judged before
+/// the whole, and what the whole asks of them from the left (our own choice). It takes no memory.
+pub fn category_fault(x: &Expr) -> Option<Code>
+    ensures { result ≡ (judged x.now).fault }
+{
+    let mut index: u128 = 0;
+    while let Some(y) = part(x, index) {
+        let fault = category_fault(y);
+        if fault.is_some() {
+            return fault;
+        }
+        index += 1;
+    }
+    if judged(x).is_some() {
+        None
+    } else {
+        Some(own_code(x))
+    }
+}
+
 fn updates(category: Category) -> bool
     ensures { result ≡ is_updating category }
 {
@@ -132,16 +213,8 @@ fn is_or_was_simple(was_simple: bool, category: Category) -> bool
     was_simple || category == Category::Simple
 }
 
-/// Whether an updating expression stands in an expression where none may: it may be the whole, an operand of a comma, a branch, or what
-/// follows `return`, and not beside a simple one (XQuery Update Facility 1.0, section 2.5: XUST0001). It takes no memory.
-pub fn has_misplaced_update(x: &Expr) -> bool
-    ensures { result ≡ (judged x.now).is_misplaced }
-{
-    judged(x).is_none()
-}
-
-/// The category of an expression (XQuery Update Facility 1.0, section 2.1); one in which an updating expression is misplaced has the
-/// category that it would have without. It takes no memory.
+/// The category of an expression (XQuery Update Facility 1.0, section 2.1); one in which there is a fault has the category that it would
+/// have without. It takes no memory.
 pub fn category(x: &Expr) -> Category
     ensures { result ≡ (judged x.now).category }
 {

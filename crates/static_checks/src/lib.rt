@@ -13,6 +13,6 @@ mod walk;
 pub use brackets::nests_too_deep;
 pub use categories::Category;
 pub use functions::has_unknown_call;
-pub use judging::{category, has_misplaced_update};
+pub use judging::{category, category_fault};
 pub use variables::{binds_a_name_twice, has_unbound};
 pub use walk::has_fault;

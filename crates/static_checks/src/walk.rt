@@ -3,7 +3,7 @@
 //! A long expression lies in no cache, so that each walk over it waits for memory once more.
 
 ghost use Rattle.std.specs.Prelude.{◌≡◌, ◌||◌, [], IfOk, IsSome};
-ghost use Rattle.static_checks.specs.Categories.{judged};
+ghost use Rattle.static_checks.specs.Categories.{is_faulty, judged};
 ghost use Rattle.static_checks.specs.Functions.{has_unknown_call};
 ghost use Rattle.static_checks.specs.Variables.{binds_a_name_twice, has_unbound};
 ghost use Rattle.static_checks.specs.Walk.{IsWalked};
@@ -58,7 +58,7 @@ fn walked<'a>(x: &'a Expr, bound: &mut BoundNames<'a>) -> Result<Option<Category
 /// Whether one of the passes over functions, names that one clause binds twice, variables that are not bound, and categories finds a
 /// fault in an expression. Fails only where memory is refused, which says nothing of the expression.
 pub fn has_fault(alloc: Global, x: &Expr) -> Result<bool, AllocError>
-    ensures { IfOk result (λ b. b ≡ has_unknown_call x.now || (binds_a_name_twice x.now || (has_unbound x.now [] || (judged x.now).is_misplaced))) }
+    ensures { IfOk result (λ b. b ≡ has_unknown_call x.now || (binds_a_name_twice x.now || (has_unbound x.now [] || is_faulty (judged x.now)))) }
 {
     let mut bound = BoundNames::new(alloc);
     let found = walked(x, &mut bound)?;
