@@ -9,6 +9,7 @@ use Rattle.ballots.specs.declared.value.Vote.{Vote}
 use Rattle.ballots.specs.declared.value.Entry.{Entry}
 use Rattle.ballots.specs.Messages.{Packet, packet, Promise, Accepted, up_to, to_all}
 use Rattle.paxos.specs.Records.{Record, vote_at, with_vote, window, Write, Nothing, NewPromise, NewVote, written, prepare_write, has_vote, accept_write}
+use Rattle.paxos.specs.Knowledge.{numbered}
 use Rattle.paxos.specs.Step.{Leader, Running, Effect, quiet, yields, yielding, on_prepare, on_accept}
 use Rattle.paxos.specs.World.{casts, World}
 use Rattle.paxos.proofs.Order.{below_self, most_trans, most_antisym, same_vote_equal}
@@ -35,10 +36,11 @@ module _ (w : World) (m : ℕ) (r : Record) (u : Running) (s : Stands w m r u []
       record { own = g.own; kept = most_trans l.ballot r.promise kept.promise g.kept h; based = g.based; asked = g.asked; proposed = g.proposed }
 
   -- an answer that writes no vote
-  answers_good : (b : Ballot) (write : Write) (sends : List Packet) → (written write r).votes ≡ r.votes → ((c : Entry) → Has (casts write) c → ⊥) → below (written write r).promise r.promise ≡ false
+  answers_good : (b : Ballot) (write : Write) (sends : List Packet) → (written write r).votes ≡ r.votes → (written write r).learnt ≡ r.learnt → ((c : Entry) → Has (casts write) c → ⊥) → below (written write r).promise r.promise ≡ false
       → ((k : Packet) → Has sends k → (k.sender ≡ m) × MaySay w None_new (written write r) k.body) → Good w m r (record { write = write; running = Some (yielding b u); sends = sends; tells = [] })
-  answers_good b write sends votes none grows says = plain_good w m r _ s.rising (record {
+  answers_good b write sends votes learnt none grows says = plain_good w m r _ s.holds (record {
     votes = votes;
+    told = λ t h. s.holds.told t (subst (λ vs. Has (numbered 1 vs) t) learnt h);
     casts = none;
     grows = grows;
     sends = says;
@@ -55,11 +57,11 @@ module _ (w : World) (m : ℕ) (r : Record) (u : Running) (s : Stands w m r u []
     where
       promises : (kept : Record) → kept.votes ≡ r.votes → b ≡ kept.promise → (k : Packet) → Has (packet m (Promise (window b from r.votes)) b.member ∷ []) k → (k.sender ≡ m) × MaySay w None_new kept k.body
       promises kept q e k h = sent_to_each w m None_new kept (Promise (window b from r.votes)) (b.member ∷ [])
-          (e, λ p l c. window_says p from r.votes s.rising l c ∙ sym (ap (vote_at p) q)) k h
+          (e, λ p l c. window_says p from r.votes s.holds.rising l c ∙ sym (ap (vote_at p) q)) k h
 
       two : below b r.promise ≡ false → (t : Bool) → below r.promise b ≡ t → Good w m r (record { write = cond t (NewPromise b) Nothing; running = Some (yielding b u); sends = packet m (Promise (window b from r.votes)) b.member ∷ []; tells = [] })
-      two e true l = answers_good b (NewPromise b) _ refl (λ c h. h) e (promises (written (NewPromise b) r) refl refl)
-      two e false l = answers_good b Nothing _ refl (λ c h. h) (below_self r.promise) (promises r refl (most_antisym b r.promise e l))
+      two e true l = answers_good b (NewPromise b) _ refl refl (λ c h. h) e (promises (written (NewPromise b) r) refl refl)
+      two e false l = answers_good b Nothing _ refl refl (λ c h. h) (below_self r.promise) (promises r refl (most_antisym b r.promise e l))
 
       one : (t : Bool) → below b r.promise ≡ t → Good w m r (cond t (quiet u) (record { write = prepare_write r b; running = Some (yielding b u); sends = packet m (Promise (window b from r.votes)) b.member ∷ []; tells = [] }))
       one true e = quiet_good w m r u s
@@ -76,7 +78,7 @@ module _ (w : World) (m : ℕ) (r : Record) (u : Running) (s : Stands w m r u []
     New = None_new;
     fine = record {
       leaves = leaves;
-      rising = rising_with p vote r.votes s.rising;
+      holds = record { rising = rising_with p vote r.votes s.holds.rising; told = s.holds.told };
       casts_new = casts_new;
       casts_are = casts_are;
       sends = λ k h. sent_to_each w m None_new new (Accepted p vote) (up_to (length w.members)) (vote_same p vote r.votes) k h;
@@ -124,7 +126,7 @@ module _ (w : World) (m : ℕ) (r : Record) (u : Running) (s : Stands w m r u []
   accept_good p vote asked = one (below vote.ballot r.promise) refl
     where
       two : below vote.ballot r.promise ≡ false → (t : Bool) → has_vote (vote_at p r.votes) vote ≡ t → Good w m r (record { write = cond t Nothing (NewVote p vote); running = Some (yielding vote.ballot u); sends = to_all (length w.members) m (Accepted p vote); tells = [] })
-      two e true h = answers_good vote.ballot Nothing _ refl (λ c q. q) (below_self r.promise)
+      two e true h = answers_good vote.ballot Nothing _ refl refl (λ c q. q) (below_self r.promise)
           (λ k q. sent_to_each w m None_new r (Accepted p vote) (up_to (length w.members)) (had (vote_at p r.votes) vote h) k q)
       two e false h = votes_good p vote asked e
 

@@ -15,7 +15,7 @@ use Rattle.paxos.specs.World.{told_to, World}
 use Rattle.paxos.specs.Agreement.{IsChosen}
 use Rattle.paxos.proofs.Lists.{has_take}
 use Rattle.paxos.proofs.News.{IsTruth, newly_chosen, newly_or_older, learnt_from_chosen, prefix_grows, said_accepted, said_chosen}
-use Rattle.paxos.proofs.Kept.{size, Invariant, MaySay}
+use Rattle.paxos.proofs.Kept.{size, MayHear, Invariant, MaySay}
 use Rattle.paxos.proofs.Effects.{Stands, None_new, Good, sent_to_each, heard_truth, says_good, quiet_good}
 use Rattle.paxos.proofs.Accepting.{prepare_good, accept_good}
 use Rattle.paxos.proofs.Leading.{promise_good, learns_good, new_request_good}
@@ -89,13 +89,13 @@ owed_of n older sender (Chosen pairs) = newly n (ChosenAre pairs) (news older)
 owed_of n older sender body = []
 
 -- an Accepted or a Chosen that was sent
-news_good : (w : World) (m : ℕ) (r : Record) (u : Running) (older : List Packet) → ((k : Packet) → Has older k → Has w.sent k) → (sender : ℕ) (body : Body) → Comes w sender body → (h : Heard) → Has (news_of sender body) h
+news_good : (w : World) (m : ℕ) (r : Record) (u : Running) (older : List Packet) → ((k : Packet) → Has older k → MayHear w k) → (sender : ℕ) (body : Body) → Comes w sender body → (h : Heard) → Has (news_of sender body) h
     → Stands w m r u (newly (size w) h (news older)) → Good w m r (on_news (size w) m older u h)
 news_good w m r u older sent sender body c h told s = learns_good w m r u (newly (size w) h (news older)) s
     (newly_chosen w h (news older) (newer_truth w s.invariant sender body c h told (news older) (heard_truth w s.invariant older sent))) u.leader refl
 
 -- each kind of message that was sent
-body_good : (w : World) (m : ℕ) (r : Record) (u : Running) (app : Application) (older : List Packet) → ((k : Packet) → Has older k → Has w.sent k) → (sender : ℕ) (body : Body) → Comes w sender body
+body_good : (w : World) (m : ℕ) (r : Record) (u : Running) (app : Application) (older : List Packet) → ((k : Packet) → Has older k → MayHear w k) → (sender : ℕ) (body : Body) → Comes w sender body
     → Stands w m r u (owed_of (size w) older sender body) → Good w m r (on_body app (size w) m older r u sender body)
 body_good w m r u app older sent sender (Prepare b from) c s = prepare_good w m r u s b from
 body_good w m r u app older sent sender (Promise x) c s = promise_good w m r u s older sender x u.leader refl
@@ -119,9 +119,9 @@ hears w m r u k h s = record {
   invariant = s.invariant;
   some = s.some;
   kept = s.kept;
-  rising = s.rising;
+  holds = s.holds;
   leads = s.leads;
-  heard = λ q a. ⊎_elim (λ (e : k ≡ q). subst (Has w.sent) e h) (λ (o : Has u.heard q). s.heard q o) a;
+  heard = λ q a. ⊎_elim (λ (e : k ≡ q). inl (subst (Has w.sent) e h)) (λ (o : Has u.heard q). s.heard q o) a;
   applied = let more = prefix_grows (length w.members) (news_of k.sender k.body) (news u.heard) in omega (arith, s.applied);
   told = λ p value e. ⊎_elim
       (λ (o : learnt (size w) p (news u.heard) ≡ Some value). ⊎_elim (λ (a : Has w.told (told_to m (pair_of p value))). inl a) (λ (a : ⊥). absurd a) (s.told p value o))

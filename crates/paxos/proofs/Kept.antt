@@ -11,7 +11,7 @@ use Rattle.ballots.specs.declared.value.Entry.{Entry}
 use Rattle.ballots.specs.declared.value.Pair.{Pair}
 use Rattle.ballots.specs.Messages.{Packet, Body, Promise, Accept, Accepted, Chosen}
 use Rattle.paxos.specs.Records.{Record, vote_at, written}
-use Rattle.paxos.specs.Knowledge.{learnt as learnt_at, pair_of, prefix, news}
+use Rattle.paxos.specs.Knowledge.{learnt as learnt_at, pair_of, numbered, prefix, news}
 use Rattle.paxos.specs.Step.{Running, Leader, Effect}
 use Rattle.paxos.specs.World.{Member, Cast, Told, cast_by, told_to, casts, World, fresh, after}
 use Rattle.paxos.specs.Agreement.{HasVoted, IsChosen}
@@ -59,12 +59,26 @@ pub record Leads (Not Is : ℕ → Vote → Type 0) (m : ℕ) (r : Record) (l : 
   pub asked : (p : ℕ) (v : Vote) → Not p v → v.ballot ≡ l.ballot → p < l.next
   pub proposed : (p : ℕ) (value : Value) → Has l.proposals (record { position = p; value = value }) → Is p (record { ballot = l.ballot; value = value })
 
+-- a body that tells just chosen values
+abbrev pub TellsChosen : World → Body → Type 0
+TellsChosen w (Chosen pairs) = (e : Pair) → Has pairs e → IsChosen w e.position e.value
+TellsChosen w body = ⊥
+
+-- What a member may have heard: what was sent, or chosen values, as it tells itself at a start.
+abbrev pub MayHear : World → Packet → Type 0
+MayHear w k = Has w.sent k ⊎ TellsChosen w k.body
+
+-- what holds of member m's record: its votes rise, and what it keeps as learnt its member was told
+pub record Holds (w : World) (m : ℕ) (r : Record) : Type 0 where
+  pub rising : Rising r.votes
+  pub told : (e : Pair) → Has (numbered 1 r.learnt) e → Has w.told (told_to m e)
+
 -- what holds after every list of events
 pub record Invariant (w : World) : Type 0 where
   pub safe : (p : ℕ) → Safe (length w.members) (slot_of w p) (Voted w p) (Asked w p) (Reported w p)
-  pub rising : (m : ℕ) (x : Member) → at w.members m ≡ Some x → Rising x.kept.votes
+  pub holds : (m : ℕ) (x : Member) → at w.members m ≡ Some x → Holds w m x.kept
   pub leads : (m : ℕ) (x : Member) (u : Running) (l : Leader) → at w.members m ≡ Some x → x.running ≡ Some u → u.leader ≡ Some l → Leads (Asked w) (Asked w) m x.kept l
-  pub heard : (m : ℕ) (x : Member) (u : Running) (k : Packet) → at w.members m ≡ Some x → x.running ≡ Some u → Has u.heard k → Has w.sent k
+  pub heard : (m : ℕ) (x : Member) (u : Running) (k : Packet) → at w.members m ≡ Some x → x.running ≡ Some u → Has u.heard k → MayHear w k
   pub applied : (m : ℕ) (x : Member) (u : Running) → at w.members m ≡ Some x → x.running ≡ Some u → u.applied ≤ prefix (length w.members) (news u.heard)
   pub learnt : (m : ℕ) (x : Member) (u : Running) (p : ℕ) (value : Value) → at w.members m ≡ Some x → x.running ≡ Some u → learnt_at (length w.members) p (news u.heard) ≡ Some value → Has w.told (told_to m (pair_of p value))
   pub accepted : (k : Packet) (p : ℕ) (v : Vote) → Has w.sent k → k.body ≡ Accepted p v → Voted w p k.sender v
@@ -86,14 +100,14 @@ Asks e p v = (k : Packet) × Has e.sends k × (k.body ≡ Accept p v)
 -- a step of one member that keeps the invariant
 pub record Fine (w : World) (m : ℕ) (old : Record) (New : ℕ → Vote → Type 0) (e : Effect) : Type 0 where
   pub leaves : (p : ℕ) → Leaves (slot p old) (slot p (written e.write old)) (Asked w p)
-  pub rising : Rising (written e.write old).votes
+  pub holds : Holds w m (written e.write old)
   pub casts_new : (p : ℕ) (v : Vote) → vote_at p (written e.write old).votes ≡ Some v → (vote_at p old.votes ≡ Some v) ⊎ Has (casts e.write) (record { position = p; vote = v })
   pub casts_are : (p : ℕ) (v : Vote) → Has (casts e.write) (record { position = p; vote = v }) → vote_at p (written e.write old).votes ≡ Some v
   pub sends : (k : Packet) → Has e.sends k → (k.sender ≡ m) × MaySay w New (written e.write old) k.body
   pub may_ask : (p : ℕ) (v : Vote) → New p v → MayAsk (length w.members) m (written e.write old).promise (Asked w p) (Reported w p) v
   pub new_one : (p : ℕ) (v u : Vote) → New p v → New p u → v.value ≡ u.value
   pub leads : (u : Running) (l : Leader) → e.running ≡ Some u → u.leader ≡ Some l → Leads (λ p v. Asked w p v ⊎ New p v) (λ p v. Asked w p v ⊎ Asks e p v) m (written e.write old) l
-  pub heard : (u : Running) (k : Packet) → e.running ≡ Some u → Has u.heard k → Has w.sent k
+  pub heard : (u : Running) (k : Packet) → e.running ≡ Some u → Has u.heard k → MayHear w k
   pub applied : (u : Running) → e.running ≡ Some u → u.applied ≤ prefix (length w.members) (news u.heard)
   pub learnt : (u : Running) (p : ℕ) (value : Value) → e.running ≡ Some u → learnt_at (length w.members) p (news u.heard) ≡ Some value → Has w.told (told_to m (pair_of p value)) ⊎ Has e.tells (pair_of p value)
   pub tells : (t : Pair) → Has e.tells t → IsChosen w t.position t.value
@@ -270,16 +284,31 @@ module _ (w : World) (m : ℕ) (x : Member) (New : ℕ → Vote → Type 0) (e :
   unfolding w'
   before u p value l = subst (λ n. learnt_at n p (news u.heard) ≡ Some value) (length_put w.members m y') l
 
+  -- what a record holds stays
+  holds_old : (k : ℕ) (r : Record) → Holds w k r → Holds w' k r
+  unfolding w'
+  holds_old k r h = record { rising = h.rising; told = λ t o. has_left w.told (map (told_to m) e.tells) (told_to k t) (h.told t o) }
+
+  -- what may be heard stays
+  hear_old : (k : Packet) → MayHear w k → MayHear w' k
+  unfolding w'
+  hear_old k (inl o) = inl (has_left w.sent e.sends k o)
+  hear_old k (inr t) = inr (tells k.body t)
+    where
+      tells : (b : Body) → TellsChosen w b → TellsChosen (after w m x.kept e) b
+      tells (Chosen pairs) h = λ d o. chosen_old d.position d.value (h d o)
+      tells b h = absurd h
+
   -- A fine step keeps the invariant.
   pub invariant_after : Invariant (after w m x.kept e)
   unfolding w'
   invariant_after = record {
     safe = safe';
-    rising = each_member (λ k r o. Rising r.votes) f.rising (λ k y d a. i.rising k y a);
+    holds = each_member (λ k r o. Holds w' k r) (holds_old m new f.holds) (λ k y d a. holds_old k y.kept (i.holds k y a));
     leads = λ k y u l h. each_member (λ j v o. o ≡ Some u → u.leader ≡ Some l → Leads (Asked w') (Asked w') j v l)
         (λ r q. lead_own l (f.leads u l r q))
         (λ j z d a r q. lead_other j z.kept d l (i.leads j z u l a r q)) k y h;
-    heard = λ k y u p h r q. has_left w.sent e.sends p (each_member (λ j v o. o ≡ Some u → Has w.sent p)
+    heard = λ k y u p h r q. hear_old p (each_member (λ j v o. o ≡ Some u → MayHear w p)
         (λ o. f.heard u p o q) (λ j z d a o. i.heard j z u p a o q) k y h r);
     applied = λ k y u h r. subst (λ n. u.applied ≤ prefix n (news u.heard)) (sym (length_put w.members m y'))
         (each_member (λ j v o. o ≡ Some u → u.applied ≤ prefix (length w.members) (news u.heard)) (λ o. f.applied u o) (λ j z d a o. i.applied j z u a o) k y h r);

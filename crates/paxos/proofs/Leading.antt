@@ -12,8 +12,8 @@ use Rattle.ballots.specs.declared.value.Value.{Value}
 use Rattle.ballots.specs.declared.value.Value.TheVariants.{Request as Of}
 use Rattle.ballots.specs.declared.value.Vote.{Vote}
 use Rattle.ballots.specs.declared.value.Pair.{Pair}
-use Rattle.ballots.specs.Messages.{Window, Packet, packet, Body, Prepare, Accept, Elsewhere, up_to, to_all}
-use Rattle.paxos.specs.Records.{Record}
+use Rattle.ballots.specs.Messages.{Window, Packet, packet, Body, Prepare, Promise, Accept, Elsewhere, up_to, to_all}
+use Rattle.paxos.specs.Records.{Record, NewPromise, written}
 use Rattle.paxos.specs.Knowledge.{joins, news, prefix}
 use Rattle.paxos.specs.Proposing.{Turn, passes, proposes, has_open, is_covered, has_place, proposal, turn, has_free_place}
 use Rattle.paxos.specs.Step.{Leader, Running, quiet, cover_heard, report_heard, is_learnt_heard, turn_of, goes_on, accepts, leading, asks_on, on_promise, closes, learns, on_new_request, next_ballot, may_begin, begins, on_begin, resent, on_resend}
@@ -26,7 +26,7 @@ use Rattle.paxos.proofs.Lists.{has_right, has_cases, has_map, map_has, has_flat,
 use Rattle.paxos.proofs.Windows.{cover_promised, reported_promised}
 use Rattle.paxos.proofs.Turns.{Why, Turned, unturned, proposes_turned, turns_turned}
 use Rattle.paxos.proofs.Kept.{size, kept_in, Asked, Reported, reports_in, Leads, MaySay, Asks}
-use Rattle.paxos.proofs.Effects.{Stands, None_new, Good, plain_good, sent_to_each, same_heard, same_applied, same_told, tells_good, says_good, quiet_good}
+use Rattle.paxos.proofs.Effects.{Stands, None_new, Good, plain_good, sent_to_each, heard_sent, same_heard, same_applied, same_told, tells_good, says_good, quiet_good}
 
 -- the Accept of a proposal
 abbrev accept_of : Ballot → Pair → Body
@@ -57,10 +57,10 @@ module _ (w : World) (m : ℕ) (r : Record) (u : Running) (owed : List Pair) (s 
     top = report_heard u.heard l e.position;
     each = λ k h.
         let p = cover_promised l.ballot l.base k e.position u.heard above (leb-true _ _ h) in
-        (p.0, reports_in u.heard w.sent e.position k l.ballot p.0 p.1 (s.heard p.1.packet p.1.sent), p.2);
+        (p.0, reports_in u.heard w.sent e.position k l.ballot p.0 p.1 (heard_sent w p.1.packet (Promise p.1.window) (s.heard p.1.packet p.1.sent) p.1.body (λ n. n)), p.2);
     held = λ t h.
         let p = reported_promised l.ballot l.base e.position u.heard t h in
-        let said = reports_in u.heard w.sent e.position p.0 l.ballot (Some t) p.1 (s.heard p.1.packet p.1.sent) in
+        let said = reports_in u.heard w.sent e.position p.0 l.ballot (Some t) p.1 (heard_sent w p.1.packet (Promise p.1.window) (s.heard p.1.packet p.1.sent) p.1.body (λ n. n)) in
         record { member = p.0; in_quorum = le-leb e.position (cover_heard u.heard l p.0) p.2; reported = said; same_value = why.value t h; lower = lower t p.0 said };
   }
     where
@@ -84,7 +84,7 @@ module _ (w : World) (m : ℕ) (r : Record) (u : Running) (owed : List Pair) (s 
     New = New;
     fine = record {
       leaves = λ p. record { grows = below_self r.promise; vote = inl refl };
-      rising = s.rising;
+      holds = s.holds;
       casts_new = λ p v h. inl h;
       casts_are = λ p v h. absurd h;
       sends = λ k h. ⊎_elim
@@ -197,11 +197,12 @@ module _ (w : World) (m : ℕ) (r : Record) (u : Running) (s : Stands w m r u []
 
   -- a Begin that is not refused
   pub begins_good : Good w m r (begins (size w) m r u)
-  begins_good = plain_good w m r (begins (size w) m r u) s.rising (record {
+  begins_good = plain_good w m r (begins (size w) m r u) s.holds (record {
     votes = refl;
+    told = s.holds.told;
     casts = λ c h. h;
     grows = below_not r.promise (next_ballot m r) above;
-    sends = sent_to_each w m None_new (record { promise = next_ballot m r; votes = r.votes }) (Prepare (next_ballot m r) (suc base)) (up_to (size w)) tt;
+    sends = sent_to_each w m None_new (written (NewPromise (next_ballot m r)) r) (Prepare (next_ballot m r) (suc base)) (up_to (size w)) tt;
     leads = leads;
     heard = λ v k e h. same_heard w m r u [] s _ v k e h;
     applied = λ v e. same_applied w m r u [] s _ v e;
@@ -224,8 +225,8 @@ module _ (w : World) (m : ℕ) (r : Record) (u : Running) (s : Stands w m r u []
           let k : below (kept_in (at w.members m)).promise (next_ballot m r) ≡ false = subst (λ (b : Ballot). below (kept_in (at w.members b.member)).promise b ≡ false) e h in
           both_ways (below r.promise (next_ballot m r)) (subst (λ (x : Record). below x.promise (next_ballot m r) ≡ false) s.kept k) above
 
-      leads : (v : Running) (l : Leader) → (begins (size w) m r u).running ≡ Some v → v.leader ≡ Some l → Leads (Asked w) (Asked w) m (record { promise = next_ballot m r; votes = r.votes }) l
-      leads v l e h = subst (Leads (Asked w) (Asked w) m (record { promise = next_ballot m r; votes = r.votes })) (same_Some lead l (ap (λ (x : Running). x.leader) (same_Some _ _ e) ∙ h))
+      leads : (v : Running) (l : Leader) → (begins (size w) m r u).running ≡ Some v → v.leader ≡ Some l → Leads (Asked w) (Asked w) m (written (NewPromise (next_ballot m r)) r) l
+      leads v l e h = subst (Leads (Asked w) (Asked w) m (written (NewPromise (next_ballot m r)) r)) (same_Some lead l (ap (λ (x : Running). x.leader) (same_Some _ _ e) ∙ h))
           (record { own = refl; kept = below_self (next_ballot m r); based = omega arith; asked = λ p x a q. absurd (none p x a q); proposed = λ p value a. absurd a })
 
   -- a Begin

@@ -1,5 +1,5 @@
 -- What is read off the news that a learner heard.
-use Rattle.std.proofs.Common.{◌≡◌, ℕ, zero, suc, ◌<◌, ◌≤◌, Bool, true, false, cond, arith, refl, ◌⊎◌, inl, inr, sym, subst, ap, ◌∙◌, Option, Some, None, ⊎_elim, List, [], ◌∷◌, ◌++◌, map, length, ◌==◌, ◌&&◌, eqb-true, ltb-true, is_some, is_none, option_to_list}
+use Rattle.std.proofs.Common.{◌≡◌, ℕ, zero, suc, ◌+◌, ◌<◌, ◌≤◌, Bool, true, false, cond, arith, refl, ◌⊎◌, inl, inr, sym, subst, ap, ◌∙◌, Option, Some, None, ⊎_elim, List, [], ◌∷◌, ◌++◌, map, length, ◌==◌, ◌&&◌, eqb-true, ltb-true, is_some, is_none, option_to_list}
 use Rattle.std.specs.Prelude.{flat_map}
 use Rattle.std.proofs.lemmas.Bool.{and_parts, false≢true, cases_lt}
 use Rattle.std.proofs.lemmas.Option.{none-some, same_Some, cond_some}
@@ -25,7 +25,7 @@ is_accepted p v m (AcceptedBy k q u) h =
 is_accepted p v m (ChosenAre pairs) h = absurd (false≢true h)
 
 -- a value told for a position is among the pairs
-pair_has : (p : ℕ) (pairs : List Pair) (value : Value) → value_at p pairs ≡ Some value → Has pairs (record { position = p; value = value })
+pub pair_has : (p : ℕ) (pairs : List Pair) (value : Value) → value_at p pairs ≡ Some value → Has pairs (record { position = p; value = value })
 pair_has p [] value h = absurd (none-some value h)
 pair_has p (e ∷ es) value h = one (pair_has p es value) (p == e.position) refl h
   where
@@ -165,6 +165,19 @@ run_passes test (suc k) p q l h = one (λ g. run_passes test k (suc p) q g) (tes
     one : (suc p < q → q ≤ last_of_run test k (suc p) → test q ≡ true) → (c : Bool) → test (suc p) ≡ c → q ≤ elim c as (λ x. ℕ) [ true ↦ last_of_run test k (suc p) | false ↦ p ] → test q ≡ true
     one rest false e g = absurd (omega arith)
     one rest true e g = ⊎_elim (λ (a : suc p < q). rest a g) (λ (a : q ≤ suc p). subst (λ x. test x ≡ true) (at_most p q l a) e) (cases_lt (suc p) q)
+
+-- a run is no longer than its limit
+run_limit : (test : ℕ → Bool) (k p : ℕ) → last_of_run test k p ≤ p + k
+run_limit test zero p = omega arith
+run_limit test (suc k) p = one (test (suc p)) (run_limit test k (suc p))
+  where
+    one : (t : Bool) → last_of_run test k (suc p) ≤ suc p + k → elim t as (λ x. ℕ) [ true ↦ last_of_run test k (suc p) | false ↦ p ] ≤ p + suc k
+    one true h = omega (arith, h)
+    one false h = omega arith
+
+-- the prefix is at most all positions
+pub prefix_limit : (n : ℕ) (heard : List Heard) → prefix n heard ≤ positions
+prefix_limit n heard = let l = run_limit (λ p. is_some (learnt n p heard)) positions 0 in omega (arith, l)
 
 -- a test that passes more has a longer run
 pub run_longer : (f g : ℕ → Bool) → ((q : ℕ) → f q ≡ true → g q ≡ true) → (k p : ℕ) → last_of_run f k p ≤ last_of_run g k p

@@ -46,11 +46,11 @@ several w v x (e ∷ es) fs h k = several (happens silent w ample e) v x es fs h
 
 -- a running member with that record, that has heard these messages, the newest first, and applied nothing
 abbrev pub member_with : Ballot → List Entry → List Packet → Option Leader → Member
-member_with promise votes heard leader = record { kept = record { promise = promise; votes = votes }; running = Some (record { heard = heard; leader = leader; applied = 0 }) }
+member_with promise votes heard leader = record { kept = record { promise = promise; votes = votes; learnt = [] }; running = Some (record { heard = heard; leader = leader; applied = 0 }) }
 
 -- a stopped member with that record
 abbrev pub stopped_with : Ballot → List Entry → Member
-stopped_with promise votes = record { kept = record { promise = promise; votes = votes }; running = None }
+stopped_with promise votes = record { kept = record { promise = promise; votes = votes; learnt = [] }; running = None }
 
 -- the messages of a ballot: its member's Prepare to k, the Promise of k with these votes, the Accept of the request to k, the Accepted of m to k
 abbrev pub prepare : Ballot → ℕ → Packet

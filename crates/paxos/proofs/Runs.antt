@@ -1,26 +1,26 @@
 -- Every event keeps the invariant, so it holds after every list of events; agreement and P2c follow.
-use Rattle.std.proofs.Common.{◌<◌, ◌≡◌, ℕ, zero, suc, ◌≤◌, Bool, true, false, cond, arith, refl, ◌⊎◌, inl, inr, sym, subst, ap, ◌∙◌, Option, Some, None, ⊎_elim, List, [], ◌∷◌, ◌++◌, length, ap₂, option_to_list}
+use Rattle.std.proofs.Common.{◌<◌, ◌≡◌, ℕ, zero, suc, ◌+◌, nat_lt, ◌≤◌, Bool, true, false, cond, arith, refl, ◌⊎◌, inl, inr, sym, subst, ap, ◌∙◌, Option, Some, None, ⊎_elim, List, [], ◌∷◌, ◌++◌, length, ap₂, option_to_list}
 use Rattle.std.proofs.lemmas.Option.{none-some, same_Some}
 use Rattle.paxos.specs.Lists.{at, Has}
 use Rattle.ballots.specs.Ballot.{below}
 use Rattle.ballots.specs.declared.value.Value.{Value}
 use Rattle.ballots.specs.declared.value.Vote.{Vote}
+use Rattle.ballots.specs.declared.value.Pair.{Pair}
 use Rattle.ballots.specs.Messages.{Packet, packet, Body, Promise, Accept, Accepted, Chosen, Submit, Ask}
 use Rattle.paxos.specs.Application.{Application}
 use Rattle.paxos.specs.Records.{Record, vote_at}
-use Rattle.paxos.specs.Knowledge.{news, learnt, prefix, values_to}
-use Rattle.paxos.specs.Step.{Running, Effect, quiet, on_message, may_begin, begins, on_begin}
-use Rattle.paxos.specs.World.{Member, World, started, fresh, start, Event, Deliver, Begin, Resend, CatchUp, Submits, Asks, StopInDeliver, StopInBegin, Stop, Start, Choice, keeps_in, stops_in, settles, runs, takes, acts, delivers, begins_in, asks, restarts, starts, happens, Happening, run, Run}
+use Rattle.paxos.specs.Knowledge.{news, learnt, pair_of, numbered, prefix, values_to}
+use Rattle.paxos.specs.Step.{Running, Effect, quiet, on_message, may_begin, begins, on_begin, keeping, on_keep, resumed}
+use Rattle.paxos.specs.World.{Member, World, told_to, started, fresh, start, Event, Deliver, Begin, Resend, CatchUp, Keep, Submits, Asks, StopInDeliver, StopInBegin, StopInKeep, Stop, Start, Choice, keeps_in, stops_in, settles, runs, takes, acts, delivers, begins_in, asks, restarts, starts, happens, Happening, run, Run}
 use Rattle.paxos.specs.Agreement.{HasVoted, IsChosen, IsTold, Agreement, IsRunning}
 use Rattle.paxos.specs.Proposable.{IsFree, IsOfHighest, IsProposable, IsIssued, P2c}
 use Rattle.paxos.proofs.Order.{below_self}
 use Rattle.paxos.proofs.Safe.{NotAbove, above_trans, Backed, accepted_one}
 use Rattle.paxos.proofs.Moves.{Moves, safe_after}
 use Rattle.paxos.proofs.Lists.{has_left, has_cases, at_has, at_replicate}
-use Rattle.paxos.proofs.Votes.{Rising}
 use Rattle.paxos.proofs.News.{prefix_learnt}
-use Rattle.paxos.proofs.Kept.{kept_in, slot_of, Voted, Asked, Reported, reports_in, Invariant, invariant_after}
-use Rattle.paxos.proofs.Effects.{Stands, Good, None_new, nothing_new, quiet_good, stops_in_good, settles_good, started_good}
+use Rattle.paxos.proofs.Kept.{kept_in, slot_of, Voted, Asked, Reported, reports_in, TellsChosen, MayHear, Holds, Invariant, invariant_after}
+use Rattle.paxos.proofs.Effects.{Stands, Good, None_new, nothing_new, plain_good, same_heard, same_applied, same_told, quiet_good, stops_in_good, applies_good, settles_good, resumed_good}
 use Rattle.paxos.proofs.Leading.{begins_good, begin_good, resend_good}
 use Rattle.paxos.proofs.Answering.{message_good, catch_up_tick_good}
 
@@ -36,7 +36,7 @@ stands w i m x u h r = record {
   invariant = i;
   some = some_member w.members m x h;
   kept = ap kept_in h;
-  rising = i.rising m x h;
+  holds = i.holds m x h;
   leads = λ l k. i.leads m x u l h r k;
   heard = λ p k. i.heard m x u p h r k;
   applied = i.applied m x u h r;
@@ -57,30 +57,78 @@ acts_keeps w i m step good = taken (at w.members m) refl
 
 -- a delivery
 delivers_keeps : (w : World) → Invariant w → (app : Application) (how : Effect → Effect)
-    → ((m : ℕ) (r : Record) (e : Effect) → Rising r.votes → Good w m r e → Good w m r (how e))
+    → ((m : ℕ) (r : Record) (e : Effect) → Holds w m r → Good w m r e → Good w m r (how e))
     → (o : Option Packet) → ((k : Packet) → o ≡ Some k → Has w.sent k) → Invariant (delivers app w how o)
 delivers_keeps w i app how keeps None h = i
 delivers_keeps w i app how keeps (Some k) h = acts_keeps w i k.target (λ r u. how (on_message app (length w.members) k.target k r u))
-    (λ r u s. keeps k.target r (on_message app (length w.members) k.target k r u) s.rising (message_good w k.target r u app k (h k refl) s))
+    (λ r u s. keeps k.target r (on_message app (length w.members) k.target k r u) s.holds (message_good w k.target r u app k (h k refl) s))
 
 -- a Begin, with what it leaves open
 begins_in_good : (w : World) (c : Choice) (m : ℕ) (r : Record) (u : Running) → Stands w m r u [] → Good w m r (begins_in w c m r u)
 begins_in_good w c m r u s = one (may_begin (length w.members) r u)
   where
     one : (t : Bool) → Good w m r (cond t (settles (length w.members) c (begins (length w.members) m r u)) (quiet u))
-    one true = settles_good w m r c _ s.rising (begins_good w m r u s)
+    one true = settles_good w m r c _ s.holds (begins_good w m r u s)
     one false = quiet_good w m r u s
 
 -- a start of a member that is there
-restarts_keeps : (w : World) → Invariant w → (fails : Option Bool) (m : ℕ) (x : Member) → at w.members m ≡ Some x → (o : Option Running) → Invariant (restarts w fails m x.kept o)
-restarts_keeps w i fails m x h (Some u) = i
-restarts_keeps w i (Some kept) m x h None = i
-restarts_keeps w i None m x h None = let g = started_good w m x.kept (i.rising m x h) in invariant_after w m x g.New _ i h g.fine
+restarts_keeps : (w : World) → Invariant w → (fails : Option Bool) (k m : ℕ) (x : Member) → at w.members m ≡ Some x → (o : Option Running) → Invariant (restarts w fails k m x.kept o)
+restarts_keeps w i fails k m x h (Some u) = i
+restarts_keeps w i (Some kept) k m x h None = i
+restarts_keeps w i None k m x h None = let g = applies_good w m x.kept k (quiet (resumed m x.kept)) (resumed_good w i m x.kept (i.holds m x h)) in invariant_after w m x g.New _ i h g.fine
 
 -- a start
-starts_keeps : (w : World) → Invariant w → (fails : Option Bool) (m : ℕ) (o : Option Member) → at w.members m ≡ o → Invariant (starts w fails m o)
-starts_keeps w i fails m None h = i
-starts_keeps w i fails m (Some x) h = restarts_keeps w i fails m x h x.running
+starts_keeps : (w : World) → Invariant w → (c : Choice) (m : ℕ) (o : Option Member) → at w.members m ≡ o → Invariant (starts w c m o)
+starts_keeps w i c m None h = i
+starts_keeps w i c m (Some x) h = restarts_keeps w i c.fails c.applied m x h x.running
+
+-- what is kept at the end of a list of values
+kept_last : (p : ℕ) (values : List Value) (value : Value) (e : Pair) → Has (numbered p (values ++ value ∷ [])) e → Has (numbered p values) e ⊎ (e ≡ pair_of (p + length values) value)
+kept_last p [] value e (inl q) = inr (sym q ∙ ap (λ x. pair_of x value) (omega arith))
+kept_last p [] value e (inr h) = absurd h
+kept_last p (v ∷ values) value e (inl q) = inl (inl q)
+kept_last p (v ∷ values) value e (inr h) = ⊎_elim
+    (λ (o : Has (numbered (suc p) values) e). inl (inr o))
+    (λ (q : e ≡ pair_of (suc p + length values) value). inr (q ∙ ap (λ x. pair_of x value) (omega arith)))
+    (kept_last (suc p) values value e h)
+
+-- a learnt value that is kept was told
+keep_good : (w : World) (m : ℕ) (r : Record) (u : Running) → Stands w m r u [] → Good w m r (on_keep (length w.members) r u)
+keep_good w m r u s = one (nat_lt (length r.learnt) (prefix (length w.members) (news u.heard)))
+  where
+    next : ℕ
+    next = suc (length r.learnt)
+
+    writes_good : (value : Value) → learnt (length w.members) next (news u.heard) ≡ Some value → Good w m r (keeping u (Some value))
+    writes_good value l = plain_good w m r _ s.holds (record {
+      votes = refl;
+      told = λ t h. ⊎_elim
+          (λ (o : Has (numbered 1 r.learnt) t). s.holds.told t o)
+          (λ (q : t ≡ pair_of (1 + length r.learnt) value). subst (λ (x : Pair). Has w.told (told_to m x)) (sym (q ∙ at_next value)) (was_told value l))
+          (kept_last 1 r.learnt value t h);
+      casts = λ c h. h;
+      grows = below_self r.promise;
+      sends = λ k h. absurd h;
+      leads = λ v l e h. let g = s.leads l (ap (λ (x : Running). x.leader) (same_Some u v e) ∙ h) in record { own = g.own; kept = g.kept; based = g.based; asked = g.asked; proposed = g.proposed };
+      heard = λ v k e h. same_heard w m r u [] s u.leader v k e h;
+      applied = λ v e. same_applied w m r u [] s u.leader v e;
+      learnt = λ v p value e l. same_told w m r u [] s u.leader v e p value l;
+      tells = λ t h. absurd h;
+    })
+      where
+        at_next : (value : Value) → pair_of (1 + length r.learnt) value ≡ pair_of next value
+        at_next value = ap (λ x. pair_of x value) (omega arith)
+
+        was_told : (value : Value) → learnt (length w.members) next (news u.heard) ≡ Some value → Has w.told (told_to m (pair_of next value))
+        was_told value l = ⊎_elim (λ (o : Has w.told (told_to m (pair_of next value))). o) (λ (o : ⊥). absurd o) (s.told next value l)
+
+    two : (o : Option Value) → learnt (length w.members) next (news u.heard) ≡ o → Good w m r (keeping u o)
+    two None e = quiet_good w m r u s
+    two (Some value) e = writes_good value e
+
+    one : (c : Bool) → Good w m r (keeping u (cond c (learnt (length w.members) next (news u.heard)) None))
+    one true = two (learnt (length w.members) next (news u.heard)) refl
+    one false = quiet_good w m r u s
 
 -- a kind of message that the acceptors, leaders and learners don't send one another
 abbrev IsPlain : Body → Type 0
@@ -138,12 +186,21 @@ module _ (w : World) (m : ℕ) (body : Body) (plain : IsPlain body) (i : Invaria
   unfolding more
   chosen_more p value c = record { ballot = c.ballot; set = c.set; majority = c.majority; voted = c.voted }
 
+  -- what may be heard stays
+  hear_more : (k : Packet) → MayHear w k → MayHear more k
+  hear_more k (inl o) = inl (grown k o)
+  hear_more k (inr t) = inr (tells k.body t)
+    where
+      tells : (b : Body) → TellsChosen w b → TellsChosen more b
+      tells (Chosen pairs) h = λ d o. chosen_more d.position d.value (h d o)
+      tells b h = absurd h
+
   -- the message more keeps the invariant
   more_keeps : Invariant more
   unfolding more
   more_keeps = record {
     safe = λ p. safe_after (length w.members) m (None_new p) (slot_of w p) (slot_of w p) (Voted w p) (Voted w p) (Asked w p) (Asked more p) (Reported w p) (Reported more p) (i.safe p) (moves_more p);
-    rising = i.rising;
+    holds = λ k x h. let g = i.holds k x h in record { rising = g.rising; told = g.told };
     leads = λ k x u l h r q. let g = i.leads k x u l h r q in record {
       own = g.own;
       kept = g.kept;
@@ -151,7 +208,7 @@ module _ (w : World) (m : ℕ) (body : Body) (plain : IsPlain body) (i : Invaria
       asked = λ p v a b. g.asked p v (asked_before p v a) b;
       proposed = λ p value a. asked_more p _ (g.proposed p value a);
     };
-    heard = λ k x u p h r q. grown p (i.heard k x u p h r q);
+    heard = λ k x u p h r q. hear_more p (i.heard k x u p h r q);
     applied = i.applied;
     learnt = i.learnt;
     accepted = λ k p v h e. i.accepted k p v (still k (Accepted p v) (λ x. x) h e) e;
@@ -167,16 +224,18 @@ asks_keeps w i m body plain (Some x) = more_keeps w m body plain i
 
 -- each event keeps the invariant
 happens_keeps : (app : Application) (w : World) (c : Choice) (e : Event) → Invariant w → Invariant (happens app w c e)
-happens_keeps app w c (Deliver k) i = delivers_keeps w i app (settles (length w.members) c) (λ m r e rising g. settles_good w m r c e rising g) (at w.sent k) (λ p h. at_has w.sent k p h)
+happens_keeps app w c (Deliver k) i = delivers_keeps w i app (settles (length w.members) c) (λ m r e holds g. settles_good w m r c e holds g) (at w.sent k) (λ p h. at_has w.sent k p h)
 happens_keeps app w c (Begin m) i = acts_keeps w i m (begins_in w c m) (λ r u s. begins_in_good w c m r u s)
-happens_keeps app w c (Resend m) i = acts_keeps w i m _ (λ r u s. settles_good w m r c _ s.rising (resend_good w m r u s))
-happens_keeps app w c (CatchUp m) i = acts_keeps w i m _ (λ r u s. settles_good w m r c _ s.rising (catch_up_tick_good w m r u s))
+happens_keeps app w c (Resend m) i = acts_keeps w i m _ (λ r u s. settles_good w m r c _ s.holds (resend_good w m r u s))
+happens_keeps app w c (CatchUp m) i = acts_keeps w i m _ (λ r u s. settles_good w m r c _ s.holds (catch_up_tick_good w m r u s))
+happens_keeps app w c (Keep m) i = acts_keeps w i m _ (λ r u s. settles_good w m r c _ s.holds (keep_good w m r u s))
 happens_keeps app w c (Submits m q) i = asks_keeps w i m (Submit q) tt (at w.members m)
 happens_keeps app w c (Asks m q) i = asks_keeps w i m (Ask q) tt (at w.members m)
-happens_keeps app w c (StopInDeliver k kept) i = delivers_keeps w i app (stops_in (keeps_in c.fails kept)) (λ m r e rising g. stops_in_good w m r (keeps_in c.fails kept) e rising g) (at w.sent k) (λ p h. at_has w.sent k p h)
-happens_keeps app w c (StopInBegin m kept) i = acts_keeps w i m _ (λ r u s. stops_in_good w m r (keeps_in c.fails kept) (on_begin (length w.members) m r u) s.rising (begin_good w m r u s))
-happens_keeps app w c (Stop m) i = acts_keeps w i m _ (λ r u s. stops_in_good w m r false (quiet u) s.rising (quiet_good w m r u s))
-happens_keeps app w c (Start m) i = starts_keeps w i c.fails m (at w.members m) refl
+happens_keeps app w c (StopInDeliver k kept) i = delivers_keeps w i app (stops_in (keeps_in c.fails kept)) (λ m r e holds g. stops_in_good w m r (keeps_in c.fails kept) e holds g) (at w.sent k) (λ p h. at_has w.sent k p h)
+happens_keeps app w c (StopInBegin m kept) i = acts_keeps w i m _ (λ r u s. stops_in_good w m r (keeps_in c.fails kept) (on_begin (length w.members) m r u) s.holds (begin_good w m r u s))
+happens_keeps app w c (StopInKeep m kept) i = acts_keeps w i m _ (λ r u s. stops_in_good w m r (keeps_in c.fails kept) (on_keep (length w.members) r u) s.holds (keep_good w m r u s))
+happens_keeps app w c (Stop m) i = acts_keeps w i m _ (λ r u s. stops_in_good w m r false (quiet u) s.holds (quiet_good w m r u s))
+happens_keeps app w c (Start m) i = starts_keeps w i c m (at w.members m) refl
 
 -- so does each list of events
 run_keeps : (app : Application) (w : World) (hs : List Happening) → Invariant w → Invariant (run app w hs)
@@ -199,7 +258,7 @@ start_holds n = record {
     asked_one = λ v w h k e. absurd h.sent;
     asked_backed = λ v h. absurd h.sent;
   };
-  rising = λ m x h. subst (λ (y : Member). Rising y.kept.votes) (at_replicate n m fresh x h) tt;
+  holds = λ m x h. subst (λ (y : Member). Holds (start n) m y.kept) (at_replicate n m fresh x h) (record { rising = tt; told = λ e o. absurd o });
   leads = λ m x u l h r k. absurd (none-some l (ap (λ (y : Running). y.leader) (is_started m x u h r) ∙ k));
   heard = λ m x u p h r k. absurd (subst (λ (y : Running). Has y.heard p) (sym (is_started m x u h r)) k);
   applied = λ m x u h r. subst (λ (y : Running). y.applied ≤ prefix (length (start n).members) (news y.heard)) (is_started m x u h r) (omega arith);
@@ -256,6 +315,7 @@ module _ (w : World) (i : Invariant w) where
     told = told_chosen;
     told_one = λ k m p a b h q. one_chosen p a b (told_chosen k p a h) (told_chosen m p b q);
     learnt = learnt_told;
+    kept = λ m x e h o. (i.holds m x h).told e o;
     applied = applied_learnt;
     same_values = same_values;
   }

@@ -1,12 +1,17 @@
 -- A well-formed step stays so, whatever a failing store, a stop inside it or applying makes of it.
-use Rattle.std.proofs.Common.{◌≡◌, ℕ, Bool, true, false, cond, refl, subst, Option, Some, None}
+use Rattle.std.proofs.Common.{◌≡◌, ℕ, Bool, true, false, cond, refl, inl, inr, subst, Option, Some, None, List, [], ◌∷◌}
 use Rattle.std.specs.Prelude.{option_map}
 use Rattle.std.proofs.lemmas.Option.{none-some, same_Some}
 use Rattle.ballots.specs.declared.ballot.Ballot.{Ballot}
 use Rattle.paxos.specs.Records.{Record, writes}
-use Rattle.paxos.specs.Step.{Running, Effect, quiet}
-use Rattle.paxos.specs.World.{started, Choice, stops_in, may_fail, applies_to, applies, settles}
-use Rattle.paxos.specs.WellFormed.{IsRecord, IsState}
+use Rattle.ballots.specs.declared.value.Value.{Value}
+use Rattle.ballots.specs.declared.value.Pair.{Pair}
+use Rattle.ballots.specs.Messages.{Packet, packet, Body, Chosen}
+use Rattle.paxos.specs.Lists.{Has}
+use Rattle.paxos.specs.Knowledge.{numbered}
+use Rattle.paxos.specs.Step.{Running, Effect, quiet, chosen_packet, resumed}
+use Rattle.paxos.specs.World.{Choice, stops_in, may_fail, applies_to, applies, settles}
+use Rattle.paxos.specs.WellFormed.{IsRecord, IsCalledFor, IsState}
 use Rattle.paxos.proofs.Order.{below_self}
 use Rattle.paxos.proofs.Steps.{Stepped}
 
@@ -38,12 +43,18 @@ module _ (n m : ℕ) (Asked : Ballot → Type 0) (r : Record) where
   pub settles_step : (c : Choice) (e : Effect) → IsRecord n r → Stepped n m Asked r e → Stepped n m Asked r (settles n c e)
   settles_step c e is s = applies_step c.applied (may_fail c.fails e) (may_fail_step c.fails e is s)
 
+  -- what it kept is called for
+  kept_called : (pairs : List Pair) (k : Packet) → Has (chosen_packet m m pairs) k → IsCalledFor r k.body
+  kept_called [] k h = absurd h
+  kept_called (e ∷ es) k (inl q) = subst (λ (x : Packet). IsCalledFor r x.body) q tt
+  kept_called (e ∷ es) k (inr h) = absurd h
+
   -- a start
-  pub started_step : IsRecord n r → Stepped n m Asked r (quiet started)
-  started_step is = record {
+  pub resumed_step : (k : ℕ) → IsRecord n r → Stepped n m Asked r (applies n k (quiet (resumed m r)))
+  resumed_step k is = applies_step k (quiet (resumed m r)) (record {
     kept = is;
     grows = below_self r.promise;
-    runs = λ u h. subst (IsState n m r) (same_Some started u h) (record { kept = is; leads = λ l e. absurd (none-some l e); heard = λ k o. absurd o });
+    runs = λ u h. subst (IsState n m r) (same_Some (resumed m r) u h) (record { kept = is; leads = λ l e. absurd (none-some l e); heard = kept_called (numbered 1 r.learnt) });
     sends = λ k h. absurd h;
     tells = tt;
-  }
+  })

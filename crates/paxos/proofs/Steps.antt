@@ -1,5 +1,5 @@
 -- Each step of a member keeps what it keeps and leads well formed, sends and is told nothing else, and lowers no promise.
-use Rattle.std.proofs.Common.{◌≡◌, ℕ, zero, suc, ◌-◌, ◌<◌, ◌≤◌, ◌⊎◌, Bool, true, false, cond, not, arith, refl, inl, inr, sym, subst, ap, Option, Some, None, ⊎_elim, List, [], ◌∷◌, map, filter, length, take, ◌&&◌, ◌==◌, nat_lt, ltb-true}
+use Rattle.std.proofs.Common.{◌≡◌, ℕ, zero, suc, ◌-◌, ◌<◌, ◌≤◌, ◌⊎◌, Bool, true, false, cond, not, arith, refl, inl, inr, sym, subst, ap, Option, Some, None, ⊎_elim, List, [], ◌∷◌, ◌++◌, map, filter, length, length-append, take, ◌&&◌, ◌==◌, nat_lt, ltb-true}
 use Rattle.std.specs.Prelude.{flat_map}
 use Rattle.std.proofs.lemmas.Bool.{and_parts}
 use Rattle.std.proofs.lemmas.List.{length-take}
@@ -9,19 +9,21 @@ use Rattle.ballots.specs.Terms.{Request, Question}
 use Rattle.ballots.specs.Ballot.{most_members, last_round, no_ballot, below}
 use Rattle.ballots.specs.declared.ballot.Ballot.{Ballot}
 use Rattle.ballots.specs.Values.{positions}
+use Rattle.ballots.specs.declared.value.Value.{Value}
 use Rattle.ballots.specs.declared.value.Value.TheVariants.{Request as Of}
 use Rattle.ballots.specs.declared.value.Vote.{Vote}
 use Rattle.ballots.specs.declared.value.Pair.{Pair}
 use Rattle.ballots.specs.declared.reply.Reply.{Reply as Kept}
 use Rattle.ballots.specs.Messages.{Window, Body, Prepare, Promise, Accept, Accepted, Chosen, CatchUp, Submit, Reply, Ask, Answer, Behind, Elsewhere, Packet, packet, up_to, to_all}
 use Rattle.paxos.specs.Application.{Application}
-use Rattle.paxos.specs.Records.{Record, window, Write, Nothing, NewPromise, NewVote, written, prepare_write, has_vote, vote_at, accept_write}
-use Rattle.paxos.specs.Knowledge.{AcceptedBy, ChosenAre, news, newly, prefix, learnt_from, joins}
+use Rattle.paxos.specs.Records.{Record, window, Write, Nothing, NewPromise, NewVote, NewLearnt, written, prepare_write, has_vote, vote_at, accept_write}
+use Rattle.paxos.specs.Knowledge.{AcceptedBy, ChosenAre, news, learnt, newly, prefix, learnt_from, joins}
 use Rattle.paxos.specs.Proposing.{Turn, proposes, has_open, has_free_place}
-use Rattle.paxos.specs.Step.{Leader, Running, Effect, says, quiet, yields, yielding, on_prepare, on_accept, cover_heard, report_heard, is_learnt_heard, turn_of, goes_on, accepts, leading, asks_on, on_promise, closes, learns, chosen_packet, on_catch_up, values_of, on_new_request, on_submit, on_ask, on_body, is_called_for, on_message, next_ballot, may_begin, begins, on_begin, resent, on_resend, on_catch_up_tick}
+use Rattle.paxos.specs.Step.{Leader, Running, Effect, says, quiet, yields, yielding, on_prepare, on_accept, cover_heard, report_heard, is_learnt_heard, turn_of, goes_on, accepts, leading, asks_on, on_promise, closes, learns, chosen_packet, on_catch_up, values_of, on_new_request, on_submit, on_ask, on_body, is_called_for, on_message, next_ballot, may_begin, begins, on_begin, resent, on_resend, on_catch_up_tick, keeping, on_keep}
 use Rattle.paxos.specs.WellFormed.{IsPosition, IsBallotOf, AreVotes, ArePairs, IsBody, IsSender, IsMessage, IsRecord, IsLeader, IsCalledFor, IsState, IsStep}
 use Rattle.paxos.proofs.Order.{below_self, below_not, from_under, most_trans}
 use Rattle.paxos.proofs.Lists.{has_cases, has_flat, has_filter}
+use Rattle.paxos.proofs.News.{prefix_limit}
 use Rattle.paxos.proofs.Accepting.{yields_is}
 use Rattle.paxos.proofs.Ranges.{votes_weaker, votes_with, window_is, newly_at_pairs, each_newly_pairs, learnt_from_pairs, pairs_take}
 use Rattle.paxos.proofs.Places.{Each, each_of, of_each, Placed, proposes_placed, place_is, turns_placed}
@@ -137,7 +139,7 @@ module _ (n m : ℕ) (low : 1 ≤ m) (high : m ≤ n) (Asked : Ballot → Type 0
           (record { message = record { sender = (low, high); target = is.1; body = window_is n b from r.votes is here (votes_under b h) }; calls = (asked, refl) }) k o
 
       two : below b r.promise ≡ false → (t : Bool) → Stepped n m Asked r (record { write = cond t (NewPromise b) Nothing; running = Some (yielding b u); sends = packet m (Promise (window b from r.votes)) b.member ∷ []; tells = [] })
-      two h true = answers_step b (NewPromise b) _ (record { promise = inr is; votes = votes_under b h }) h (said (written (NewPromise b) r) h)
+      two h true = answers_step b (NewPromise b) _ (record { promise = inr is; votes = votes_under b h; learnt = s.kept.learnt }) h (said (written (NewPromise b) r) h)
       two h false = answers_step b Nothing _ s.kept (below_self r.promise) (said r h)
 
       one : (t : Bool) → below b r.promise ≡ t → Stepped n m Asked r (cond t (quiet u) (record { write = prepare_write r b; running = Some (yielding b u); sends = packet m (Promise (window b from r.votes)) b.member ∷ []; tells = [] }))
@@ -155,7 +157,7 @@ module _ (n m : ℕ) (low : 1 ≤ m) (high : m ≤ n) (Asked : Ballot → Type 0
       two : below vote.ballot r.promise ≡ false → (t : Bool) → Stepped n m Asked r (record { write = cond t Nothing (NewVote p vote); running = Some (yielding vote.ballot u); sends = to_all n m (Accepted p vote); tells = [] })
       two h true = answers_step vote.ballot Nothing _ s.kept (below_self r.promise) (said r)
       two h false = answers_step vote.ballot (NewVote p vote) _
-          (record { promise = inr is; votes = votes_with n vote.ballot p vote 1 positions here.0 here.1 is (below_self vote.ballot) r.votes (votes_under vote.ballot h) })
+          (record { promise = inr is; votes = votes_with n vote.ballot p vote 1 positions here.0 here.1 is (below_self vote.ballot) r.votes (votes_under vote.ballot h); learnt = s.kept.learnt })
           h (said (written (NewVote p vote) r))
 
       one : (t : Bool) → below vote.ballot r.promise ≡ t → Stepped n m Asked r (cond t (quiet u) (record { write = accept_write r p vote; running = Some (yielding vote.ballot u); sends = to_all n m (Accepted p vote); tells = [] }))
@@ -312,7 +314,7 @@ module _ (n m : ℕ) (low : 1 ≤ m) (high : m ≤ n) (Asked : Ballot → Type 0
       grows = below_not r.promise (next_ballot m r) (from_under r.promise (next_ballot m r) (omega arith))
 
       kept : IsRecord n (written (NewPromise (next_ballot m r)) r)
-      kept = record { promise = inr is; votes = votes_under (next_ballot m r) grows }
+      kept = record { promise = inr is; votes = votes_under (next_ballot m r) grows; learnt = s.kept.learnt }
 
       lead : Leader
       lead = record { ballot = next_ballot m r; base = prefix n (news u.heard); next = suc (prefix n (news u.heard)); proposals = [] }
@@ -339,6 +341,34 @@ module _ (n m : ℕ) (low : 1 ≤ m) (high : m ≤ n) (Asked : Ballot → Type 0
   -- the tick Resend
   pub resend_step : Stepped n m Asked r (on_resend n m u)
   resend_step = says_step _ (resent_send u.leader refl)
+
+  -- the tick Keep
+  pub keep_step : Stepped n m Asked r (on_keep n r u)
+  keep_step = one (nat_lt (length r.learnt) (prefix n (news u.heard))) refl
+    where
+      few : (value : Value) → nat_lt (length r.learnt) (prefix n (news u.heard)) ≡ true → length (r.learnt ++ value ∷ []) ≤ positions
+      few value h = subst (λ k. k ≤ positions) (sym (length-append r.learnt (value ∷ []))) (omega (arith, ltb-true _ _ h, prefix_limit n (news u.heard)))
+
+      kept : (value : Value) → nat_lt (length r.learnt) (prefix n (news u.heard)) ≡ true → IsRecord n (written (NewLearnt value) r)
+      kept value h = record { promise = s.kept.promise; votes = s.kept.votes; learnt = few value h }
+
+      two : (o : Option Value) → nat_lt (length r.learnt) (prefix n (news u.heard)) ≡ true → Stepped n m Asked r (keeping u o)
+      two None h = quiet_step
+      two (Some value) h = record {
+        kept = kept value h;
+        grows = below_self r.promise;
+        runs = λ v e. subst (IsState n m (written (NewLearnt value) r)) (same_Some u v e) (record {
+          kept = kept value h;
+          leads = λ l q. let g = s.leads l q in record { ballot = g.ballot; own = g.own; kept = g.kept; least = g.least; most = g.most; proposals = g.proposals };
+          heard = λ k o. called_still r (written (NewLearnt value) r) k.body (below_self r.promise) (s.heard k o);
+        });
+        sends = λ k o. absurd o;
+        tells = tt;
+      }
+
+      one : (c : Bool) → nat_lt (length r.learnt) (prefix n (news u.heard)) ≡ c → Stepped n m Asked r (keeping u (cond c (learnt n (suc (length r.learnt)) (news u.heard)) None))
+      one true h = two (learnt n (suc (length r.learnt)) (news u.heard)) h
+      one false h = quiet_step
 
   -- the tick CatchUp
   pub catch_up_tick_step : Stepped n m Asked r (on_catch_up_tick n m u)
@@ -390,3 +420,7 @@ resend_is_step n m r u low high few s = is_step n m (λ b. Unit {0}) r _ (resend
 -- So is the tick CatchUp.
 pub catch_up_is_step : (n m : ℕ) (r : Record) (u : Running) → 1 ≤ m → m ≤ n → n ≤ most_members → IsState n m r u → IsStep n m r (on_catch_up_tick n m u)
 catch_up_is_step n m r u low high few s = is_step n m (λ b. Unit {0}) r _ (catch_up_tick_step n m low high (λ b. Unit {0}) r u s)
+
+-- So is the tick Keep.
+pub keep_is_step : (n m : ℕ) (r : Record) (u : Running) → 1 ≤ m → m ≤ n → n ≤ most_members → IsState n m r u → IsStep n m r (on_keep n r u)
+keep_is_step n m r u low high few s = is_step n m (λ b. Unit {0}) r _ (keep_step n m low high (λ b. Unit {0}) r u s)

@@ -1,5 +1,5 @@
 -- Three members: one begins, a request is submitted, and all is delivered.
-use Rattle.std.proofs.Common.{is_none, arith, ◌≡◌, ℕ, cond, refl, ap, ◌∙◌, List, [], ◌∷◌, ◌++◌, map, length, Option, Some, None, inr}
+use Rattle.std.proofs.Common.{is_none, arith, ◌≡◌, ℕ, cond, true, false, refl, ap, ◌∙◌, List, [], ◌∷◌, ◌++◌, map, length, Option, Some, None, inr}
 use Rattle.ballots.specs.Ballot.{last_round}
 use Rattle.ballots.specs.declared.ballot.Ballot.{Ballot}
 use Rattle.ballots.specs.Messages.{packet, Submit, up_to}
@@ -9,8 +9,8 @@ use Rattle.ballots.specs.declared.value.Pair.{Pair}
 use Rattle.paxos.specs.Knowledge.{pair_of}
 use Rattle.paxos.specs.Proposing.{Turn, proposes, turn}
 use Rattle.paxos.specs.Step.{says, Leader, leading, turn_of, cover_heard, report_heard, is_learnt_heard}
-use Rattle.paxos.specs.World.{told_to, cast_by, World, start, Deliver, Begin, Submits, after, settles, happens, run}
-use Rattle.paxos.specs.Examples.{silent, smoothly, deliveries, request, ballot, straight, applied_in}
+use Rattle.paxos.specs.World.{told_to, cast_by, World, start, Event, Deliver, Begin, Keep, Submits, StopInKeep, Stop, Start, after, settles, happens, run}
+use Rattle.paxos.specs.Examples.{silent, smoothly, deliveries, request, ballot, straight, after_straight, applied_in}
 use Rattle.paxos.proofs.Quick.{EndsAt, goes_quickly, turns_quickly}
 use Rattle.paxos.proofs.Playing.{ample, member_at, hearing, leads_on, step, several, member_with, prepare, promise, accept, accepted, entry}
 
@@ -153,3 +153,53 @@ straight_sent = ap (λ (w : World). length w.sent) whole ∙ sent
 -- what is applied after it
 pub straight_applied : applied_in (straight 3) ≡ Some 1 ∷ Some 1 ∷ Some 1 ∷ []
 straight_applied = ap applied_in whole ∙ all_applied
+
+-- what follows the whole run
+follows : (events : List Event) → after_straight events ≡ run silent end (smoothly events)
+unfolding after_straight
+follows events = ap (λ (w : World). run silent w (smoothly events)) whole
+
+kept : applied_in (run silent end (smoothly (Keep 3 ∷ Stop 3 ∷ Start 3 ∷ []))) ≡ Some 1 ∷ Some 1 ∷ Some 1 ∷ []
+unfolding positions last_round
+kept = refl
+
+not_kept : applied_in (run silent end (smoothly (Stop 3 ∷ Start 3 ∷ []))) ≡ Some 1 ∷ Some 1 ∷ Some 0 ∷ []
+unfolding positions last_round
+not_kept = refl
+
+cut_kept : applied_in (run silent end (smoothly (StopInKeep 3 true ∷ Start 3 ∷ []))) ≡ Some 1 ∷ Some 1 ∷ Some 1 ∷ []
+unfolding positions last_round
+cut_kept = refl
+
+cut_lost : applied_in (run silent end (smoothly (StopInKeep 3 false ∷ Start 3 ∷ []))) ≡ Some 1 ∷ Some 1 ∷ Some 0 ∷ []
+unfolding positions last_round
+cut_lost = refl
+
+sent_still : length (run silent end (smoothly (Keep 3 ∷ Stop 3 ∷ Start 3 ∷ []))).sent ≡ 19
+unfolding positions last_round
+sent_still = refl
+
+told_still : (run silent end (smoothly (Keep 3 ∷ Stop 3 ∷ Start 3 ∷ []))).told ≡ told_to 1 (pair_of 1 (Of request)) ∷ told_to 2 (pair_of 1 (Of request)) ∷ told_to 3 (pair_of 1 (Of request)) ∷ []
+unfolding positions last_round
+told_still = refl
+
+-- a start with what was kept applies it, says nothing and is told nothing
+pub keep_applied : applied_in (after_straight (Keep 3 ∷ Stop 3 ∷ Start 3 ∷ [])) ≡ Some 1 ∷ Some 1 ∷ Some 1 ∷ []
+keep_applied = ap applied_in (follows (Keep 3 ∷ Stop 3 ∷ Start 3 ∷ [])) ∙ kept
+
+pub keep_sent : length (after_straight (Keep 3 ∷ Stop 3 ∷ Start 3 ∷ [])).sent ≡ 19
+keep_sent = ap (λ (w : World). length w.sent) (follows (Keep 3 ∷ Stop 3 ∷ Start 3 ∷ [])) ∙ sent_still
+
+pub keep_told : (after_straight (Keep 3 ∷ Stop 3 ∷ Start 3 ∷ [])).told ≡ told_to 1 (pair_of 1 (Of request)) ∷ told_to 2 (pair_of 1 (Of request)) ∷ told_to 3 (pair_of 1 (Of request)) ∷ []
+keep_told = ap (λ (w : World). w.told) (follows (Keep 3 ∷ Stop 3 ∷ Start 3 ∷ [])) ∙ told_still
+
+-- one without applies nothing
+pub start_applied : applied_in (after_straight (Stop 3 ∷ Start 3 ∷ [])) ≡ Some 1 ∷ Some 1 ∷ Some 0 ∷ []
+start_applied = ap applied_in (follows (Stop 3 ∷ Start 3 ∷ [])) ∙ not_kept
+
+-- so after a stop inside the write, as it left the record
+pub cut_kept_applied : applied_in (after_straight (StopInKeep 3 true ∷ Start 3 ∷ [])) ≡ Some 1 ∷ Some 1 ∷ Some 1 ∷ []
+cut_kept_applied = ap applied_in (follows (StopInKeep 3 true ∷ Start 3 ∷ [])) ∙ cut_kept
+
+pub cut_lost_applied : applied_in (after_straight (StopInKeep 3 false ∷ Start 3 ∷ [])) ≡ Some 1 ∷ Some 1 ∷ Some 0 ∷ []
+cut_lost_applied = ap applied_in (follows (StopInKeep 3 false ∷ Start 3 ∷ [])) ∙ cut_lost

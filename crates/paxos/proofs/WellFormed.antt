@@ -9,14 +9,14 @@ use Rattle.ballots.specs.declared.ballot.Ballot.{Ballot}
 use Rattle.ballots.specs.Messages.{Packet, packet, Body, Prepare, Promise, Submit, Ask}
 use Rattle.paxos.specs.Application.{Application}
 use Rattle.paxos.specs.Records.{Record, written}
-use Rattle.paxos.specs.Step.{Running, Effect, quiet, on_message, may_begin, begins, on_begin}
-use Rattle.paxos.specs.World.{Member, World, started, fresh, start, Event, Deliver, Begin, Resend, CatchUp, Submits, Asks, StopInDeliver, StopInBegin, Stop, Start, Choice, after, keeps_in, stops_in, settles, runs, takes, acts, delivers, begins_in, asks, restarts, starts, happens, Happening, run}
+use Rattle.paxos.specs.Step.{Running, Effect, quiet, on_message, may_begin, begins, on_begin, on_keep, resumed}
+use Rattle.paxos.specs.World.{Member, World, started, fresh, start, Event, Deliver, Begin, Resend, CatchUp, Keep, Submits, Asks, StopInDeliver, StopInBegin, StopInKeep, Stop, Start, Choice, after, keeps_in, stops_in, applies, settles, runs, takes, acts, delivers, begins_in, asks, restarts, starts, happens, Happening, run}
 use Rattle.paxos.specs.Sound.{IsAskedFor, Sound}
 use Rattle.paxos.specs.WellFormed.{IsMessage, IsRecord, IsCalledFor, IsState, IsWellFormed}
 use Rattle.paxos.proofs.Order.{below_self, most_trans}
 use Rattle.paxos.proofs.Lists.{has_cases, at_has, at_put, at_put_other, length_put, at_replicate}
-use Rattle.paxos.proofs.Steps.{Calls, Stepped, called_still, quiet_step, begin_step, begins_step, resend_step, catch_up_tick_step, message_step}
-use Rattle.paxos.proofs.Settled.{stops_in_step, settles_step, started_step}
+use Rattle.paxos.proofs.Steps.{Calls, Stepped, called_still, quiet_step, begin_step, begins_step, resend_step, catch_up_tick_step, keep_step, message_step}
+use Rattle.paxos.proofs.Settled.{stops_in_step, settles_step, resumed_step}
 
 -- an element that is there has a number from 1 to the length
 pub at_number : {A : Type 0} (xs : List A) (m : ℕ) (x : A) → at xs m ≡ Some x → (1 ≤ m) × (m ≤ length xs)
@@ -96,15 +96,16 @@ acts_sound n w i m step good = taken (at w.members m) refl
     taken (Some x) h = ran x h x.running refl
 
 -- a start of a member that is there
-restarts_sound : (n : ℕ) (w : World) → Sound n w → (fails : Option Bool) (m : ℕ) (x : Member) → at w.members m ≡ Some x → (o : Option Running) → Sound n (restarts w fails m x.kept o)
-restarts_sound n w i fails m x h (Some u) = i
-restarts_sound n w i (Some kept) m x h None = i
-restarts_sound n w i None m x h None = sound_after n w m x (quiet started) i h (started_step n m (IsAskedFor w) x.kept (i.kept m x h))
+restarts_sound : (n : ℕ) (w : World) → Sound n w → (fails : Option Bool) (k m : ℕ) (x : Member) → at w.members m ≡ Some x → (o : Option Running) → Sound n (restarts w fails k m x.kept o)
+restarts_sound n w i fails k m x h (Some u) = i
+restarts_sound n w i (Some kept) k m x h None = i
+restarts_sound n w i None k m x h None = subst (λ j. Sound n (after w m x.kept (applies j k (quiet (resumed m x.kept))))) (sym i.size)
+    (sound_after n w m x (applies n k (quiet (resumed m x.kept))) i h (resumed_step n m (IsAskedFor w) x.kept k (i.kept m x h)))
 
 -- a start
-starts_sound : (n : ℕ) (w : World) → Sound n w → (fails : Option Bool) (m : ℕ) (o : Option Member) → at w.members m ≡ o → Sound n (starts w fails m o)
-starts_sound n w i fails m None h = i
-starts_sound n w i fails m (Some x) h = restarts_sound n w i fails m x h x.running
+starts_sound : (n : ℕ) (w : World) → Sound n w → (c : Choice) (m : ℕ) (o : Option Member) → at w.members m ≡ o → Sound n (starts w c m o)
+starts_sound n w i c m None h = i
+starts_sound n w i c m (Some x) h = restarts_sound n w i c.fails c.applied m x h x.running
 
 -- what a client says
 abbrev IsClients : Body → Type 0
@@ -183,13 +184,16 @@ module _ (w : World) (i : Sound (length w.members) w) where
   event_sound app c (Begin m) = acts_sound n w i m (begins_in w c m) (λ x u here low high s. begins_in_step c m low high x.kept u s)
   event_sound app c (Resend m) = acts_sound n w i m _ (λ x u here low high s. settles_step n m (IsAskedFor w) x.kept c _ s.kept (resend_step n m low high (IsAskedFor w) x.kept u s))
   event_sound app c (CatchUp m) = acts_sound n w i m _ (λ x u here low high s. settles_step n m (IsAskedFor w) x.kept c _ s.kept (catch_up_tick_step n m low high (IsAskedFor w) x.kept u s))
+  event_sound app c (Keep m) = acts_sound n w i m _ (λ x u here low high s. settles_step n m (IsAskedFor w) x.kept c (on_keep n x.kept u) s.kept (keep_step n m low high (IsAskedFor w) x.kept u s))
   event_sound app c (Submits m q) = asks_sound n w i m (Submit q) tt (at w.members m) refl
   event_sound app c (Asks m q) = asks_sound n w i m (Ask q) tt (at w.members m) refl
   event_sound app c (StopInDeliver k kept) = delivers_sound app (stops_in (keeps_in c.fails kept)) (λ m r e is s. stops_in_step n m (IsAskedFor w) r (keeps_in c.fails kept) e is s) (at w.sent k) (λ p h. at_has w.sent k p h)
   event_sound app c (StopInBegin m kept) = acts_sound n w i m _ (λ x u here low high s.
       stops_in_step n m (IsAskedFor w) x.kept (keeps_in c.fails kept) (on_begin n m x.kept u) s.kept (begin_step n m low high (IsAskedFor w) x.kept u s i.few))
+  event_sound app c (StopInKeep m kept) = acts_sound n w i m _ (λ x u here low high s.
+      stops_in_step n m (IsAskedFor w) x.kept (keeps_in c.fails kept) (on_keep n x.kept u) s.kept (keep_step n m low high (IsAskedFor w) x.kept u s))
   event_sound app c (Stop m) = acts_sound n w i m _ (λ x u here low high s. stops_in_step n m (IsAskedFor w) x.kept false (quiet u) s.kept (quiet_step n m low high (IsAskedFor w) x.kept u s))
-  event_sound app c (Start m) = starts_sound n w i c.fails m (at w.members m) refl
+  event_sound app c (Start m) = starts_sound n w i c m (at w.members m) refl
 
 -- each event keeps n members well formed
 pub happens_sound : (n : ℕ) (app : Application) (w : World) (c : Choice) (e : Event) → Sound n w → Sound n (happens app w c e)
@@ -213,7 +217,7 @@ start_sound n few = record {
 }
   where
     is_fresh : IsRecord n fresh.kept
-    is_fresh = record { promise = inl refl; votes = tt }
+    is_fresh = record { promise = inl refl; votes = tt; learnt = omega arith }
 
     is_started : {m : ℕ} → IsState n m fresh.kept started
     is_started = record { kept = is_fresh; leads = λ l e. absurd (none-some l e); heard = λ k o. absurd o }

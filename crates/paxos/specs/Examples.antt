@@ -66,6 +66,10 @@ deliveries from (suc k) = Deliver from ∷ deliveries (suc from) k
 unfoldable pub straight : (members : ℕ) → World
 straight n = run silent (start n) (smoothly (Begin 1 ∷ deliveries 1 (2 * n) ++ Submits 1 request ∷ deliveries (2 * n + 1) (n * n + n + 1)))
 
+-- after the straight run of three members member 3 keeps what it learnt, or not, stops and starts
+unfoldable pub after_straight : List Event → World
+after_straight events = run silent (straight 3) (smoothly events)
+
 -- how many positions each member has applied, where it runs
 abbrev pub applied_in : World → List (Option ℕ)
 applied_in w = map (λ (x : Member). option_map (λ (u : Running). u.applied) x.running) w.members

@@ -66,6 +66,16 @@ pub data IsHeard (members : ℕ) (position : ℕ) (heard : List Heard) (value : 
 abbrev pub pair_of : (position : ℕ) → Value → Pair
 pair_of p value = record { position = p; value = value }
 
+-- the values, at the positions from p on
+abbrev pub numbered : (p : ℕ) → List Value → List Pair
+numbered p [] = []
+numbered p (value ∷ values) = pair_of p value ∷ numbered (suc p) values
+
+-- what a start tells a learner of what was kept: its values as chosen, or nothing
+abbrev pub kept_news : List Pair → List Heard
+kept_news [] = []
+kept_news (e ∷ es) = ChosenAre (e ∷ es) ∷ []
+
 -- what the newest tells of a position, if it was not learnt before
 abbrev pub newly_at : (members : ℕ) → (newest : Heard) → (older : List Heard) → (position : ℕ) → List Pair
 newly_at n h older p = if is_none (learnt n p older) then map (pair_of p) (option_to_list (learnt n p (h ∷ older))) else []

@@ -1,6 +1,6 @@
 -- What one member does with each message and each tick: what it writes, sends and tells, and how it runs on.
 -- The two phases are those of "Paxos Made Simple", sections 2.2 and 3; the rest is our own choice where nothing is cited.
-use Rattle.std.specs.Prelude.{ℕ, suc, ◌-◌, Bool, true, not, ◌&&◌, ◌==◌, nat_lt, if◌then◌else◌, List, [], ◌∷◌, ◌++◌, map, flat_map, filter, take, Option, Some, None, is_some}
+use Rattle.std.specs.Prelude.{ℕ, suc, ◌-◌, Bool, true, not, ◌&&◌, ◌==◌, nat_lt, if◌then◌else◌, List, [], ◌∷◌, ◌++◌, map, flat_map, filter, take, length, Option, Some, None, is_some}
 use Rattle.ballots.specs.Terms.{Request, Question}
 use Rattle.ballots.specs.Ballot.{below, last_round}
 use Rattle.ballots.specs.declared.ballot.Ballot.{Ballot}
@@ -12,8 +12,8 @@ use Rattle.ballots.specs.declared.value.Pair.{Pair}
 use Rattle.ballots.specs.declared.reply.Reply.{Reply as Kept}
 use Rattle.ballots.specs.Messages.{Window, Body, Prepare, Promise, Accept, Accepted, Chosen, CatchUp, Submit, Reply, Ask, Answer, Behind, Elsewhere, Packet, packet, up_to, to_all}
 use Rattle.paxos.specs.Application.{Application}
-use Rattle.paxos.specs.Records.{Record, window, Write, Nothing, NewPromise, prepare_write, accept_write}
-use Rattle.paxos.specs.Knowledge.{Heard, AcceptedBy, ChosenAre, news, learnt, newly, prefix, learnt_from, values_to, windows, joins, cover, reported}
+use Rattle.paxos.specs.Records.{Record, window, Write, Nothing, NewPromise, NewLearnt, prepare_write, accept_write}
+use Rattle.paxos.specs.Knowledge.{Heard, AcceptedBy, ChosenAre, news, learnt, numbered, newly, prefix, learnt_from, values_to, windows, joins, cover, reported}
 use Rattle.paxos.specs.Proposing.{Turn, proposes, still_open, has_open, turns, has_free_place}
 
 -- A leader's ballot; the positions up to the base were learnt when it began; the next position to propose at; the open proposals.
@@ -240,3 +240,20 @@ abbrev pub on_catch_up_tick : (members : ℕ) → (self : ℕ) → Running → E
 on_catch_up_tick n m u =
     let p = prefix n (news u.heard) in
     says u (if nat_lt p positions then map (packet m (CatchUp (suc p))) (filter (λ k. not (k == m)) (up_to n)) else [])
+
+-- the first value past what the record keeps, if all positions up to it are learnt
+abbrev pub to_keep : (members : ℕ) → Record → Running → Option Value
+to_keep n r u = if nat_lt (length r.learnt) (prefix n (news u.heard)) then learnt n (suc (length r.learnt)) (news u.heard) else None
+
+-- the value is kept
+abbrev pub keeping : Running → Option Value → Effect
+keeping u None = quiet u
+keeping u (Some value) = record { write = NewLearnt value; running = Some u; sends = []; tells = [] }
+
+-- one more learnt value is kept over stops, in the order of positions
+abbrev pub on_keep : (members : ℕ) → Record → Running → Effect
+on_keep n r u = keeping u (to_keep n r u)
+
+-- A start has the record and nothing else: the member tells itself what it kept, as chosen values, and so has learnt just these.
+abbrev pub resumed : (self : ℕ) → Record → Running
+resumed m r = record { heard = chosen_packet m m (numbered 1 r.learnt); leader = None; applied = 0 }

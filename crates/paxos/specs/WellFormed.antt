@@ -71,10 +71,11 @@ pub record IsMessage (members : ℕ) (k : Packet) : Type 0 where
   pub target : k.target ≤ members
   pub body : IsBody members k.body
 
--- a record that one of n members may keep: its votes are not above its promise
+-- a record that one of n members may keep: its votes are not above its promise, and it keeps values at positions that there are
 pub record IsRecord (members : ℕ) (r : Record) : Type 0 where
   pub promise : (r.promise ≡ no_ballot) ⊎ IsBallotOf members r.promise
   pub votes : AreVotes members r.promise 1 positions r.votes
+  pub learnt : length r.learnt ≤ positions
 
 -- what one of n members may lead, where it keeps r: a ballot of its own, not above its promise
 pub record IsLeader (members : ℕ) (self : ℕ) (r : Record) (l : Leader) : Type 0 where

@@ -2,14 +2,13 @@
 use Rattle.std.specs.Prelude.{◌≡◌, ℕ, ◌&&◌, Bool, false, nat_le, if◌then◌else◌, List, [], ◌∷◌, ◌++◌, map, length, replicate, Option, Some, None, option_map}
 use Rattle.paxos.specs.Lists.{at, put}
 use Rattle.ballots.specs.Terms.{Request, Question}
-use Rattle.ballots.specs.Ballot.{no_ballot}
 use Rattle.ballots.specs.declared.value.Entry.{Entry}
 use Rattle.ballots.specs.declared.value.Pair.{Pair}
 use Rattle.ballots.specs.Messages.{Body, Submit, Ask, Packet, packet}
 use Rattle.paxos.specs.Application.{Application}
-use Rattle.paxos.specs.Records.{Record, Write, Nothing, NewPromise, NewVote, writes, written}
+use Rattle.paxos.specs.Records.{Record, empty_record, Write, Nothing, NewPromise, NewVote, NewLearnt, writes, written}
 use Rattle.paxos.specs.Knowledge.{prefix, news}
-use Rattle.paxos.specs.Step.{Running, Effect, quiet, on_message, may_begin, begins, on_begin, on_resend, on_catch_up_tick}
+use Rattle.paxos.specs.Step.{Running, Effect, quiet, on_message, may_begin, begins, on_begin, on_resend, on_catch_up_tick, on_keep, resumed}
 
 -- a member's record, and what it has while it runs; members and messages are numbered from 1
 pub record Member : Type 0 where
@@ -33,13 +32,13 @@ pub record World : Type 0 where
   pub votes : List Cast
   pub told : List Told
 
--- a start has the record and nothing else
+-- a start where nothing was kept
 abbrev pub started : Running
 started = record { heard = []; leader = None; applied = 0 }
 
 -- a member that never did anything
 abbrev pub fresh : Member
-fresh = record { kept = record { promise = no_ballot; votes = [] }; running = Some started }
+fresh = record { kept = empty_record; running = Some started }
 
 -- n members that never did anything
 abbrev pub start : (members : ℕ) → World
@@ -51,10 +50,12 @@ pub data Event : Type 0 where
   Begin : (member : ℕ) → Event
   Resend : (member : ℕ) → Event
   CatchUp : (member : ℕ) → Event
+  Keep : (member : ℕ) → Event
   Submits : (member : ℕ) (request : Request) → Event
   Asks : (member : ℕ) (question : Question) → Event
   StopInDeliver : (number : ℕ) (kept : Bool) → Event
   StopInBegin : (member : ℕ) (kept : Bool) → Event
+  StopInKeep : (member : ℕ) (kept : Bool) → Event
   Stop : (member : ℕ) → Event
   Start : (member : ℕ) → Event
 
@@ -77,6 +78,7 @@ abbrev pub casts : Write → List Entry
 casts Nothing = []
 casts (NewPromise b) = []
 casts (NewVote p vote) = record { position = p; vote = vote } ∷ []
+casts (NewLearnt value) = []
 
 -- the world after member m, which kept r, takes a step with this effect
 abbrev pub after : World → (member : ℕ) → Record → Effect → World
@@ -147,16 +149,16 @@ abbrev pub asks : World → (member : ℕ) → Body → Option Member → World
 asks w m body None = w
 asks w m body (Some x) = record { members = w.members; sent = w.sent ++ packet 0 body m ∷ []; votes = w.votes; told = w.told }
 
--- a stopped member starts, unless its store fails to give the record
-abbrev pub restarts : World → (fails : Option Bool) → (member : ℕ) → Record → Option Running → World
-restarts w fails m r (Some u) = w
-restarts w (Some kept) m r None = w
-restarts w None m r None = after w m r (quiet started)
+-- a stopped member starts and applies of what it kept, unless its store fails to give the record
+abbrev pub restarts : World → (fails : Option Bool) → (applied : ℕ) → (member : ℕ) → Record → Option Running → World
+restarts w fails k m r (Some u) = w
+restarts w (Some kept) k m r None = w
+restarts w None k m r None = after w m r (applies (length w.members) k (quiet (resumed m r)))
 
 -- a member that is there starts if it is stopped
-abbrev pub starts : World → (fails : Option Bool) → (member : ℕ) → Option Member → World
-starts w fails m None = w
-starts w fails m (Some x) = restarts w fails m x.kept x.running
+abbrev pub starts : World → Choice → (member : ℕ) → Option Member → World
+starts w c m None = w
+starts w c m (Some x) = restarts w c.fails c.applied m x.kept x.running
 
 -- what an event does, with what it leaves open
 abbrev pub happens : Application → World → Choice → Event → World
@@ -164,12 +166,14 @@ happens app w c (Deliver k) = delivers app w (settles (length w.members) c) (at 
 happens app w c (Begin m) = acts w m (begins_in w c m)
 happens app w c (Resend m) = acts w m (λ r u. settles (length w.members) c (on_resend (length w.members) m u))
 happens app w c (CatchUp m) = acts w m (λ r u. settles (length w.members) c (on_catch_up_tick (length w.members) m u))
+happens app w c (Keep m) = acts w m (λ r u. settles (length w.members) c (on_keep (length w.members) r u))
 happens app w c (Submits m q) = asks w m (Submit q) (at w.members m)
 happens app w c (Asks m q) = asks w m (Ask q) (at w.members m)
 happens app w c (StopInDeliver k kept) = delivers app w (stops_in (keeps_in c.fails kept)) (at w.sent k)
 happens app w c (StopInBegin m kept) = acts w m (λ r u. stops_in (keeps_in c.fails kept) (on_begin (length w.members) m r u))
+happens app w c (StopInKeep m kept) = acts w m (λ r u. stops_in (keeps_in c.fails kept) (on_keep (length w.members) r u))
 happens app w c (Stop m) = acts w m (λ r u. stops_in false (quiet u))
-happens app w c (Start m) = starts w c.fails m (at w.members m)
+happens app w c (Start m) = starts w c m (at w.members m)
 
 -- an event with what it left open
 pub record Happening : Type 0 where

@@ -7,7 +7,7 @@
 ghost use Rattle.std.specs.Prelude.{◌≡◌, ℕ, suc, ◌<◌, ◌≤◌, Bool, true, false, List, [], ◌∷◌, ◌++◌, length, take, Option, Some, None, IsSome};
 ghost use Rattle.paxos.specs.Lists.{at};
 ghost use Rattle.paxos.specs.Agreement.{Agreement};
-ghost use Rattle.paxos.specs.Examples.{accepted_from, ballot, request, vote, no_op, votes_to, reporting, after_stop, straight, applied_in, leader_change, gap_heard, gap_leader, gap_proposed, gap_accepted, other_request};
+ghost use Rattle.paxos.specs.Examples.{accepted_from, ballot, request, vote, no_op, votes_to, reporting, after_stop, straight, after_straight, applied_in, leader_change, gap_heard, gap_leader, gap_proposed, gap_accepted, other_request};
 ghost use Rattle.paxos.specs.Knowledge.{Heard, AcceptedBy, learnt, pair_of, IsHeard, prefix, values_to, reported};
 ghost use Rattle.ballots.specs.Ballot.{most_members};
 ghost use Rattle.ballots.specs.Values.{positions};
@@ -20,12 +20,12 @@ ghost use Rattle.paxos.specs.Application.{Application};
 ghost use Rattle.paxos.specs.Proposable.{P2c};
 ghost use Rattle.paxos.specs.Proposing.{turns, WentOn};
 ghost use Rattle.paxos.specs.Records.{Record, window};
-ghost use Rattle.paxos.specs.Step.{Running, goes_on, on_message, on_begin, on_resend, on_catch_up_tick};
+ghost use Rattle.paxos.specs.Step.{Running, goes_on, on_message, on_begin, on_resend, on_catch_up_tick, on_keep};
 ghost use Rattle.paxos.specs.WellFormed.{IsMessage, IsState, IsStep, IsWellFormed};
-ghost use Rattle.paxos.specs.World.{World, told_to, start, Event, Happening, run, Run};
+ghost use Rattle.paxos.specs.World.{World, told_to, start, Event, Keep, StopInKeep, Stop, Start, Happening, run, Run};
 
-/// No position has two chosen values; what a member has learnt it was told, and what it was told is chosen; and members that
-/// have applied as many positions have applied the same values.
+/// No position has two chosen values; what a member has learnt, and what its record keeps as learnt, it was told, and what it was
+/// told is chosen; and members that have applied as many positions have applied the same values.
 ///
 /// This holds for every number of members and every list of events, whatever each event left open, after each beginning of the
 /// list: the first `k` events.
@@ -59,6 +59,8 @@ pub fn steps_are_well_formed()
         → 1 ≤ m → m ≤ n → n ≤ most_members → IsState n m r u → IsStep n m r (on_resend n m u) }
     ensures catch_up { (n m : ℕ) (r : Record) (u : Running)
         → 1 ≤ m → m ≤ n → n ≤ most_members → IsState n m r u → IsStep n m r (on_catch_up_tick n m u) }
+    ensures keep { (n m : ℕ) (r : Record) (u : Running)
+        → 1 ≤ m → m ≤ n → n ≤ most_members → IsState n m r u → IsStep n m r (on_keep n r u) }
 {}
 
 /// All members and all messages ever sent are well formed, and no promise is on its way to a member that has not promised as
@@ -150,6 +152,19 @@ pub fn straight_run_of_three()
         ≡ told_to 1 (pair_of 1 (Of request)) ∷ told_to 2 (pair_of 1 (Of request)) ∷
         told_to 3 (pair_of 1 (Of request)) ∷ [] }
     ensures applied { applied_in (straight 3) ≡ Some 1 ∷ Some 1 ∷ Some 1 ∷ [] }
+{}
+
+/// Worked examples of starts after that run: member 3 has applied position 1 at once where it kept it, without a message, and nothing where
+/// it did not keep it. A stop inside the write leaves it kept or not.
+pub fn kept_over_a_stop()
+    ensures applied { applied_in (after_straight (Keep 3 ∷ Stop 3 ∷ Start 3 ∷ [])) ≡ Some 1 ∷ Some 1 ∷ Some 1 ∷ [] }
+    ensures messages { length ((after_straight (Keep 3 ∷ Stop 3 ∷ Start 3 ∷ [])).sent) ≡ 19 }
+    ensures told { (after_straight (Keep 3 ∷ Stop 3 ∷ Start 3 ∷ [])).told
+        ≡ told_to 1 (pair_of 1 (Of request)) ∷ told_to 2 (pair_of 1 (Of request)) ∷
+        told_to 3 (pair_of 1 (Of request)) ∷ [] }
+    ensures not_kept { applied_in (after_straight (Stop 3 ∷ Start 3 ∷ [])) ≡ Some 1 ∷ Some 1 ∷ Some 0 ∷ [] }
+    ensures stop_kept { applied_in (after_straight (StopInKeep 3 true ∷ Start 3 ∷ [])) ≡ Some 1 ∷ Some 1 ∷ Some 1 ∷ [] }
+    ensures stop_lost { applied_in (after_straight (StopInKeep 3 false ∷ Start 3 ∷ [])) ≡ Some 1 ∷ Some 1 ∷ Some 0 ∷ [] }
 {}
 
 /// The same with four members: 29 messages, and three of four are a majority.

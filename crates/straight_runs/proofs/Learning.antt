@@ -108,7 +108,7 @@ module _ (app : Application) (n m : ℕ) (q : Request) where
   })
     where
       kept : Record
-      kept = record { promise = own n m; votes = entry n m q ∷ [] }
+      kept = record { promise = own n m; votes = entry n m q ∷ []; learnt = [] }
 
       running : Running
       running = runs_with n (heard_by a (suc k)) (led n m (lead n m 2 (open_at a)) (suc k))

@@ -36,12 +36,12 @@ module _ (app : Application) (n m : ℕ) where
   leads_on false next = refl
 
   -- what it writes
-  prepare_written : (t : Bool) → written (prepare_write (record { promise = cond t (own n m) no_ballot; votes = [] }) (own n m)) (record { promise = cond t (own n m) no_ballot; votes = [] }) ≡ record { promise = own n m; votes = [] }
+  prepare_written : (t : Bool) → written (prepare_write (record { promise = cond t (own n m) no_ballot; votes = []; learnt = [] }) (own n m)) (record { promise = cond t (own n m) no_ballot; votes = []; learnt = [] }) ≡ record { promise = own n m; votes = []; learnt = [] }
   prepare_written true = rw (below_self (own n m)) refl
   prepare_written false = refl
 
   -- no vote is recorded
-  prepare_casts : (t : Bool) → casts (prepare_write (record { promise = cond t (own n m) no_ballot; votes = [] }) (own n m)) ≡ []
+  prepare_casts : (t : Bool) → casts (prepare_write (record { promise = cond t (own n m) no_ballot; votes = []; learnt = [] }) (own n m)) ≡ []
   prepare_casts true = rw (below_self (own n m)) refl
   prepare_casts false = refl
 
@@ -66,7 +66,7 @@ module _ (app : Application) (n m : ℕ) where
   })
     where
       kept : Record
-      kept = record { promise = cond (eqb (suc j) m) (own n m) no_ballot; votes = [] }
+      kept = record { promise = cond (eqb (suc j) m) (own n m) no_ballot; votes = []; learnt = [] }
 
       running : Running
       running = runs_with n [] (led n m (lead n m 1 []) (suc j))
@@ -89,7 +89,7 @@ module _ (app : Application) (n m : ℕ) where
   -- the leader is one of the members
   module _ (least : 1 ≤ m) (most : m ≤ n) where
     -- positions and rounds are left
-    may_begin_first : may_begin n (record { promise = no_ballot; votes = [] }) started ≡ true
+    may_begin_first : may_begin n (record { promise = no_ballot; votes = []; learnt = [] }) started ≡ true
     unfolding positions last_round
     may_begin_first = ap (λ (p : ℕ). nat_lt p positions && nat_lt 0 last_round) (prefix_empty n)
 
@@ -114,13 +114,13 @@ module _ (app : Application) (n m : ℕ) where
     })
       where
         kept : Record
-        kept = record { promise = no_ballot; votes = [] }
+        kept = record { promise = no_ballot; votes = []; learnt = [] }
 
         next : Running
         next = record { heard = []; leader = Some (lead n m 1 []); applied = 0 }
 
         after_it : Member
-        after_it = record { kept = record { promise = own n m; votes = [] }; running = Some (runs_with n [] (Some (lead n m 1 []))) }
+        after_it = record { kept = record { promise = own n m; votes = []; learnt = [] }; running = Some (runs_with n [] (Some (lead n m 1 []))) }
 
         many : length (replicate n fresh) ≡ n
         many = ap length (replicate_each n fresh) ∙ length_each n (λ i. fresh)
@@ -144,11 +144,11 @@ module _ (app : Application) (n m : ℕ) where
             }))) (prefix_empty n)))
 
         leads_then : called n m m ≡ after_it
-        leads_then = ap (λ (b : Bool). record { kept = record { promise = cond b (own n m) no_ballot; votes = [] }; running = Some (runs_with n [] (cond b (Some (lead n m 1 [])) None)) }) (eq-eqb m m refl)
+        leads_then = ap (λ (b : Bool). record { kept = record { promise = cond b (own n m) no_ballot; votes = []; learnt = [] }; running = Some (runs_with n [] (cond b (Some (lead n m 1 [])) None)) }) (eq-eqb m m refl)
 
         others_then : (i : ℕ) → 1 ≤ i → i ≤ n → (i ≡ m → ⊥) → fresh ≡ called n m i
         others_then i l k d = ap (λ (a : ℕ). record { kept = kept; running = Some (record { heard = []; leader = None; applied = a }) }) (sym (prefix_empty n))
-            ∙ ap (λ (b : Bool). record { kept = record { promise = cond b (own n m) no_ballot; votes = [] }; running = Some (runs_with n [] (cond b (Some (lead n m 1 [])) None)) }) (sym (ne_eqb i m d))
+            ∙ ap (λ (b : Bool). record { kept = record { promise = cond b (own n m) no_ballot; votes = []; learnt = [] }; running = Some (runs_with n [] (cond b (Some (lead n m 1 [])) None)) }) (sym (ne_eqb i m d))
 
     -- a Promise is delivered
     promise_step : (j : ℕ) → j < n → Leads app (promising n m j) (Deliver (suc n + j)) (promising n m (suc j))
@@ -171,7 +171,7 @@ module _ (app : Application) (n m : ℕ) where
     })
       where
         kept : Record
-        kept = record { promise = own n m; votes = [] }
+        kept = record { promise = own n m; votes = []; learnt = [] }
 
         running : Running
         running = runs_with n (promises n m j ++ prepare n m m ∷ []) (Some (lead n m 1 []))
@@ -216,8 +216,8 @@ module _ (app : Application) (n m : ℕ) where
         (moved_all n (called n m) (promised n m) ∙ same_each n (promised n m) (λ i. cond (eqb i m) (leader n m 0) (follower n m i)) (λ i l k. each i (eqb i m) refl))
       where
         each : (i : ℕ) (b : Bool) → eqb i m ≡ b
-            → record { kept = record { promise = own n m; votes = [] }; running = Some (runs_with n (prepare n m i ∷ []) (cond b (Some (lead n m 1 [])) None)) } ≡ cond b (leader n m 0) (follower n m i)
-        each i true e = ap (λ (k : ℕ). record { kept = record { promise = own n m; votes = [] }; running = Some (runs_with n (prepare n m k ∷ []) (Some (lead n m 1 []))) }) (eqb-true i m e)
+            → record { kept = record { promise = own n m; votes = []; learnt = [] }; running = Some (runs_with n (prepare n m i ∷ []) (cond b (Some (lead n m 1 [])) None)) } ≡ cond b (leader n m 0) (follower n m i)
+        each i true e = ap (λ (k : ℕ). record { kept = record { promise = own n m; votes = []; learnt = [] }; running = Some (runs_with n (prepare n m k ∷ []) (Some (lead n m 1 []))) }) (eqb-true i m e)
         each i false e = refl
 
     -- some of the Prepares are delivered

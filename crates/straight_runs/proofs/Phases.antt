@@ -43,10 +43,10 @@ module _ (n m : ℕ) where
 
   -- member i before it hears the Prepare, and after
   abbrev pub called : (i : ℕ) → Member
-  called i = record { kept = record { promise = cond (eqb i m) own no_ballot; votes = [] }; running = Some (runs_with n [] (led (lead 1 []) i)) }
+  called i = record { kept = record { promise = cond (eqb i m) own no_ballot; votes = []; learnt = [] }; running = Some (runs_with n [] (led (lead 1 []) i)) }
 
   abbrev pub promised : (i : ℕ) → Member
-  promised i = record { kept = record { promise = own; votes = [] }; running = Some (runs_with n (prepare i ∷ []) (led (lead 1 []) i)) }
+  promised i = record { kept = record { promise = own; votes = []; learnt = [] }; running = Some (runs_with n (prepare i ∷ []) (led (lead 1 []) i)) }
 
   -- the first j Prepares are delivered
   abbrev pub preparing : (j : ℕ) → World
@@ -54,10 +54,10 @@ module _ (n m : ℕ) where
 
   -- another member then, and the leader once it has heard the Promises of members 1 to j
   abbrev pub follower : (i : ℕ) → Member
-  follower i = record { kept = record { promise = own; votes = [] }; running = Some (runs_with n (prepare i ∷ []) None) }
+  follower i = record { kept = record { promise = own; votes = []; learnt = [] }; running = Some (runs_with n (prepare i ∷ []) None) }
 
   abbrev pub leader : (j : ℕ) → Member
-  leader j = record { kept = record { promise = own; votes = [] }; running = Some (runs_with n (promises j ++ prepare m ∷ []) (Some (lead 1 []))) }
+  leader j = record { kept = record { promise = own; votes = []; learnt = [] }; running = Some (runs_with n (promises j ++ prepare m ∷ []) (Some (lead 1 []))) }
 
   -- the first j Promises are delivered
   abbrev pub promising : (j : ℕ) → World
@@ -100,10 +100,10 @@ module _ (n m : ℕ) where
 
     -- member i before it hears the Accept, and after
     abbrev pub asked : (i : ℕ) → Member
-    asked i = record { kept = record { promise = own; votes = [] }; running = Some (runs_with n (before i) (led (lead 2 (pair ∷ [])) i)) }
+    asked i = record { kept = record { promise = own; votes = []; learnt = [] }; running = Some (runs_with n (before i) (led (lead 2 (pair ∷ [])) i)) }
 
     abbrev pub voted : (i : ℕ) → Member
-    voted i = record { kept = record { promise = own; votes = entry ∷ [] }; running = Some (runs_with n (accept i ∷ before i) (led (lead 2 (pair ∷ [])) i)) }
+    voted i = record { kept = record { promise = own; votes = entry ∷ []; learnt = [] }; running = Some (runs_with n (accept i ∷ before i) (led (lead 2 (pair ∷ [])) i)) }
 
     -- all that was sent up to the Accepts, and the Accepted of the first j members
     abbrev pub sent_by : (j : ℕ) → List Packet
@@ -125,7 +125,7 @@ module _ (n m : ℕ) where
     -- member i, which has heard that members 1 to a accepted
     abbrev pub learner : (a i : ℕ) → Member
     learner a i = record {
-      kept = record { promise = own; votes = entry ∷ [] };
+      kept = record { promise = own; votes = entry ∷ []; learnt = [] };
       running = Some (runs_with n (heard_of a i ++ accept i ∷ before i) (led (lead 2 (cond (enough a) [] (pair ∷ []))) i));
     }
 

@@ -56,7 +56,7 @@ module _ (app : Application) (n m : ℕ) (q : Request) where
   })
     where
       kept : Record
-      kept = record { promise = own n m; votes = [] }
+      kept = record { promise = own n m; votes = []; learnt = [] }
 
       running : Running
       running = runs_with n (before n m q (suc j)) (led n m (lead n m 2 (pair n m q ∷ [])) (suc j))
@@ -143,7 +143,7 @@ module _ (app : Application) (n m : ℕ) (q : Request) where
       })
         where
           kept : Record
-          kept = record { promise = own n m; votes = [] }
+          kept = record { promise = own n m; votes = []; learnt = [] }
 
           running : Running
           running = runs_with n (promises n m n ++ prepare n m m ∷ []) (Some (lead n m 1 []))
@@ -170,6 +170,6 @@ module _ (app : Application) (n m : ℕ) (q : Request) where
               ∙ ap (λ (ks : List Packet). record { write = Nothing; running = Some next; sends = ks; tells = [] }) (append-nil (map (accept n m q) (up_to n))))
 
           each : (i : ℕ) (b : Bool)
-              → record { kept = record { promise = own n m; votes = [] }; running = Some (runs_with n (cond b (submission n m q ∷ promises n m n ++ prepare n m m ∷ []) (prepare n m i ∷ [])) (cond b (Some (lead n m 2 (pair n m q ∷ []))) None)) } ≡ cond b proposer (follower n m i)
+              → record { kept = record { promise = own n m; votes = []; learnt = [] }; running = Some (runs_with n (cond b (submission n m q ∷ promises n m n ++ prepare n m m ∷ []) (prepare n m i ∷ [])) (cond b (Some (lead n m 2 (pair n m q ∷ []))) None)) } ≡ cond b proposer (follower n m i)
           each i true = refl
           each i false = refl
