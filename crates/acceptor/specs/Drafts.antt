@@ -1,8 +1,8 @@
 -- What an acceptor is about to write and to answer, and what a refused opening leaves.
-use Rattle.std.specs.Prelude.{◌≡◌, ◌≤◌, ℕ, None, false, Err}
+use Rattle.std.specs.Prelude.{◌≡◌, ◌≤◌, ◌<◌, ℕ, length, None, false, Err}
 use Rattle.ballots.specs.Ballot.{IsBallot, below}
 use Rattle.ballots.specs.Values.{positions}
-use Rattle.paxos.specs.Records.{Record, Write, Nothing, NewPromise, NewVote}
+use Rattle.paxos.specs.Records.{Record, Write, Nothing, NewPromise, NewVote, NewLearnt}
 use Rattle.records.specs.Law.{Counts, Fate}
 use Rattle.acceptor.specs.declared.draft.Write.{Write as WriteOfCode}
 use Rattle.acceptor.specs.declared.draft.Write.TheVariants as write
@@ -19,12 +19,14 @@ abbrev pub write_of : WriteOfCode → Write
 write_of write.Nothing = Nothing
 write_of (write.Promise ballot) = NewPromise ballot
 write_of (write.Vote position vote) = NewVote position vote
+write_of (write.Learnt value) = NewLearnt value
 
--- It may be written over this record: a ballot that isn't below the promise, and a vote at a position that there may be.
+-- It may be written over this record: a ballot that isn't below the promise, and a vote or a learnt value at a position that there may be.
 abbrev pub IsDue : Record → Write → Type 0
 IsDue r Nothing = Unit {0}
 IsDue r (NewPromise b) = IsBallot b × (below b r.promise ≡ false)
 IsDue r (NewVote p vote) = IsBallot vote.ballot × (1 ≤ p) × (p ≤ positions) × (below vote.ballot r.promise ≡ false)
+IsDue r (NewLearnt value) = length r.learnt < positions
 
 -- Records that could not be opened: a crash leaves what it left before.
 pub record IsRefused {R : Type 0} (stands : R → Record → Record → Type 0) (is_kept : R → Type 0) (failed : R → ℕ) (fates : R → ℕ → Fate) (old new : R) (fault : RecordsFault) : Type 0 where

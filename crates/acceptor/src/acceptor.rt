@@ -1,17 +1,19 @@
 //! One acceptor ("Paxos Made Simple", sections 2.2 and 2.5) over any records.
 
-ghost use Rattle.std.specs.Prelude.{◌≡◌, ◌⊎◌, ◌≤◌, ◌↔◌, ℕ, true, false, IfOk, IfErr, IsOk, OnOk, OnErr, IsErrOf, option_map};
+ghost use Rattle.std.specs.Prelude.{◌≡◌, ◌⊎◌, ◌≤◌, ◌<◌, ◌↔◌, ℕ, length, true, false, IfOk, IfErr, IsOk, OnOk, OnErr, IsErrOf, option_map};
 ghost use Rattle.ballots.specs.Ballot.{IsBallot, below};
 ghost use Rattle.ballots.specs.Values.{positions};
 ghost use Rattle.ballots.specs.Messages.{window_of};
-ghost use Rattle.paxos.specs.Records.{Record as RecordTerm, NewPromise, writes, written};
+ghost use Rattle.std.specs.Option.{option_copied};
+ghost use Rattle.paxos.specs.Lists.{at};
+ghost use Rattle.paxos.specs.Records.{Record as RecordTerm, NewPromise, NewLearnt, writes, written};
 ghost use Rattle.records.specs.Kept.{IsRising};
 ghost use Rattle.records.specs.Law.{Counts, Puts, Went};
 ghost use Rattle.acceptor.specs.Drafts.{IsDue, IsRefused, write_of};
 ghost use Rattle.acceptor.specs.Steps.{Took, Stopped, IsAsWas, on_prepare_writes, on_prepare_answers, on_accept_writes, on_accept_answers};
 
 use super::draft::{Draft, Write};
-use ballots::{Ballot, Vote, Window};
+use ballots::{Ballot, Value, Vote, Window};
 use records::{PlannedRecords, Record, Records, RecordsFault};
 use std::alloc::Global;
 use std::marker::Model;
@@ -46,6 +48,7 @@ impl<R: Records + Drop> Acceptor<R> {
         ensures running { IfOk result (λ a. a.is_stopped ≡ false) }
         ensures loaded { IfOk result (λ a. R.is_kept a.records → (x y : RecordTerm) → R.stands records x y → (a.kept ≡ x) ⊎ (a.kept ≡ y)) }
         ensures stands { IfOk result (λ a. R.is_kept a.records → R.stands a.records a.kept a.kept) }
+        ensures crash { IfOk result (λ a. R.is_kept a.records → (x y : RecordTerm) → R.stands records x y → R.stands a.records x y) }
         ensures kept { IfOk result (λ a. R.is_kept a.records → R.is_kept records) }
         ensures counts { IfOk result (λ a. R.failed a.records ≡ R.failed records) }
         ensures fates { IfOk result (λ a. (k : ℕ) → R.fates a.records k ≡ R.fates records k) }
@@ -143,6 +146,48 @@ impl<R: Records + Drop> Acceptor<R> {
     {
         let draft = self.draft_accept(alloc, position, vote)?;
         self.commit(alloc, draft)
+    }
+
+    /// Keeps the value that is learnt at the first position past those that it has kept.
+    ///
+    /// Faults: as of `on_begin`.
+    pub fn on_keep(&mut self, alloc: Global, value: &Value) -> Result<(), RecordsFault>
+        requires few { length self.old.kept.learnt < positions }
+        ensures took { OnOk result (Took self.old self.new (NewLearnt value.now)) }
+        ensures memory { IsErrOf result RecordsFault.Memory → IsAsWas R.failed self.old self.new }
+        ensures store { IsErrOf result RecordsFault.Store → Stopped R.stands R.is_kept R.failed self.old self.new (NewLearnt value.now) }
+        ensures stopped { self.old.is_stopped ≡ true → IsErrOf result RecordsFault.Store }
+        ensures went { self.old.is_stopped ≡ false → R.is_kept self.new.records → Went (R.stands self.new.records) (R.fates self.old.records) (R.fates self.new.records) false self.old.kept (NewLearnt value.now) result }
+        ensures kept { R.is_kept self.new.records → R.is_kept self.old.records }
+    {
+        let draft = self.draft_keep(value)?;
+        self.commit(alloc, draft)
+    }
+
+    /// How many values it has kept as learnt: those at the positions from 1 on.
+    pub fn kept(&self) -> u32
+        ensures count { result ≡ length self.now.kept.learnt }
+        ensures few { length self.now.kept.learnt ≤ positions }
+    {
+        self.kept.learnt_to()
+    }
+
+    /// The values that it has kept as learnt, at the positions from 1 on.
+    pub fn learnt(&self) -> &[Value]
+        ensures values { result.now ≡ self.now.kept.learnt }
+        ensures few { length self.now.kept.learnt ≤ positions }
+    {
+        self.kept.learnt()
+    }
+
+    /// The value that it has kept as learnt at a position, if there is one.
+    pub fn held(&self, position: u32) -> Option<&Value>
+        ensures { option_copied result ≡ at self.now.kept.learnt position }
+    {
+        if position == 0 {
+            return None;
+        }
+        self.kept.learnt().get(position as usize - 1)
     }
 
     /// What `on_begin` is about to write.
@@ -247,6 +292,28 @@ impl<R: Records + Drop> Acceptor<R> {
         Ok(Draft {
             answer: true,
             write: Write::Vote(position, copy),
+        })
+    }
+
+    /// What `on_keep` is about to write.
+    ///
+    /// Faults: memory was refused; the acceptor has stopped.
+    pub fn draft_keep(&self, value: &Value) -> Result<Draft<()>, RecordsFault>
+        requires few { length self.now.kept.learnt < positions }
+        ensures write { IfOk result (λ d. d.write ≡ NewLearnt value.now) }
+        ensures due { IfOk result (λ d. IsDue self.now.kept d.write) }
+        ensures running { OnOk result (self.now.is_stopped ≡ false) }
+        ensures stopped { IsErrOf result RecordsFault.Store ↔ (self.now.is_stopped ≡ true) }
+    {
+        if self.is_stopped {
+            return Err(RecordsFault::Store);
+        }
+        let Ok(copy) = value.clone() else {
+            return Err(RecordsFault::Memory);
+        };
+        Ok(Draft {
+            answer: (),
+            write: Write::Learnt(copy),
         })
     }
 
@@ -355,6 +422,7 @@ fn make<R: Records>(
         Write::Nothing => Ok(()),
         Write::Promise(ballot) => kept.put_promise(alloc, records, ballot),
         Write::Vote(position, vote) => kept.put_vote(alloc, records, position, vote),
+        Write::Learnt(value) => kept.put_learnt(alloc, records, value),
     }
 }
 
@@ -381,5 +449,6 @@ fn cut<R: PlannedRecords>(
         Write::Nothing => Ok(()),
         Write::Promise(ballot) => kept.cut_promise(alloc, records, ballot),
         Write::Vote(position, vote) => kept.cut_vote(alloc, records, position, vote),
+        Write::Learnt(value) => kept.cut_learnt(alloc, records, value),
     }
 }

@@ -3,7 +3,7 @@
 ghost use Rattle.std.specs.Prelude.{◌≡◌, false};
 ghost use Rattle.paxos.specs.Records.{Write as WriteTerm};
 
-use ballots::{Ballot, Vote};
+use ballots::{Ballot, Value, Vote};
 use std::marker::Model;
 
 /// One write of a record. A vote is written together with the promise of its ballot.
@@ -15,6 +15,8 @@ pub(super) enum Write {
     Promise(Ballot),
     /// A vote at a position.
     Vote(u32, Vote),
+    /// The value that is learnt at the first position past those that are kept as learnt.
+    Learnt(Value),
 }
 
 /// What an acceptor is about to write and to answer. `Acceptor::commit` makes it, and until then nothing has changed.

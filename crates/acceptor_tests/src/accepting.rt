@@ -74,6 +74,39 @@ prepare 1,1 10 > window 1,1 10 1000000
     expect_writes(&rt, &records, 9, 0);
 }
 
+// Learnt values that are kept, one write each, and the votes and promises beside them.
+const KEEPS: &str = "\
+held
+keep 7
+keep 9
+held 7 9
+accept 5 3,2 > yes
+keep 7
+promised 3,2
+prepare 3,2 1 > window 3,2 1 1000000 vote 5 3,2
+held 7 9 7
+";
+
+#[test]
+fn keeps_learnt_values_over_stops(rt: HostRuntime) {
+    let alloc = rt.alloc();
+    let records = plays(&rt, alloc, MemRecords::new(alloc), KEEPS);
+    plays(
+        &rt,
+        alloc,
+        records,
+        "held 7 9 7\nkeep 8\nheld 7 9 7 8\npromised 3,2\n",
+    );
+    let records = plays(&rt, alloc, store(&rt, alloc, &[]), KEEPS);
+    expect_writes(&rt, &records, 4, 0);
+    plays(
+        &rt,
+        alloc,
+        records,
+        "held 7 9 7\nkeep 8\nheld 7 9 7 8\npromised 3,2\n",
+    );
+}
+
 // The write of a number fails, and its record is kept or not. The acceptor stops there.
 fn fails(
     rt: &impl Abort,
@@ -86,6 +119,19 @@ fn fails(
     let records = plays(rt, alloc, records, script);
     expect_writes(rt, &records, failing, 1);
     records
+}
+
+// The write of the second value that is kept fails, and the value is there or not when the records are opened again.
+#[test]
+fn survives_a_failing_keep(rt: HostRuntime) {
+    let script = "keep 7\nkeep 9 > store\nheld 7\nkeep 9 > store\nheld 7\n";
+    for (is_made, after) in [
+        (false, "held 7\nkeep 8\nheld 7 8\n"),
+        (true, "held 7 9\nkeep 8\nheld 7 9 8\n"),
+    ] {
+        let records = fails(&rt, rt.alloc(), (2, is_made), script);
+        plays(&rt, rt.alloc(), records, after);
+    }
 }
 
 // The first write fails, then the second, then the third; opened again, the record is the old one or the new one, and the next write can be

@@ -5,5 +5,6 @@ pub mod Placing
 pub mod Rooms
 pub mod Opening
 pub mod Learning
+pub mod Resuming
 pub mod Drafting
 pub mod Hearing

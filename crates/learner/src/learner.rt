@@ -5,7 +5,7 @@ ghost use Rattle.std.specs.List.{All};
 ghost use Rattle.std.specs.Option.{option_copied};
 ghost use Rattle.ballots.specs.Values.{positions, IsRising};
 ghost use Rattle.position_map.specs.Slots.{filled, value_at as value_in, HasSlot};
-ghost use Rattle.paxos.specs.Knowledge.{AcceptedBy, ChosenAre, Heard, first, last_of_run, learnt as learnt_at, pair_of, prefix, value_at};
+ghost use Rattle.paxos.specs.Knowledge.{AcceptedBy, ChosenAre, Heard, first, kept_news, last_of_run, learnt as learnt_at, numbered, pair_of, prefix, value_at};
 ghost use Rattle.learner.specs.Changes.{AreForgotten, change_of, HasRoom, IsAsWas, IsChanged, IsDue, Learns, not_learnt, positions_in, positions_of};
 ghost use Rattle.learner.specs.Hearing.{AreAbove, HasHeard, IsLowest, news_at};
 ghost use Rattle.learner.specs.Slots.{AreWithin, IsPosition, pairs_of};
@@ -59,6 +59,23 @@ impl Learner {
             chosen: PositionMap::new(alloc),
             tallies: Tallies::new(alloc),
         }
+    }
+
+    /// A learner that has learnt these values at the positions from 1 on, and has heard nothing else.
+    ///
+    /// It fails where memory is refused.
+    pub fn resume(alloc: Global, members: Members, values: &[Value]) -> Result<Learner, AllocError>
+        requires few { length values.now ≤ positions }
+        ensures members { IfOk result (λ l. l.members ≡ members) }
+        ensures heard { IfOk result (HasHeard (kept_news (numbered 1 values.now))) }
+    {
+        // Members are at most 63, as their count says.
+        let _count = members.count();
+        Ok(Learner {
+            members,
+            chosen: placed(alloc, values)?,
+            tallies: Tallies::new(alloc),
+        })
     }
 
     /// How many members there are.
@@ -227,6 +244,25 @@ impl Learner {
         self.chosen.forget_rooms();
         self.tallies.forget_room();
     }
+}
+
+/// Copies of values, at the positions from 1 on.
+///
+/// It fails where memory is refused.
+#[tactic(auto, unfolding(ballots::specs::Values::positions))]
+fn placed(alloc: Global, values: &[Value]) -> Result<PositionMap<Value>, AllocError>
+    requires few { length values.now ≤ positions }
+    ensures placed { IfOk result (λ m. (q : ℕ) → value_at q (pairs_of (filled m)) ≡ value_at q (numbered 1 values.now)) }
+    ensures within { IfOk result AreWithin }
+{
+    let mut chosen = PositionMap::new(alloc);
+    let mut position = 0;
+    for value in values {
+        position += 1;
+        chosen.reserve(position)?;
+        chosen.fill(position, value.clone()?);
+    }
+    Ok(chosen)
 }
 
 /// A draft that learns one value, with room for it.

@@ -152,3 +152,24 @@ fn a_run_learns_what_was_heard(rt: HostRuntime) {
     assert_eq!(rt; number_at(&learner, 2), Some(0));
     assert_eq!(rt; (learner.prefix(), learner.open_tallies()), (0, 0));
 }
+
+#[tactic(auto, unfolding(ballots::specs::Values::positions))]
+// A learner that has learnt the no-op at three positions.
+fn resumed(alloc: Global, members: Members) -> Result<Learner, AllocError> {
+    Learner::resume(alloc, members, &[Value::NoOp, Value::NoOp, Value::NoOp])
+}
+
+#[test]
+fn a_resumed_learner_has_learnt_what_was_kept(rt: HostRuntime) {
+    let alloc = rt.alloc();
+    let members = Members::new(3).expect(&rt, "members");
+    let learner = match resumed(alloc, members) {
+        Ok(learner) => learner,
+        Err(_) => resumed(alloc, members).expect(&rt, "memory"),
+    };
+    assert_eq!(rt; (learner.prefix(), learner.open_tallies()), (3, 0));
+    for position in 1..=3 {
+        assert_eq!(rt; number_at(&learner, position), Some(0));
+    }
+    assert_eq!(rt; number_at(&learner, 4), None);
+}

@@ -2,16 +2,18 @@
 use Rattle.std.specs.Prelude.{◌<◌, ℕ, List, [], ◌∷◌, refl}
 use Rattle.std.specs.Coded.{Coded, code_by, coded×, coded_list}
 use Rattle.ballots.specs.declared.ballot.Ballot.{Ballot}
+use Rattle.ballots.specs.declared.value.Value.{Value}
 use Rattle.ballots.specs.declared.value.Vote.{Vote}
 use Rattle.ballots.specs.declared.value.Entry.{Entry}
 use Rattle.ballots.specs.contracts.ballot.Ballot as ballot
 use Rattle.ballots.specs.contracts.value.Entry as entry
+use Rattle.ballots.specs.contracts.value.Value as value
 use Rattle.paxos.specs.Records.{Record}
 
 -- how a proof tells records apart
 abbrev pub record_code : Coded Record
 record_code =
-    code_by (Ballot × List Entry) (coded× ballot.the_row.coded (coded_list entry.the_row.coded)) (λ r. (r.promise, r.votes)) (λ p. record { promise = p.0; votes = p.1 }) (λ _. refl)
+    code_by (Ballot × (List Entry × List Value)) (coded× ballot.the_row.coded (coded× (coded_list entry.the_row.coded) (coded_list value.the_row.coded))) (λ r. (r.promise, (r.votes, r.learnt))) (λ p. record { promise = p.0; votes = p.1.0; learnt = p.1.1 }) (λ _. refl)
 
 -- votes with their positions, as entries
 abbrev pub entries_of : List (ℕ × Vote) → List Entry

@@ -1,7 +1,7 @@
 -- The law of records: what a write leaves, whatever happens to the member then.
 -- "Paxos Made Simple", section 2.5: an acceptor keeps what it has promised and accepted in stable storage, before it answers.
 use Rattle.std.specs.Prelude.{◌≡◌, ◌+◌, ◌-◌, ◌≤◌, ◌^◌, ℕ, suc, Bool, true, false, cond, min, Option, Some, None, Result, Ok, Err}
-use Rattle.paxos.specs.Records.{Record, Write, Nothing, NewPromise, NewVote, written}
+use Rattle.paxos.specs.Records.{Record, Write, Nothing, NewPromise, NewVote, NewLearnt, written}
 use Rattle.records.specs.declared.records.RecordsFault.{RecordsFault}
 use Rattle.records.specs.declared.records.RecordsFault.TheVariants.{Memory, Store}
 
@@ -43,3 +43,4 @@ abbrev pub Went : {T : Type 0} → (Record → Record → Type 0) → (old new :
 Went stands old new p last Nothing result = (k : ℕ) → new k ≡ old k
 Went stands old new p last (NewPromise b) result = Goes stands old new p last (written (NewPromise b) last) result
 Went stands old new p last (NewVote q vote) result = Goes stands old new p last (written (NewVote q vote) last) result
+Went stands old new p last (NewLearnt value) result = Goes stands old new p last (written (NewLearnt value) last) result

@@ -1,26 +1,28 @@
 //! The record that an acceptor keeps over stops.
 
-ghost use Rattle.std.specs.Prelude.{◌≡◌, ◌≤◌, false, true, [], IfErr, IfOk, OnErr, OnOk};
-ghost use Rattle.ballots.specs.Ballot.{IsBallot, below, no_ballot};
+ghost use Rattle.std.specs.Prelude.{◌≡◌, ◌≤◌, ◌<◌, length, false, true, IfErr, IfOk, OnErr, OnOk};
+ghost use Rattle.ballots.specs.Ballot.{IsBallot, below};
 ghost use Rattle.ballots.specs.Values.{positions};
 ghost use Rattle.ballots.specs.Messages.{window_of};
-ghost use Rattle.paxos.specs.Records.{NewPromise, NewVote, has_vote, vote_at, window, with_vote, written};
+ghost use Rattle.paxos.specs.Records.{NewPromise, NewVote, NewLearnt, empty_record, has_vote, vote_at, window, with_vote, written};
 ghost use Rattle.position_map.specs.Slots.{HasSlot, Rise, filled};
 ghost use Rattle.records.specs.Kept.{IsRising, entries_of};
 ghost use Rattle.records.specs.Law.{Counts, Goes, Puts};
 
 use super::records::{PlannedRecords, Records, RecordsFault};
 use ballots::limits::{MOST_ENTRIES, POSITIONS};
-use ballots::{Ballot, Entry, Vote, Window};
+use ballots::{Ballot, Entry, Value, Vote, Window};
 use position_map::PositionMap;
 use std::alloc::{AllocError, Global};
 use std::marker::Model;
 
-/// What an acceptor keeps over stops ("Paxos Made Simple", sections 2.2 and 2.5): its promise, and its last vote at each position.
+/// What an acceptor keeps over stops ("Paxos Made Simple", sections 2.2 and 2.5): its promise, and its last vote at each position; and
+/// the values that its member has learnt at the first positions, as far as they were kept.
 #[derive(Drop)]
 pub struct Record {
     promise: Ballot,
     votes: PositionMap<Vote>,
+    learnt: Vec<Value>,
 }
 
 impl Model for Record {
@@ -31,22 +33,25 @@ impl Model for Record {
 
     ghost coded = { record_code };
 
+    ghost use Rattle.std.specs.Prelude.{◌≤◌, length};
+    ghost use Rattle.ballots.specs.Values.{positions};
     ghost use Rattle.position_map.specs.Slots.{Rise, filled};
     ghost use Rattle.records.specs.Kept.{entries_of};
 
-    ghost view = { λ r. record { promise = r.promise; votes = entries_of (filled r.votes) } };
+    ghost view = { λ r. record { promise = r.promise; votes = entries_of (filled r.votes); learnt = r.learnt.items } };
 
-    ghost invariant = { λ r. Rise 0 r.votes };
+    ghost invariant = { λ r. Rise 0 r.votes × (length r.learnt.items ≤ positions) };
 }
 
 impl Record {
-    /// No promise, and no votes.
+    /// No promise and no votes, and nothing kept as learnt.
     pub fn new(alloc: Global) -> Record
-        ensures { result ≡ record { promise = no_ballot; votes = [] } }
+        ensures { result ≡ empty_record }
     {
         Record {
             promise: Ballot::NONE,
             votes: PositionMap::new(alloc),
+            learnt: Vec::new(alloc),
         }
     }
 
@@ -123,6 +128,36 @@ impl Record {
         Ok(())
     }
 
+    /// The values kept as learnt, at the positions from 1 on.
+    pub fn learnt(&self) -> &[Value]
+        ensures values { result.now ≡ self.now.learnt }
+        ensures few { length self.now.learnt ≤ positions }
+    {
+        &self.learnt
+    }
+
+    /// How many values are kept as learnt.
+    #[tactic(auto, unfolding(ballots::specs::Values::positions))]
+    pub fn learnt_to(&self) -> u32
+        ensures count { result ≡ length self.now.learnt }
+        ensures few { length self.now.learnt ≤ positions }
+    {
+        self.learnt.len() as u32
+    }
+
+    /// Keeps a value as learnt at the next position.
+    ///
+    /// It fails where memory is refused, and then nothing has changed.
+    pub fn push_learnt(&mut self, value: Value) -> Result<(), AllocError>
+        requires few { length self.old.learnt < positions }
+        ensures kept { OnOk result (self.new ≡ written (NewLearnt value) self.old) }
+        ensures refused { OnErr result (self.new ≡ self.old) }
+    {
+        self.learnt.reserve(1)?;
+        self.learnt.push_reserved(value);
+        Ok(())
+    }
+
     /// Promises a ballot once records have acknowledged it.
     ///
     /// Faults, which leave the record as it is: memory was refused; the store failed.
@@ -178,6 +213,37 @@ impl Record {
         records.put_vote(alloc, vote.ballot, position, &vote.value)?;
         self.promise = vote.ballot;
         fill(&mut self.votes, position, vote);
+        Ok(())
+    }
+
+    /// Keeps a value as learnt at the next position once records have acknowledged it.
+    ///
+    /// Faults: as of `put_promise`.
+    #[tactic(auto, unfolding(ballots::specs::Values::positions))]
+    pub fn put_learnt<R: Records>(
+        &mut self,
+        alloc: Global,
+        records: &mut R,
+        value: Value,
+    ) -> Result<(), RecordsFault>
+        requires few { length self.old.learnt < positions }
+        requires stands { R.is_kept records.old → R.stands records.old self.old self.old }
+        requires passes { R.passes records.old ≡ false }
+        ensures made { OnOk result (self.new ≡ written (NewLearnt value) self.old) }
+        ensures refused { OnErr result (self.new ≡ self.old) }
+        ensures law { R.is_kept records.new → Puts (R.stands records.new) self.old (written (NewLearnt value) self.old) result }
+        ensures goes { R.is_kept records.new → Goes (R.stands records.new) (R.fates records.old) (R.fates records.new) false self.old (written (NewLearnt value) self.old) result }
+        ensures kept { R.is_kept records.new → R.is_kept records.old }
+        ensures counts { Counts (R.failed records.old) (R.failed records.new) result }
+        ensures passes { R.passes records.new ≡ false }
+    {
+        let position = self.learnt_to() + 1;
+        // The room comes first, so that nothing fails once the records have acknowledged the value.
+        if self.learnt.reserve(1).is_err() {
+            return Err(RecordsFault::Memory);
+        }
+        records.put_learnt(alloc, position, &value)?;
+        self.learnt.push_reserved(value);
         Ok(())
     }
 
@@ -240,6 +306,38 @@ impl Record {
         fill(&mut self.votes, position, vote);
         Ok(())
     }
+
+    /// Keeps a value as learnt as `put_learnt` does, in a write that does not fail by a plan.
+    ///
+    /// Faults: as of `put_promise`.
+    #[tactic(auto, unfolding(ballots::specs::Values::positions))]
+    pub fn cut_learnt<R: PlannedRecords>(
+        &mut self,
+        alloc: Global,
+        records: &mut R,
+        value: Value,
+    ) -> Result<(), RecordsFault>
+        requires few { length self.old.learnt < positions }
+        requires stands { R.is_kept records.old → R.stands records.old self.old self.old }
+        requires passes { R.passes records.old ≡ false }
+        ensures made { OnOk result (self.new ≡ written (NewLearnt value) self.old) }
+        ensures refused { OnErr result (self.new ≡ self.old) }
+        ensures law { R.is_kept records.new → Puts (R.stands records.new) self.old (written (NewLearnt value) self.old) result }
+        ensures goes { R.is_kept records.new → Goes (R.stands records.new) (R.fates records.old) (R.fates records.new) true self.old (written (NewLearnt value) self.old) result }
+        ensures kept { R.is_kept records.new → R.is_kept records.old }
+        ensures counts { Counts (R.failed records.old) (R.failed records.new) result }
+        ensures passes { R.passes records.new ≡ false }
+    {
+        let position = self.learnt_to() + 1;
+        // The room comes first, so that nothing fails once the records have acknowledged the value.
+        if self.learnt.reserve(1).is_err() {
+            return Err(RecordsFault::Memory);
+        }
+        records.let_pass();
+        records.put_learnt(alloc, position, &value)?;
+        self.learnt.push_reserved(value);
+        Ok(())
+    }
 }
 
 /// Makes room for a vote at a position, and takes away what room a refused write has left elsewhere. The votes stay the same.
@@ -277,6 +375,7 @@ impl Clone for Record {
         Ok(Record {
             promise: self.promise,
             votes: self.votes.clone()?,
+            learnt: self.learnt.clone()?,
         })
     }
 }

@@ -1,8 +1,8 @@
 //! A record in memory.
 
-ghost use Rattle.std.specs.Prelude.{◌≡◌, ◌⊎◌, ◌≤◌, [], None, Some, false, IfErr, OnErr, OnOk};
-ghost use Rattle.ballots.specs.Ballot.{no_ballot};
-ghost use Rattle.paxos.specs.Records.{NewVote, written};
+ghost use Rattle.std.specs.Prelude.{◌≡◌, ◌⊎◌, ◌≤◌, ◌<◌, length, None, Some, false, IfErr, OnErr, OnOk};
+ghost use Rattle.ballots.specs.Values.{positions};
+ghost use Rattle.paxos.specs.Records.{NewVote, NewLearnt, empty_record, written};
 
 use super::kept::Record;
 use super::records::{PlannedRecords, Records, RecordsFault};
@@ -28,9 +28,9 @@ impl Model for MemRecords {
 }
 
 impl MemRecords {
-    /// No promise, and no votes.
+    /// No promise and no votes, and nothing kept as learnt.
     pub fn new(alloc: Global) -> MemRecords
-        ensures { result ≡ record { promise = no_ballot; votes = [] } }
+        ensures { result ≡ empty_record }
     {
         MemRecords {
             kept: Record::new(alloc),
@@ -71,6 +71,15 @@ impl Records for MemRecords {
         copy_vote(&mut self.kept, ballot, position, value)
     }
 
+    fn put_learnt(
+        &mut self,
+        alloc: Global,
+        position: u32,
+        value: &Value,
+    ) -> Result<(), RecordsFault> {
+        copy_learnt(&mut self.kept, value)
+    }
+
     fn failures(&self) -> u64 {
         0
     }
@@ -96,6 +105,22 @@ pub(super) fn copy_vote(
         return Err(RecordsFault::Memory);
     };
     match kept.set_vote(position, Vote { ballot, value }) {
+        Ok(()) => Ok(()),
+        Err(_) => Err(RecordsFault::Memory),
+    }
+}
+
+/// Keeps a copy of a value as learnt at the next position. Where memory is refused, nothing changes.
+pub(super) fn copy_learnt(kept: &mut Record, value: &Value) -> Result<(), RecordsFault>
+    requires few { length kept.old.learnt < positions }
+    ensures learnt { OnOk result (kept.new ≡ written (NewLearnt value.now) kept.old) }
+    ensures refused { OnErr result (kept.new ≡ kept.old) }
+    ensures memory { IfErr result (λ fault. fault ≡ RecordsFault.Memory) }
+{
+    let Ok(value) = value.clone() else {
+        return Err(RecordsFault::Memory);
+    };
+    match kept.push_learnt(value) {
         Ok(()) => Ok(()),
         Err(_) => Err(RecordsFault::Memory),
     }

@@ -1,9 +1,9 @@
 //! Where an acceptor keeps its record, so that it outlives stops.
 
-ghost use Rattle.std.specs.Prelude.{◌≡◌, ◌⊎◌, ◌≤◌, ℕ, Bool, None, Some, false, true, IfOk, IsErrOf};
+ghost use Rattle.std.specs.Prelude.{◌≡◌, ◌⊎◌, ◌≤◌, ℕ, suc, length, Bool, None, Some, false, true, IfOk, IsErrOf};
 ghost use Rattle.ballots.specs.Ballot.{IsBallot, below};
 ghost use Rattle.ballots.specs.Values.{positions};
-ghost use Rattle.paxos.specs.Records.{Record as RecordTerm, NewPromise, NewVote, written};
+ghost use Rattle.paxos.specs.Records.{Record as RecordTerm, NewPromise, NewVote, NewLearnt, written};
 ghost use Rattle.records.specs.Law.{Counts, Fate, Goes, Puts};
 
 use super::kept::Record;
@@ -23,8 +23,6 @@ pub enum RecordsFault {
 ///
 /// Its law: after an `Ok` every crash leaves the new record; after a failure of the store the old or the new one, and `failures`
 /// has grown by one in that call; after want of memory the old one. What `load` gives lasts until a later write changes it.
-///
-/// A write that keeps learnt values too would be a third `put_..` here, with a third kind of `Write` in its law.
 pub trait Records {
     /// Whatever a crash at this moment leaves, and the next load finds, is the one record or the other.
     ghost stands: { Self → RecordTerm → RecordTerm → Type 0 };
@@ -80,6 +78,23 @@ pub trait Records {
             → Puts (stands self.new) last (written (NewVote position (record { ballot = ballot; value = value.now })) last) result }
         ensures goes { is_kept self.new → (last : RecordTerm) → stands self.old last last
             → Goes (stands self.new) (fates self.old) (fates self.new) (passes self.old) last (written (NewVote position (record { ballot = ballot; value = value.now })) last) result }
+        ensures kept { is_kept self.new → is_kept self.old }
+        ensures counts { Counts (failed self.old) (failed self.new) result }
+        ensures passes { passes self.new ≡ false };
+
+    /// Acknowledges that a value is learnt at a position, which is the first one past those that the record keeps as learnt.
+    fn put_learnt(
+        &mut self,
+        alloc: Global,
+        position: u32,
+        value: &Value,
+    ) -> Result<(), RecordsFault>
+        requires most { position ≤ positions }
+        requires next { is_kept self.old → (last : RecordTerm) × stands self.old last last × (position ≡ suc (length last.learnt)) }
+        ensures law { is_kept self.new → (last : RecordTerm) → stands self.old last last
+            → Puts (stands self.new) last (written (NewLearnt value.now) last) result }
+        ensures goes { is_kept self.new → (last : RecordTerm) → stands self.old last last
+            → Goes (stands self.new) (fates self.old) (fates self.new) (passes self.old) last (written (NewLearnt value.now) last) result }
         ensures kept { is_kept self.new → is_kept self.old }
         ensures counts { Counts (failed self.old) (failed self.new) result }
         ensures passes { passes self.new ≡ false };

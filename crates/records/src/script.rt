@@ -1,15 +1,15 @@
 //! A record in memory whose writes fail by a plan.
 
-ghost use Rattle.std.specs.Prelude.{◌≡◌, ◌⊎◌, ◌≤◌, ◌==◌, ℕ, Bool, if◌then◌else◌, cond, false, [], None, Some, IfErr, IfOk, OnOk, is_some, Ok, Err};
-ghost use Rattle.ballots.specs.Ballot.{below, no_ballot};
+ghost use Rattle.std.specs.Prelude.{◌≡◌, ◌⊎◌, ◌≤◌, ◌==◌, ℕ, ◌<◌, length, Bool, if◌then◌else◌, cond, false, None, Some, IfErr, IfOk, OnOk, is_some, Ok, Err};
+ghost use Rattle.ballots.specs.Ballot.{below};
 ghost use Rattle.ballots.specs.Values.{positions};
 ghost use Rattle.position_map.specs.Slots.{value_at};
-ghost use Rattle.paxos.specs.Records.{Record as RecordTerm, NewPromise, NewVote, written};
+ghost use Rattle.paxos.specs.Records.{Record as RecordTerm, NewPromise, NewVote, NewLearnt, empty_record, written};
 ghost use Rattle.records.specs.Law.{Counts, Goes, Puts};
 ghost use Rattle.records.specs.Script.{Script, GoesBy, IsKept, Stands, fails_at, fates_of, first_of, next_fate, one_more, stopping};
 
 use super::kept::Record;
-use super::memory::copy_vote;
+use super::memory::{copy_learnt, copy_vote};
 use super::records::{PlannedRecords, Records, RecordsFault};
 use ballots::{Ballot, Value, Vote};
 use std::alloc::{AllocError, Global};
@@ -50,12 +50,12 @@ impl Model for ScriptRecords {
 }
 
 impl ScriptRecords {
-    /// No promise and no votes, and which writes fail: the number of each, and whether its record is left (`true`) or the one
+    /// No promise and no votes, nothing kept as learnt, and which writes fail: the number of each, and whether its record is left (`true`) or the one
     /// before it.
     ///
     /// The numbers may stand in any order. Of a number that stands there twice, the first counts. It fails where memory is refused.
     pub fn new(alloc: Global, plan: &[(u64, bool)]) -> Result<ScriptRecords, AllocError>
-        ensures { IfOk result (λ s. s ≡ record { kept = record { promise = no_ballot; votes = [] }; plan = plan.now; writes = 0; failures = 0; passes = false }) }
+        ensures { IfOk result (λ s. s ≡ record { kept = empty_record; plan = plan.now; writes = 0; failures = 0; passes = false }) }
     {
         let mut fates: BTreeMap<u64, bool> = BTreeMap::new(alloc);
         for (number, is_made) in plan.iter() {
@@ -190,6 +190,28 @@ impl Records for ScriptRecords {
         let fate = self.take_fate();
         if fate.unwrap_or(true) {
             copy_vote(&mut self.kept, ballot, position, value)?;
+        }
+        self.end_write(fate)
+    }
+
+    fn put_learnt(
+        &mut self,
+        alloc: Global,
+        position: u32,
+        value: &Value,
+    ) -> Result<(), RecordsFault>
+        requires few { length self.old.kept.learnt < positions }
+        ensures law { IsKept self.new → (last : RecordTerm) → Stands self.old last last
+            → Puts (Stands self.new) last (written (NewLearnt value.now) last) result }
+        ensures goes { IsKept self.new → (last : RecordTerm) → Stands self.old last last
+            → Goes (Stands self.new) (fates_of self.old) (fates_of self.new) self.old.passes last (written (NewLearnt value.now) last) result }
+        ensures kept { IsKept self.new → IsKept self.old }
+        ensures counts { Counts self.old.failures self.new.failures result }
+        ensures script { GoesBy self.old (NewLearnt value.now) self.new result }
+    {
+        let fate = self.take_fate();
+        if fate.unwrap_or(true) {
+            copy_learnt(&mut self.kept, value)?;
         }
         self.end_write(fate)
     }

@@ -1,18 +1,19 @@
 // Calls of an acceptor, and lines of them.
 //
-// `begin BALLOT`, `prepare BALLOT POSITION` and `accept POSITION BALLOT` (of the no-op). After ` > ` stands the answer: `nothing`, or `window BALLOT FIRST
-// LAST` and for each vote `vote POSITION BALLOT`; `yes` or `no`; `store`, where the store fails. `promised BALLOT` says what shows.
-ghost use Rattle.std.specs.Prelude.{◌≡◌, ◌≤◌, true};
+// `begin BALLOT`, `prepare BALLOT POSITION`, `accept POSITION BALLOT` (of the no-op) and `keep CLIENT` (of a client's first request). After ` > ` stands the answer: `nothing`, or `window BALLOT FIRST
+// LAST` and for each vote `vote POSITION BALLOT`; `yes` or `no`; `store`, where the store fails. `promised BALLOT` says what shows, and
+// `held CLIENT ..` whose requests are kept as learnt, by position.
+ghost use Rattle.std.specs.Prelude.{◌≡◌, ◌≤◌, ◌<◌, length, true};
 ghost use Rattle.ballots.specs.Ballot.{IsBallot};
 ghost use Rattle.ballots.specs.Values.{positions};
 
 use acceptor::Acceptor;
 use ballots::limits::POSITIONS;
-use ballots::{Ballot, Entry, Value, Vote, Window};
+use ballots::{Ballot, Entry, Request, Value, Vote, Window};
 use records::{Records, RecordsFault, ScriptRecords};
 use rows::cut;
 use script_words::Words;
-use std::alloc::Global;
+use std::alloc::{AllocError, Global};
 use std::process::Abort;
 
 // What an acceptor answers.
@@ -21,6 +22,7 @@ enum Answer {
     Begun,
     Promised(Option<Window>),
     Accepted(bool),
+    Kept,
 }
 
 #[tactic(auto, unfolding(ballots::specs::Ballot::last_round))]
@@ -83,6 +85,37 @@ fn accept<R: Records + Drop>(
     Ok(Answer::Accepted(acceptor.on_accept(alloc, position, &vote(ballot))?))
 }
 
+// A client's first request.
+fn request(alloc: Global, client: u32) -> Result<Value, AllocError> {
+    match Request::new(alloc, client, 1, 1, "x") {
+        Ok(request) => Ok(Value::Request(request)),
+        Err(_) => Err(AllocError),
+    }
+}
+
+#[tactic(auto, unfolding(ballots::specs::Values::positions))]
+// Whether one learnt value more may be kept.
+fn has_room<R: Records + Drop>(acceptor: &Acceptor<R>) -> bool
+    ensures { result ≡ true → length acceptor.now.kept.learnt < positions }
+{
+    acceptor.kept() < POSITIONS
+}
+
+fn keep<R: Records + Drop>(
+    rt: &impl Abort,
+    alloc: Global,
+    acceptor: &mut Acceptor<R>,
+    words: &mut Words,
+) -> Result<Answer, RecordsFault> {
+    let client = words.position().expect(rt, "a client");
+    let Ok(value) = request(alloc, client) else {
+        return Err(RecordsFault::Memory);
+    };
+    assert!(rt; has_room(acceptor));
+    acceptor.on_keep(alloc, &value)?;
+    Ok(Answer::Kept)
+}
+
 // Makes the call of a line.
 fn make<R: Records + Drop>(
     rt: &impl Abort,
@@ -95,6 +128,7 @@ fn make<R: Records + Drop>(
         "begin" => begin(rt, alloc, acceptor, &mut words),
         "prepare" => prepare(rt, alloc, acceptor, &mut words),
         "accept" => accept(rt, alloc, acceptor, &mut words),
+        "keep" => keep(rt, alloc, acceptor, &mut words),
         _ => panic!(rt; "no call: {text}"),
     }
 }
@@ -149,7 +183,7 @@ fn expect_window(rt: &impl Abort, window: &Window, want: &str) {
 
 fn expect(rt: &impl Abort, answer: &Answer, want: &str) {
     match answer {
-        Answer::Begun => assert!(rt; want.is_empty(), "{want}"),
+        Answer::Begun | Answer::Kept => assert!(rt; want.is_empty(), "{want}"),
         Answer::Promised(None) => assert!(rt; want == "nothing", "{want}"),
         Answer::Promised(Some(window)) => expect_window(rt, window, want),
         Answer::Accepted(yes) => assert!(rt; want == if *yes { "yes" } else { "no" }, "{want}"),
@@ -170,18 +204,42 @@ fn play_call<R: Records + Drop>(
     }
 }
 
+// Whether the request of that client is held at a position.
+fn holds<R: Records + Drop>(acceptor: &Acceptor<R>, position: u32, client: u32) -> bool {
+    match acceptor.held(position) {
+        Some(Value::Request(request)) => request.id().client == client,
+        Some(Value::NoOp) | None => false,
+    }
+}
+
+// Expects that just these clients' requests are kept as learnt.
+fn expect_held<R: Records + Drop>(rt: &impl Abort, acceptor: &Acceptor<R>, want: &str) {
+    let mut words = Words { rest: want };
+    for before in 0..acceptor.kept() {
+        let client = words.position().expect(rt, "a client");
+        assert!(rt; holds(acceptor, before + 1, client), "{want}");
+    }
+    assert!(rt; words.rest.is_empty(), "{want}");
+    assert!(rt;
+        acceptor.held(0).is_none() && acceptor.held(POSITIONS).is_none(),
+        "{want}"
+    );
+}
+
 fn play_line<R: Records + Drop>(
     rt: &impl Abort,
     alloc: Global,
     acceptor: &mut Acceptor<R>,
     line: &str,
 ) {
-    match line.strip_prefix("promised ") {
-        Some(text) => assert_eq!(rt;
+    let (word, text) = cut(line, " ");
+    match word {
+        "promised" => assert_eq!(rt;
             acceptor.promised(),
             Words { rest: text }.ballot().expect(rt, "a ballot")
         ),
-        None => play_call(rt, alloc, acceptor, line),
+        "held" => expect_held(rt, acceptor, text),
+        _ => play_call(rt, alloc, acceptor, line),
     }
 }
 

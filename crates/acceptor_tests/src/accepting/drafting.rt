@@ -184,6 +184,16 @@ impl Records for Counting {
         Ok(())
     }
 
+    fn put_learnt(
+        &mut self,
+        alloc: Global,
+        position: u32,
+        value: &Value,
+    ) -> Result<(), RecordsFault> {
+        self.writes = self.writes.saturating_add(1);
+        Ok(())
+    }
+
     fn failures(&self) -> u64 {
         0
     }

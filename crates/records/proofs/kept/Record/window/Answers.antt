@@ -17,7 +17,7 @@ returns-then-len-eq-MOST_ENTRIES c =
     let same : c.args.self.now.votes ≡ votes = sym (ap (λ r. r.votes) c.self.view_is) in
     let there : IsSome (vote_at c.in-Some.position votes) = rw (c.in-Some.is, same) at c.loop-next.invariant.there in
     let so_far : c.loop-next.entries.items ++ since c.in-Some.position votes ≡ since c.args.from votes = rw (c.in-Some.is, same) at c.loop-next.invariant.votes in
-    rw same (window_cut c.args.ballot c.args.from c.index.result.now.position c.in-Some.position votes c.loop-next.entries.items c.index.result.now (rising_filled _ c.self.invariant) there so_far (sym c.loop-next.entries.ok.0 ∙ sym c.len.ensures ∙ c.if-len-eq-MOST_ENTRIES.true) (ap (λ e. e.position) c.index.ensures))
+    rw same (window_cut c.args.ballot c.args.from c.index.result.now.position c.in-Some.position votes c.loop-next.entries.items c.index.result.now (rising_filled _ c.self.invariant.0) there so_far (sym c.loop-next.entries.ok.0 ∙ sym c.len.ensures ∙ c.if-len-eq-MOST_ENTRIES.true) (ap (λ e. e.position) c.index.ensures))
 
 pub loop-next-smaller : goal.loop-next-smaller
 loop-next-smaller c = elim c.match-get.branch [
@@ -41,7 +41,7 @@ loop-next-preserved c =
           let put = ap (λ v. v.items) w.entries-is ∙ w.in_ok-push.ensures.items in
           let vote : vote_at c.in-Some.position votes ≡ Some w.in_ok-clone.field-0 = vote_filled c.in-Some.position c.self.inside.votes _ (ap (λ v. Some v) w.in_ok-clone.ensures.cases ∙ sym (ap option_copied w.in-Some-get.is) ∙ c.get.ensures.value) in
           record {
-            votes = rw (put, same) (window_step c.in-Some.position c.args.from w.in_ok-clone.field-0 c.next_after-next.result votes c.loop-next.entries.items (rising_filled _ c.self.invariant) vote (next_rest _ _ _ above) so_far);
+            votes = rw (put, same) (window_step c.in-Some.position c.args.from w.in_ok-clone.field-0 c.next_after-next.result votes c.loop-next.entries.items (rising_filled _ c.self.invariant.0) vote (next_rest _ _ _ above) so_far);
             there = rw same (next_there _ _ _ above);
             few = (one_more c.loop-next.entries.items c.match-get.entries.items _ put c.loop-next.invariant.few (λ e. c.if-len-eq-MOST_ENTRIES.false (c.len.ensures ∙ c.loop-next.entries.ok.0 ∙ e))).0;
           }
