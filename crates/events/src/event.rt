@@ -13,6 +13,8 @@ pub enum Step {
     Deliver(u64),
     /// The member begins a ballot.
     Begin(u8),
+    /// The member keeps a learnt value.
+    Keep(u8),
 }
 
 /// What may happen to a group. Messages and members are numbered from 1.
@@ -43,7 +45,7 @@ impl Event {
             Event::Deliver(_) | Event::StopIn(Step::Deliver(_), _) => None,
             Event::Tick(member, _)
             | Event::Submit(member, _)
-            | Event::StopIn(Step::Begin(member), _)
+            | Event::StopIn(Step::Begin(member) | Step::Keep(member), _)
             | Event::Stop(member)
             | Event::Start(member) => Some(*member),
         }

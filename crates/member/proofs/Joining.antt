@@ -5,10 +5,10 @@ use Rattle.paxos.specs.Application.{Application}
 use Rattle.paxos.specs.Records.{Record, written}
 use Rattle.paxos.specs.Step.{Running}
 use Rattle.paxos.specs.WellFormed.{IsState, IsStep}
-use Rattle.paxos.proofs.Steps.{message_is_step, begin_is_step, resend_is_step, catch_up_is_step}
+use Rattle.paxos.proofs.Steps.{message_is_step, begin_is_step, resend_is_step, catch_up_is_step, keep_is_step}
 use Rattle.member.specs.declared.draft.Draft.{Draft}
 use Rattle.member.specs.Drafts.{IsMade, Plans}
-use Rattle.member.specs.Steps.{Member, Input, Hears, Begins, Resends, CatchesUp, MayCome, IsThis, Took, effect_of}
+use Rattle.member.specs.Steps.{Member, Input, Hears, Begins, Resends, CatchesUp, KeepsLearnt, MayCome, IsThis, Took, effect_of}
 
 -- each step is well formed
 is_step : (app : Application) (n m : ℕ) (r : Record) (u : Running) (i : Input) → 1 ≤ m → m ≤ n → n ≤ most_members → MayCome n i → IsState n m r u → IsStep n m r (effect_of app n m r u i)
@@ -16,6 +16,7 @@ is_step app n m r u (Hears k) low high few comes s = message_is_step app n m k r
 is_step app n m r u Begins low high few comes s = begin_is_step n m r u low high few s
 is_step app n m r u Resends low high few comes s = resend_is_step n m r u low high few s
 is_step app n m r u CatchesUp low high few comes s = catch_up_is_step n m r u low high few s
+is_step app n m r u KeepsLearnt low high few comes s = keep_is_step n m r u low high few s
 
 -- The member has taken the step.
 pub took_made : {R : Type 0} (app : Application) (i : Input) (u : Running) (old new : Member R) (d : Draft) → 1 ≤ old.number → old.number ≤ old.members → old.members ≤ 63

@@ -5,13 +5,14 @@ use Rattle.ballots.specs.Messages.{Window, Body, Prepare, Promise, Accept, Accep
 use Rattle.ballots.specs.Terms.{Request}
 use Rattle.ballots.specs.declared.reply.Reply.{Reply as Kept}
 use Rattle.ballots.specs.declared.value.Pair.{Pair}
+use Rattle.ballots.specs.declared.value.Value.{Value}
 use Rattle.paxos.specs.Application.{Application}
 use Rattle.paxos.specs.Knowledge.{AcceptedBy, ChosenAre, joins, news, news_of, newly, prefix}
 use Rattle.paxos.specs.Proposing.{has_open, has_free_place}
 use Rattle.paxos.proofs.News.{prefix_grows}
 use Rattle.paxos.specs.Records.{Record}
-use Rattle.paxos.specs.Step.{Leader, Running, Effect, quiet, is_called_for, on_body, on_promise, learns, on_new_request, on_submit, may_begin, says, cover_heard, report_heard, is_learnt_heard, turn_of}
-use Rattle.member.specs.Steps.{Input, Hears, Begins, Resends, CatchesUp, effect_of}
+use Rattle.paxos.specs.Step.{Leader, Running, Effect, quiet, is_called_for, on_body, on_promise, learns, on_new_request, on_submit, may_begin, says, cover_heard, report_heard, is_learnt_heard, turn_of, to_keep, keeping}
+use Rattle.member.specs.Steps.{Input, Hears, Begins, Resends, CatchesUp, KeepsLearnt, effect_of}
 
 -- the step leaves what the member heard and applied
 pub record Keeps (u : Running) (e : Effect) : Type 0 where
@@ -77,6 +78,11 @@ keeps app n m r u (Hears k) = one (is_called_for r k.body)
 keeps app n m r u Begins = keeps_one u (may_begin n r u) _ _ (record { running = _; runs = refl; heard = refl; applied = refl }) (keeps_says u [])
 keeps app n m r u Resends = keeps_says u _
 keeps app n m r u CatchesUp = keeps_says u _
+keeps app n m r u KeepsLearnt = one (to_keep n r u)
+  where
+    one : (o : Option Value) → Keeps u (keeping u o)
+    one None = keeps_says u []
+    one (Some value) = record { running = u; runs = refl; heard = refl; applied = refl }
 
 -- Nothing is forgotten by it, and nothing applied.
 pub grows : (app : Application) (n m : ℕ) (r : Record) (u : Running) (i : Input) (v : Running) → (effect_of app n m r u i).running ≡ Some v
@@ -101,3 +107,4 @@ grows app n m r u i v e =
     heard_grows Begins = (omega arith, refl)
     heard_grows Resends = (omega arith, refl)
     heard_grows CatchesUp = (omega arith, refl)
+    heard_grows KeepsLearnt = (omega arith, refl)

@@ -3,6 +3,7 @@ pub mod Keeping
 pub mod Joining
 pub mod Sending
 pub mod Drafting
+pub mod Resuming
 pub mod Leading
 pub mod Learning
 pub mod Gathering

@@ -28,7 +28,7 @@ use Rattle.proposer.specs.Submitting.{IsReady as MayBeLed}
 use Rattle.proposer.specs.Taking.{HasTaken}
 use Rattle.proposer.specs.Terms.{Leading, Proposer, proposing}
 use Rattle.member.specs.declared.draft.Change.{Change}
-use Rattle.member.specs.declared.draft.Change.TheVariants.{Nothing, Answer, Begin, Promise, News, Submit}
+use Rattle.member.specs.declared.draft.Change.TheVariants.{Nothing, Answer, Begin, Promise, News, Submit, Keep}
 use Rattle.member.specs.declared.draft.Draft.{Draft}
 use Rattle.member.specs.Steps.{Member, Input, Begins, IsHeard, IsThis, IsUnanswered, all_packets, effect_of}
 
@@ -40,6 +40,7 @@ write_in (Begin a p) = a.write
 write_in (Promise p) = NoWrite
 write_in (News l p) = NoWrite
 write_in (Submit p) = NoWrite
+write_in (Keep a) = a.write
 
 -- The parts may make the change: there is room for it, and it may be written.
 abbrev pub MayBeMade : {R : Type 0} → Member R → Change → Type 0
@@ -49,6 +50,7 @@ MayBeMade x (Begin a p) = MayBeWritten x.acceptor.kept a.write × MayBeLed x.pro
 MayBeMade x (Promise p) = MayBeLed x.proposer p.change
 MayBeMade x (News l p) = HasRoom x.learner l.change × MayBeHeard l.change × MayBeLed x.proposer p.change
 MayBeMade x (Submit p) = MayBeLed x.proposer p.change
+MayBeMade x (Keep a) = MayBeWritten x.acceptor.kept a.write
 
 -- They may make what was drafted.
 abbrev pub IsReady : {R : Type 0} → Member R → Draft → Type 0
@@ -71,6 +73,7 @@ Leads x (Begin a p) y = HasMade x p.change y
 Leads x (Promise p) y = HasMade x p.change y
 Leads x (News l p) y = HasMade x p.change y
 Leads x (Submit p) y = HasMade x p.change y
+Leads x (Keep a) y = y ≡ x
 
 -- what a change makes of a learner
 abbrev pub Learns : Learner → Change → Learner → Type 0

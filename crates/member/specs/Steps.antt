@@ -8,7 +8,7 @@ use Rattle.learner.specs.Terms.{Learner}
 use Rattle.paxos.specs.Application.{Application}
 use Rattle.paxos.specs.Knowledge.{news}
 use Rattle.paxos.specs.Records.{Record, written}
-use Rattle.paxos.specs.Step.{Running, Effect, values_of, on_message, on_begin, on_resend, on_catch_up_tick}
+use Rattle.paxos.specs.Step.{Running, Effect, values_of, on_message, on_begin, on_resend, on_catch_up_tick, on_keep}
 use Rattle.paxos.specs.WellFormed.{IsMessage, IsState}
 use Rattle.proposer.specs.Knowing.{Knows}
 use Rattle.proposer.specs.Terms.{Proposer}
@@ -42,12 +42,14 @@ pub data Input : Type 0 where
   Begins : Input
   Resends : Input
   CatchesUp : Input
+  KeepsLearnt : Input
 
 -- what comes by the clock
 abbrev pub ticked : Tick → Input
 ticked tick.Begin = Begins
 ticked tick.Resend = Resends
 ticked tick.CatchUp = CatchesUp
+ticked tick.Keep = KeepsLearnt
 
 -- what an input of the code says to the member of a number
 abbrev pub input_of : (self : ℕ) → InputOfCode → Input
@@ -60,6 +62,7 @@ effect_of app n m r u (Hears k) = on_message app n m k r u
 effect_of app n m r u Begins = on_begin n m r u
 effect_of app n m r u Resends = on_resend n m u
 effect_of app n m r u CatchesUp = on_catch_up_tick n m u
+effect_of app n m r u KeepsLearnt = on_keep n r u
 
 -- no question
 abbrev pub IsNoQuestion : Body → Type 0

@@ -26,6 +26,8 @@ pub enum Change {
     News(LearnerDraft, ProposerDraft<Option<Sends>>),
     /// The proposer proposes a request.
     Submit(ProposerDraft<Sends>),
+    /// The acceptor keeps a learnt value.
+    Keep(AcceptorDraft<()>),
 }
 
 /// What a member is about to change, to send and to be told. The change belongs to the member that made it, as it was then.

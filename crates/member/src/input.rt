@@ -11,6 +11,8 @@ pub enum Tick {
     Resend,
     /// Ask the others for what is chosen.
     CatchUp,
+    /// Keep one more of the values that are learnt.
+    Keep,
 }
 
 /// What comes to a member: a message, or a tick.

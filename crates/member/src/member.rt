@@ -1,12 +1,11 @@
 //! A member.
 
-ghost use Rattle.std.specs.Prelude.{◌≡◌, ◌<◌, ◌≤◌, ◌⊎◌, ◌↔◌, ℕ, false, true, is_some, IfOk, IfErr, OnOk, OnErr, IsErrOf};
+ghost use Rattle.std.specs.Prelude.{◌≡◌, ◌<◌, ◌≤◌, ◌⊎◌, ◌↔◌, ℕ, length, false, true, is_some, IfOk, IfErr, OnOk, OnErr, IsErrOf};
 ghost use Rattle.paxos.specs.Records.{Record as RecordTerm};
 ghost use Rattle.paxos.specs.Knowledge.{learnt as learnt_at, news, prefix};
-ghost use Rattle.paxos.specs.Step.{Running, may_begin};
+ghost use Rattle.paxos.specs.Step.{Running, may_begin, resumed};
 ghost use Rattle.paxos.specs.Records.{written, writes};
 ghost use Rattle.paxos.specs.WellFormed.{ArePairs, IsRecord};
-ghost use Rattle.paxos.specs.World.{started};
 ghost use Rattle.std.specs.Option.{option_copied};
 ghost use Rattle.acceptor.specs.Drafts.{IsRefused};
 ghost use Rattle.records.specs.Law.{Went};
@@ -21,7 +20,7 @@ ghost use Rattle.learner.specs.Hearing.{AreAbove};
 ghost use Rattle.std.specs.List.{All};
 ghost use Rattle.proposer.specs.Submitting.{IsReady as MayBeLed};
 ghost use Rattle.member.specs.Drafts.{AreShort, HasMade, IsDrafted, IsMade, IsReady, IsSpent, IsUnchanged, MayBeMade, Plans, write_in};
-ghost use Rattle.member.specs.Steps.{Input as InputTerm, Hears, Begins, Resends, CatchesUp, IsHeard, IsThis, MayCome, Took, effect_of, input_of};
+ghost use Rattle.member.specs.Steps.{Input as InputTerm, Hears, Begins, Resends, CatchesUp, KeepsLearnt, IsHeard, IsThis, MayCome, Took, effect_of, input_of};
 
 use super::draft::{Change, Draft};
 use super::fault::MemberFault;
@@ -64,7 +63,8 @@ impl<R: Records + Drop> Model for Member<R> {
 }
 
 impl<R: Records + Drop> Member<R> {
-    /// Opens records as the member of that number: it has promised and accepted what they keep, and has heard nothing.
+    /// Opens records as the member of that number: it has promised and accepted what they keep, has learnt what they keep as learnt, and
+    /// has heard nothing else.
     ///
     /// Faults, which give the records back with what they keep: memory was refused; the store failed, which the records count.
     pub fn open(
@@ -76,7 +76,7 @@ impl<R: Records + Drop> Member<R> {
         requires least { 1 ≤ number }
         requires most { number ≤ members }
         ensures place { IfOk result (λ x. (x.members ≡ members) × (x.number ≡ number)) }
-        ensures started { IfOk result (λ x. IsRecord members x.acceptor.kept → IsThis started x) }
+        ensures started { IfOk result (λ x. IsRecord members x.acceptor.kept → IsThis (resumed number x.acceptor.kept) x) }
         ensures running { IfOk result (λ x. x.acceptor.is_stopped ≡ false) }
         ensures loaded { IfOk result (λ x. R.is_kept x.acceptor.records → (a b : RecordTerm) → R.stands records a b → (x.acceptor.kept ≡ a) ⊎ (x.acceptor.kept ≡ b)) }
         ensures stands { IfOk result (λ x. R.is_kept x.acceptor.records → R.stands x.acceptor.records x.acceptor.kept x.acceptor.kept) }
@@ -86,6 +86,9 @@ impl<R: Records + Drop> Member<R> {
         ensures refused { IfErr result (λ e. IsRefused R.stands R.is_kept R.failed R.fates records e.1 e.0) }
     {
         let acceptor = Acceptor::open(alloc, records)?;
+        let Ok(learner) = Learner::resume(alloc, members, acceptor.learnt()) else {
+            return Err((RecordsFault::Memory, acceptor.into_records()));
+        };
         // Members are at most 63, as their count says.
         let _count = members.count();
         Ok(Member {
@@ -93,7 +96,7 @@ impl<R: Records + Drop> Member<R> {
             number,
             acceptor,
             proposer: Proposer::new(members, number),
-            learner: Learner::new(alloc, members),
+            learner,
         })
     }
 
@@ -139,9 +142,17 @@ impl<R: Records + Drop> Member<R> {
         self.acceptor.has_stopped()
     }
 
+    /// How many values its record keeps as learnt: those at the positions from 1 on.
+    pub fn kept(&self) -> u32
+        ensures { result ≡ length self.now.acceptor.kept.learnt }
+    {
+        self.acceptor.kept()
+    }
+
     /// How many positions it has learnt from 1 on without a gap.
     pub fn prefix(&self) -> u32
         ensures heard { (u : Running) → IsThis u self.now → result ≡ prefix self.now.members (news u.heard) }
+        ensures most { result ≤ positions }
     {
         self.learner.prefix()
     }
@@ -183,6 +194,7 @@ impl<R: Records + Drop> Member<R> {
             Input::Tick(Tick::Begin) => self.draft_begin(alloc),
             Input::Tick(Tick::Resend) => self.draft_resend(alloc),
             Input::Tick(Tick::CatchUp) => self.draft_catch_up(alloc),
+            Input::Tick(Tick::Keep) => self.draft_keep(alloc),
         }
     }
 
@@ -318,6 +330,35 @@ impl<R: Records + Drop> Member<R> {
             Message::CatchUp(prefix + 1),
             Change::Nothing,
         )?)
+    }
+
+    /// What comes of the tick Keep: the first value past those that the record keeps as learnt, if all positions up to it are learnt.
+    ///
+    /// Fault: memory was refused.
+    #[tactic(auto, unfolding(ballots::specs::Values::positions))]
+    fn draft_keep(&self, alloc: Global) -> Result<Draft, MemberFault>
+        requires runs { self.now.acceptor.is_stopped ≡ false }
+        ensures drafted { IfOk result (λ d. IsDrafted KeepsLearnt self.now d) }
+        ensures ready { IfOk result (λ d. IsReady self.now d) }
+        ensures short { IfOk result (λ d. AreShort d.sends.items) }
+        ensures fault { IfErr result (λ fault. fault ≡ MemberFault.Memory) }
+    {
+        let kept = self.kept();
+        let prefix = self.prefix();
+        if kept >= prefix {
+            return Ok(quiet(alloc));
+        }
+        let Some(value) = self.learned(kept + 1) else {
+            return Ok(quiet(alloc));
+        };
+        let Ok(draft) = self.acceptor.draft_keep(value) else {
+            return Err(MemberFault::Memory);
+        };
+        Ok(Draft {
+            sends: Vec::new(alloc),
+            tells: Vec::new(alloc),
+            change: Change::Keep(draft),
+        })
     }
 
     /// What comes of a Prepare from a member: the promise, with the votes from a position on ("Paxos Made Simple", section 2.2); nothing
@@ -620,6 +661,7 @@ impl<R: Records + Drop> Member<R> {
             Change::Submit(draft) => {
                 lead(&mut self.proposer, draft);
             }
+            Change::Keep(draft) => self.acceptor.commit(alloc, draft)?,
         }
         Ok(())
     }
@@ -667,6 +709,7 @@ impl<R: PlannedRecords + Drop> Member<R> {
         match change {
             Change::Answer(draft, _) => self.acceptor.cut(alloc, draft),
             Change::Begin(draft, _) => self.acceptor.cut(alloc, draft),
+            Change::Keep(draft) => self.acceptor.cut(alloc, draft),
             Change::Nothing => Ok(()),
             Change::Promise(_) => Ok(()),
             Change::News(_, _) => Ok(()),

@@ -1,14 +1,14 @@
 -- How far an application has come, step by step.
-use Rattle.std.proofs.Common.{◌≡◌, ℕ, zero, suc, ◌+◌, ◌<◌, ◌≤◌, Bool, true, false, arith, refl, sym, ap, subst, ◌∙◌, List, length, Option, Some, None, ⊎_elim, inl, inr, ◌⊎◌}
+use Rattle.std.proofs.Common.{◌≡◌, ℕ, zero, suc, ◌+◌, ◌<◌, ◌≤◌, arith, refl, sym, ap, subst, ◌∙◌, List, length, Option, Some, None, ⊎_elim, inl, inr, ◌⊎◌}
 use Rattle.std.proofs.lemmas.Option.{none-some}
 use Rattle.std.proofs.lemmas.List.{length-append}
-use Rattle.std.specs.Prelude.{option_to_list, is_some}
+use Rattle.std.specs.Prelude.{option_to_list}
 use Rattle.ballots.specs.Values.{positions}
 use Rattle.ballots.specs.declared.value.Value.{Value}
 use Rattle.member.specs.Steps.{IsThis, Member}
 use Rattle.paxos.proofs.Learnt.{prefix_ends}
-use Rattle.paxos.proofs.News.{prefix_learnt}
-use Rattle.paxos.specs.Knowledge.{Heard, last_of_run, learnt as learnt_at, prefix, values_to}
+use Rattle.paxos.proofs.News.{prefix_learnt, prefix_limit}
+use Rattle.paxos.specs.Knowledge.{Heard, learnt as learnt_at, prefix, values_to}
 use Rattle.paxos.specs.Step.{Running}
 use Rattle.node.specs.Applying.{IsAt}
 
@@ -22,18 +22,6 @@ values_count n heard (suc k) h =
   where
     one : (j : ℕ) → j + 1 ≡ suc j
     one j = omega arith
-
--- no run is longer than its limit
-run_limit : (test : ℕ → Bool) (k p : ℕ) → last_of_run test k p ≤ p + k
-run_limit test zero p = omega arith
-run_limit test (suc k) p = one (test (suc p)) (run_limit test k (suc p))
-  where
-    one : (t : Bool) → last_of_run test k (suc p) ≤ suc p + k → elim t as (λ x. ℕ) [ true ↦ last_of_run test k (suc p) | false ↦ p ] ≤ p + suc k
-    one true h = omega (arith, h)
-    one false h = omega arith
-
-pub prefix_limit : (n : ℕ) (heard : List Heard) → prefix n heard ≤ positions
-prefix_limit n heard = let l = run_limit (λ p. is_some (learnt_at n p heard)) positions 0 in omega (arith, l)
 
 -- where no position is left, all is applied
 pub all_done : (n : ℕ) (heard : List Heard) (k : ℕ) → k ≤ prefix n heard → positions ≤ k → k ≡ prefix n heard

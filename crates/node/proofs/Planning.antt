@@ -27,7 +27,8 @@ use Rattle.paxos.specs.Application.{Application}
 use Rattle.paxos.specs.Knowledge.{news, news_of, promised_of}
 use Rattle.paxos.specs.Step.{Effect, Running, may_begin, on_submit, says, values_of}
 use Rattle.paxos.specs.WellFormed.{IsMessage}
-use Rattle.node.proofs.Going.{prefix_limit, values_count}
+use Rattle.paxos.proofs.News.{prefix_limit}
+use Rattle.node.proofs.Going.{values_count}
 use Rattle.node.specs.Nodes.{AreAll, IsPlanned, IsSpent, Node, RunsAs}
 
 -- what is short fits, and its numbers are in range
@@ -63,6 +64,7 @@ pub tick_unanswered : (app : Application) (n : ℕ) (u : Running) (t : Tick) →
 tick_unanswered app n u tick.Begin = tt
 tick_unanswered app n u tick.Resend = tt
 tick_unanswered app n u tick.CatchUp = tt
+tick_unanswered app n u tick.Keep = tt
 
 module _ {R A : Type 0} (has_applied : List (List ℕ) → List Value → A → Type 0) (app : Application) (x : Node R A) (members : x.member.members ≡ x.setup.members) (number : x.member.number ≡ x.setup.member) where
   -- a step of the member is one of the node
@@ -149,8 +151,10 @@ pub spent_of : {R A : Type 0} (x : Node R A) (u : Running) (t : Tick) → x.memb
 spent_of x u tick.Begin members h = subst (λ n. may_begin n x.member.acceptor.kept u ≡ false) members h
 spent_of x u tick.Resend members h = h
 spent_of x u tick.CatchUp members h = h
+spent_of x u tick.Keep members h = h
 
 pub spent_to : {R A : Type 0} (x : Node R A) (u : Running) (t : Tick) → x.member.members ≡ x.setup.members → IsSpent x u (ticked t) → IsSpentOf x.member u (ticked t)
 spent_to x u tick.Begin members h = subst (λ n. may_begin n x.member.acceptor.kept u ≡ false) (sym members) h
 spent_to x u tick.Resend members h = h
 spent_to x u tick.CatchUp members h = h
+spent_to x u tick.Keep members h = h

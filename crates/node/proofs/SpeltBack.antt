@@ -5,14 +5,14 @@ use Rattle.ballots.specs.Ballot.{most_members}
 use Rattle.ballots.specs.Messages.{Body, Prepare, Promise, Accept, Accepted, Chosen, CatchUp, Submit, Ask, Elsewhere, Packet, body_of, packet, up_to, to_all}
 use Rattle.ballots.specs.declared.ballot.Ballot.{Ballot}
 use Rattle.ballots.specs.declared.value.Entry.{Entry}
-use Rattle.member.specs.Steps.{Input, Hears, Begins, Resends, CatchesUp, MayCome, all_packets, effect_of, packets_of}
+use Rattle.member.specs.Steps.{Input, Hears, Begins, Resends, CatchesUp, KeepsLearnt, MayCome, all_packets, effect_of, packets_of}
 use Rattle.member.specs.declared.outcome.Send.{Send}
 use Rattle.member.specs.declared.outcome.Target.{Target}
 use Rattle.member.specs.declared.outcome.Target.TheVariants as target
 use Rattle.messages.proofs.RoundTripBodies.{datagram-back}
 use Rattle.messages.specs.Spelling.{AreInRange, HasFields}
 use Rattle.paxos.proofs.Lists.{has_flat, has_map}
-use Rattle.paxos.proofs.Steps.{message_is_step, begin_is_step, resend_is_step, catch_up_is_step}
+use Rattle.paxos.proofs.Steps.{message_is_step, begin_is_step, resend_is_step, catch_up_is_step, keep_is_step}
 use Rattle.paxos.specs.Application.{Application}
 use Rattle.paxos.specs.Lists.{Has}
 use Rattle.paxos.specs.Records.{Record}
@@ -99,3 +99,4 @@ step_is app n m (Hears p) r u least most few may state = message_is_step app n m
 step_is app n m Begins r u least most few may state = begin_is_step n m r u least most few state
 step_is app n m Resends r u least most few may state = resend_is_step n m r u least most few state
 step_is app n m CatchesUp r u least most few may state = catch_up_is_step n m r u least most few state
+step_is app n m KeepsLearnt r u least most few may state = keep_is_step n m r u least most few state

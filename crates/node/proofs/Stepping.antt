@@ -6,7 +6,7 @@ use Rattle.ballots.specs.Ballot.{most_members}
 use Rattle.ballots.specs.Messages.{Packet}
 use Rattle.ballots.specs.declared.value.Value.{Value}
 use Rattle.member.proofs.Keeping.{grows, heard_by, keeps}
-use Rattle.member.specs.Steps.{Input, Hears, Begins, Resends, CatchesUp, MayCome, Member, Took as TookOf, all_packets, effect_of}
+use Rattle.member.specs.Steps.{Input, Hears, Begins, Resends, CatchesUp, KeepsLearnt, MayCome, Member, Took as TookOf, all_packets, effect_of}
 use Rattle.member.specs.Drafts.{Plans}
 use Rattle.member.specs.declared.draft.Draft.{Draft as MemberDraft}
 use Rattle.member.specs.declared.outcome.Outcome.{Outcome}
@@ -45,6 +45,7 @@ heard_more r u (Hears k) = one (is_called_for r k.body)
 heard_more r u Begins = ([], refl)
 heard_more r u Resends = ([], refl)
 heard_more r u CatchesUp = ([], refl)
+heard_more r u KeepsLearnt = ([], refl)
 
 -- so the values that were applied are the first learnt ones after it
 pub step_values : (app : Application) (n m : ℕ) (r : Record) (u : Running) (i : Input) (v : Running) → (effect_of app n m r u i).running ≡ Some v → (k : ℕ) → k ≤ prefix n (news u.heard) → values_to n (news v.heard) k ≡ values_to n (news u.heard) k

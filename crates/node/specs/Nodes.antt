@@ -1,5 +1,5 @@
 -- What a node is, when it is one of a world, and when it has taken a step of the protocol: from received bytes to sent bytes.
-use Rattle.std.specs.Prelude.{◌≡◌, ◌<◌, ◌≤◌, ◌⊎◌, ℕ, not, ◌==◌, true, false, List, [], ◌∷◌, map, filter, flat_map, Some, None, Result, Ok, Err}
+use Rattle.std.specs.Prelude.{◌≡◌, ◌<◌, ◌≤◌, ◌⊎◌, ℕ, Bool, not, ◌==◌, true, false, List, [], ◌∷◌, map, filter, flat_map, length, Some, None, Result, Ok, Err}
 use Rattle.acceptor.specs.Steps.{IsAsWas, Stopped}
 use Rattle.ballots.specs.Messages.{Body, Reply, Answer, Behind, Elsewhere, Packet, body_of, packet, up_to}
 use Rattle.ballots.specs.Replies.{answered}
@@ -30,9 +30,9 @@ use Rattle.paxos.specs.Application.{Application}
 use Rattle.paxos.specs.Knowledge.{news, prefix}
 use Rattle.paxos.specs.Lists.{Has}
 use Rattle.paxos.specs.Records.{Record, Write, written}
-use Rattle.paxos.specs.Step.{Effect, Running, may_begin, values_of}
+use Rattle.paxos.specs.Step.{Effect, Running, may_begin, resumed, values_of}
 use Rattle.paxos.specs.WellFormed.{IsMessage}
-use Rattle.paxos.specs.World.{settles}
+use Rattle.paxos.specs.World.{applies_to, settles}
 
 -- what it was told when it was set up, its parts of the protocol, and the application
 pub record Node (R A : Type 0) : Type 0 where
@@ -46,6 +46,14 @@ pub record RunsAs {R A : Type 0} (has_applied : List (List ℕ) → List Value �
   pub this : IsThis u x.member
   pub most : u.applied ≤ prefix x.setup.members (news u.heard)
   pub applied : has_applied x.setup.names (values_of x.setup.members u) x.application
+
+-- It has started from its record: it has heard nothing but what that keeps as learnt, and has applied the first so many of these values; fewer
+-- than all of them exactly where it says that it stopped short.
+pub record HasStarted {R A : Type 0} (has_applied : List (List ℕ) → List Value → A → Type 0) (x : Node R A) (is_short : Bool) : Type 0 where
+  pub applied : ℕ
+  pub runs_as : RunsAs has_applied (applies_to x.setup.members applied (resumed x.setup.member x.member.acceptor.kept)) x
+  pub whole : is_short ≡ false → applied ≡ length x.member.acceptor.kept.learnt
+  pub short : is_short ≡ true → applied < length x.member.acceptor.kept.learnt
 
 -- a message as one of a group
 abbrev pub datagram : (group : ℕ) → Packet → Datagram

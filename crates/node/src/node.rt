@@ -1,6 +1,6 @@
 //! A node.
 
-ghost use Rattle.std.specs.Prelude.{◌≡◌, ◌≤◌, ◌⊎◌, ◌↔◌, ℕ, [], false, true, is_some, map, IfOk, IfErr, OnErr, OnOk, IsErrOf, None};
+ghost use Rattle.std.specs.Prelude.{◌≡◌, ◌≤◌, ◌⊎◌, ◌↔◌, ℕ, length, [], false, true, is_some, map, IfOk, IfErr, OnErr, OnOk, IsErrOf, None};
 ghost use Rattle.std.specs.Option.{option_copied};
 ghost use Rattle.acceptor.specs.Drafts.{IsRefused};
 ghost use Rattle.acceptor.specs.Steps.{IsAsWas, Stopped};
@@ -11,13 +11,12 @@ ghost use Rattle.member.specs.Steps.{Input as InputTerm, Hears, IsNew, IsNoQuest
 ghost use Rattle.messages.specs.Reading.{Fails, Gives, datagram_read};
 ghost use Rattle.messages.specs.Spelling.{AreInRange, Datagram, Fits, IsDatagram, spelling};
 ghost use Rattle.messages.specs.declared.fault.WireFault.{WireFault as WireFaultTerm};
-ghost use Rattle.node.specs.Nodes.{AreAll, HasFailed, HasStayed, IsDrafted, IsForClients, IsFrom, IsOfTick, IsPlanned, IsSpent, IsStrange, IsUnchanged, Reads, ReadsBack, RunsAs, Steps, of_records, posted, records_fault, spelt};
+ghost use Rattle.node.specs.Nodes.{AreAll, HasFailed, HasStarted, HasStayed, IsDrafted, IsForClients, IsFrom, IsOfTick, IsPlanned, IsSpent, IsStrange, IsUnchanged, Reads, ReadsBack, RunsAs, Steps, of_records, posted, records_fault, spelt};
 ghost use Rattle.paxos.specs.Knowledge.{learnt as learnt_at, news, prefix};
 ghost use Rattle.paxos.specs.Lists.{Has};
 ghost use Rattle.paxos.specs.Records.{Record as RecordTerm, writes, written};
 ghost use Rattle.paxos.specs.Step.{Running, may_begin, values_of};
 ghost use Rattle.paxos.specs.WellFormed.{IsMessage, IsRecord, IsSender};
-ghost use Rattle.paxos.specs.World.{started};
 ghost use Rattle.proposer.specs.Following.{is_followed};
 ghost use Rattle.records.specs.Law.{Went};
 
@@ -71,8 +70,9 @@ fn open_fault(fault: RecordsFault) -> OpenFault
 }
 
 impl<R: Records + Drop, A: Application + Drop> Node<R, A> {
-    /// Opens records as the member that the setup names, with the application before any value: it has promised and accepted what they keep, has
-    /// heard nothing, and has applied nothing.
+    /// Opens records as the member that the setup names: it has promised and accepted what they keep, has learnt what they keep as learnt,
+    /// and has heard nothing else. It applies what is learnt, while memory is found, and says whether it stopped short of that: a later call
+    /// applies the rest.
     ///
     /// The records are those of this member among as many: where they are not, nothing is known of what it does.
     ///
@@ -82,27 +82,32 @@ impl<R: Records + Drop, A: Application + Drop> Node<R, A> {
         alloc: Global,
         setup: Setup,
         records: R,
-    ) -> Result<Node<R, A>, (OpenFault, Setup, R)>
-        ensures setup { IfOk result (λ x. x.setup ≡ setup) }
-        ensures started { IfOk result (λ x. IsRecord setup.members x.member.acceptor.kept → RunsAs A.has_applied started x) }
-        ensures running { IfOk result (λ x. x.member.acceptor.is_stopped ≡ false) }
-        ensures loaded { IfOk result (λ x. R.is_kept x.member.acceptor.records → (a b : RecordTerm) → R.stands records a b → (x.member.acceptor.kept ≡ a) ⊎ (x.member.acceptor.kept ≡ b)) }
-        ensures stands { IfOk result (λ x. R.is_kept x.member.acceptor.records → R.stands x.member.acceptor.records x.member.acceptor.kept x.member.acceptor.kept) }
-        ensures kept { IfOk result (λ x. R.is_kept x.member.acceptor.records → R.is_kept records) }
-        ensures counts { IfOk result (λ x. R.failed x.member.acceptor.records ≡ R.failed records) }
-        ensures fates { IfOk result (λ x. (k : ℕ) → R.fates x.member.acceptor.records k ≡ R.fates records k) }
+    ) -> Result<(Node<R, A>, bool), (OpenFault, Setup, R)>
+        ensures setup { IfOk result (λ o. o.0.setup ≡ setup) }
+        ensures started { IfOk result (λ o. IsRecord setup.members o.0.member.acceptor.kept → HasStarted A.has_applied o.0 o.1) }
+        ensures running { IfOk result (λ o. o.0.member.acceptor.is_stopped ≡ false) }
+        ensures loaded { IfOk result (λ o. R.is_kept o.0.member.acceptor.records → (a b : RecordTerm) → R.stands records a b → (o.0.member.acceptor.kept ≡ a) ⊎ (o.0.member.acceptor.kept ≡ b)) }
+        ensures stands { IfOk result (λ o. R.is_kept o.0.member.acceptor.records → R.stands o.0.member.acceptor.records o.0.member.acceptor.kept o.0.member.acceptor.kept) }
+        ensures kept { IfOk result (λ o. R.is_kept o.0.member.acceptor.records → R.is_kept records) }
+        ensures counts { IfOk result (λ o. R.failed o.0.member.acceptor.records ≡ R.failed records) }
+        ensures fates { IfOk result (λ o. (k : ℕ) → R.fates o.0.member.acceptor.records k ≡ R.fates records k) }
         ensures refused { IfErr result (λ e. (e.1 ≡ setup) × IsRefused R.stands R.is_kept R.failed R.fates records e.2 (records_fault e.0)) }
     {
-        let Ok(application) = A::new(alloc, setup.names()) else {
+        let Ok(mut application) = A::new(alloc, setup.names()) else {
             return Err((OpenFault::Memory, setup, records));
         };
         match Member::open(alloc, setup.members(), setup.member(), records) {
-            Ok(member) => Ok(Node {
-                setup,
-                member,
-                application,
-                answers: Answers::new(alloc),
-            }),
+            Ok(member) => {
+                let mut answers = Answers::new(alloc);
+                let is_short = apply_learnt(alloc, &member, &mut application, &mut answers);
+                let node = Node {
+                    setup,
+                    member,
+                    application,
+                    answers,
+                };
+                Ok((node, is_short))
+            }
             Err((fault, records)) => Err((open_fault(fault), setup, records)),
         }
     }
@@ -387,6 +392,13 @@ impl<R: Records + Drop, A: Application + Drop> Node<R, A> {
         ensures { (u : Running) → RunsAs A.has_applied u self.now → result ≡ u.applied }
     {
         self.application.applied()
+    }
+
+    /// How many values its record keeps as learnt: those at the positions from 1 on.
+    pub fn kept(&self) -> u32
+        ensures { result ≡ length self.now.member.acceptor.kept.learnt }
+    {
+        self.member.kept()
     }
 
     /// How many positions it has learnt from 1 on without a gap.

@@ -99,7 +99,7 @@ fn opened(alloc: Global, words: &mut Words<'_>) -> Result<Played, RowFault> {
     let setup = setup(alloc, words)?;
     let number = setup.member();
     match Node::open(alloc, setup, MemRecords::new(alloc)) {
-        Ok(node) => Ok(Played {
+        Ok((node, _)) => Ok(Played {
             node,
             number,
             waiting: Vec::new(alloc),
@@ -120,6 +120,8 @@ fn call(alloc: Global, played: &mut Played, words: &mut Words<'_>) -> Result<Str
         "begin" => ticked(alloc, played, Tick::Begin),
         "resend" => ticked(alloc, played, Tick::Resend),
         "catchup" => ticked(alloc, played, Tick::CatchUp),
+        "keep" => ticked(alloc, played, Tick::Keep),
+        "kept" => kept(alloc, played),
         "turn" => turned(alloc, played),
         "answer" => answered(alloc, played, words),
         "seen" => seen(alloc, played),
@@ -197,6 +199,12 @@ fn answered(alloc: Global, played: &Played, words: &mut Words<'_>) -> Result<Str
         Ok(reading) => reading_text(alloc, &reading),
         Err(fault) => fault_text(alloc, fault),
     }
+}
+
+/// How many learnt values its record keeps.
+fn kept(alloc: Global, played: &Played) -> Result<String, RowFault> {
+    let kept = played.node.kept();
+    Ok(format!(in alloc; "kept {kept}")?)
 }
 
 /// How much a node has applied and learnt.

@@ -1,9 +1,9 @@
 //! `node_rows FILE`: prints what comes of calls of a node, from received bytes to sent bytes.
 //!
 //! A row is `node GROUP MEMBER MEMBERS CALL ..`: a node with the document `db`, whose record is in memory. `receive HEX` hands it bytes (`-` is none),
-//! `begin`, `resend` and `catchup` tick it: they give what it sends, each message in hexadecimal digits after whom it goes to, or a
+//! `begin`, `resend`, `catchup` and `keep` tick it: they give what it sends, each message in hexadecimal digits after whom it goes to, or a
 //! fault's number; `taken HEX` says whether it takes bytes. `turn` hands it all that it has sent to itself, until that is nothing, and gives how many messages that were. `answer FLOOR
-//! TEXT` asks it, and `seen` says how much it has applied and learnt.
+//! TEXT` asks it, `kept` says how many learnt values its record keeps, and `seen` how much it has applied and learnt.
 #![tactic(auto)]
 
 mod calls;
