@@ -95,14 +95,15 @@ submit_of members parts = do
 abbrev pub deliver_of : List ℕ → Option Command
 deliver_of parts = if bytes_eq parts (codes "all") then Some DeliverAll else option_map (λ message. Happens (event.Deliver message)) (number_of parts)
 
--- `deliver K` or `begin M`, in whose write a member stops
+-- `deliver K`, `begin M` or `keep M`, in whose write a member stops
 unfoldable pub step_of : (members : ℕ) → (word parts : List ℕ) → Option Step
 step_of members word parts =
     if bytes_eq word (codes "deliver") then option_map (λ message. step.Deliver message) (number_of parts)
     else if bytes_eq word (codes "begin") then option_map (λ member. step.Begin member) (number_to members parts)
+    else if bytes_eq word (codes "keep") then option_map (λ member. step.Keep member) (number_to members parts)
     else None
 
--- `deliver K kept`, `deliver K lost`, `begin M kept` or `begin M lost`
+-- `deliver K`, `begin M` or `keep M`, and then `kept` or `lost`
 abbrev pub stop_in_of : (members : ℕ) → List ℕ → Option Command
 stop_in_of members parts = do
   stops ← step_of members (part parts) (part (after_part parts))
@@ -114,6 +115,7 @@ command_with members word parts =
     if bytes_eq word (codes "begin") then tick_of members tick.Begin parts
     else if bytes_eq word (codes "resend") then tick_of members tick.Resend parts
     else if bytes_eq word (codes "catchup") then tick_of members tick.CatchUp parts
+    else if bytes_eq word (codes "keep") then tick_of members tick.Keep parts
     else if bytes_eq word (codes "submit") then submit_of members parts
     else if bytes_eq word (codes "deliver") then deliver_of parts
     else if bytes_eq word (codes "stopin") then stop_in_of members parts

@@ -12,10 +12,11 @@ use Rattle.event_files.specs.declared.first.Failure.{Failure}
 abbrev pub IsMember : (members : ℕ) → ℕ → Type 0
 IsMember members member = (1 ≤ member) × (member ≤ members)
 
--- a step that begins a ballot is one of theirs
+-- a step that begins a ballot, or keeps a learnt value, is one of theirs
 abbrev pub IsStepOf : (members : ℕ) → Step → Type 0
 IsStepOf members (step.Deliver message) = Unit {0}
 IsStepOf members (step.Begin member) = IsMember members member
+IsStepOf members (step.Keep member) = IsMember members member
 
 -- what happens to a member happens to one of them
 abbrev pub IsEventOf : (members : ℕ) → Event → Type 0

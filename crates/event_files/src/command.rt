@@ -52,6 +52,7 @@ fn command_with(
         "begin" => Ok(read_tick(members, Tick::Begin, parts)),
         "resend" => Ok(read_tick(members, Tick::Resend, parts)),
         "catchup" => Ok(read_tick(members, Tick::CatchUp, parts)),
+        "keep" => Ok(read_tick(members, Tick::Keep, parts)),
         "submit" => read_submit(alloc, members, parts),
         "deliver" => Ok(read_deliver(parts)),
         "stopin" => Ok(read_stop_in(members, parts)),
@@ -113,7 +114,7 @@ fn read_stop_in(members: Members, parts: &str) -> Option<Command>
     Some(Command::Happens(Event::StopIn(step, kept)))
 }
 
-// Reads the step `deliver K` or `begin M`.
+// Reads the step `deliver K`, `begin M` or `keep M`.
 #[tactic(auto, unfolding(crate::specs::Forms::step_of))]
 fn read_step(members: Members, word: &str, parts: &str) -> Option<Step>
     ensures value { result ≡ step_of members word.now parts.now }
@@ -122,6 +123,7 @@ fn read_step(members: Members, word: &str, parts: &str) -> Option<Step>
     match word {
         "deliver" => Some(Step::Deliver(read_number(parts)?)),
         "begin" => Some(Step::Begin(read_member(members, parts)?)),
+        "keep" => Some(Step::Keep(read_member(members, parts)?)),
         _ => None,
     }
 }

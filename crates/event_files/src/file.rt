@@ -46,11 +46,11 @@ impl From<AllocError> for EventFileFault {
 /// the documents as [`document_names::Names`] takes them. The lines after it that begin with `fail` are `fail M W kept` or `fail M W lost`:
 /// write W, from 1, of member M fails, and leaves its record or the one before it. Each further line is one of
 ///
-/// - `begin M`, `resend M`, `catchup M`: a tick comes to member M;
+/// - `begin M`, `resend M`, `catchup M`, `keep M`: a tick comes to member M;
 /// - `submit M CLIENT NUMBER TEXT`: a client sends member M a request at the language level 1. CLIENT goes up to 2^32 - 1, and
 ///   TEXT, the rest of the line, is 1 to 4,096 bytes of UTF-8;
 /// - `deliver K`: message K is delivered, which there may be or not, or `deliver all`;
-/// - `stopin deliver K kept`, `stopin begin M kept`, or `lost`: a member stops inside the write of that step, which leaves its
+/// - `stopin deliver K kept`, `stopin begin M kept`, `stopin keep M kept`, or `lost`: a member stops inside the write of that step, which leaves its
 ///   record or the one before it;
 /// - `stop M`, `start M`: member M stops or starts.
 ///

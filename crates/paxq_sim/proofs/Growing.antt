@@ -4,7 +4,7 @@ use Rattle.ballots.specs.Messages.{Body, Submit, Ask, Packet, packet}
 use Rattle.paxos.specs.Application.{Application}
 use Rattle.paxos.specs.Lists.{at}
 use Rattle.paxos.specs.Records.{Record}
-use Rattle.paxos.specs.Step.{Running, Effect, quiet, on_message, on_begin, on_catch_up_tick, on_resend}
+use Rattle.paxos.specs.Step.{Running, Effect, quiet, on_message, on_begin, on_catch_up_tick, on_keep, on_resend, resumed}
 use Rattle.paxos.specs.World.{
   World,
   Member,
@@ -14,14 +14,17 @@ use Rattle.paxos.specs.World.{
   Begin,
   Resend,
   CatchUp,
+  Keep,
   Submits,
   Asks,
   StopInDeliver,
   StopInBegin,
+  StopInKeep,
   Stop,
   Start,
   after,
   acts,
+  applies,
   asks,
   begins_in,
   delivers,
@@ -30,7 +33,6 @@ use Rattle.paxos.specs.World.{
   restarts,
   runs,
   settles,
-  started,
   starts,
   stops_in,
   takes,
@@ -59,14 +61,14 @@ module _ (w : World) where
   asks_grow m body None = omega arith
   asks_grow m body (Some x) = omega (arith, length-append w.sent (packet 0 body m ∷ []))
 
-  restarts_grow : (fails : Option Bool) (m : ℕ) (r : Record) (o : Option Running) → length w.sent ≤ length (restarts w fails m r o).sent
-  restarts_grow fails m r (Some u) = omega arith
-  restarts_grow (Some kept) m r None = omega arith
-  restarts_grow None m r None = after_grows m r (quiet started)
+  restarts_grow : (fails : Option Bool) (k m : ℕ) (r : Record) (o : Option Running) → length w.sent ≤ length (restarts w fails k m r o).sent
+  restarts_grow fails k m r (Some u) = omega arith
+  restarts_grow (Some kept) k m r None = omega arith
+  restarts_grow None k m r None = after_grows m r (applies (length w.members) k (quiet (resumed m r)))
 
-  starts_grow : (fails : Option Bool) (m : ℕ) (o : Option Member) → length w.sent ≤ length (starts w fails m o).sent
-  starts_grow fails m None = omega arith
-  starts_grow fails m (Some x) = restarts_grow fails m x.kept x.running
+  starts_grow : (c : Choice) (m : ℕ) (o : Option Member) → length w.sent ≤ length (starts w c m o).sent
+  starts_grow c m None = omega arith
+  starts_grow c m (Some x) = restarts_grow c.fails c.applied m x.kept x.running
 
   -- what was sent stays
   pub happens_grows : (app : Application) (c : Choice) (e : Event) → length w.sent ≤ length (happens app w c e).sent
@@ -74,9 +76,11 @@ module _ (w : World) where
   happens_grows app c (Begin m) = acts_grow m (begins_in w c m)
   happens_grows app c (Resend m) = acts_grow m (λ r u. settles (length w.members) c (on_resend (length w.members) m u))
   happens_grows app c (CatchUp m) = acts_grow m (λ r u. settles (length w.members) c (on_catch_up_tick (length w.members) m u))
+  happens_grows app c (Keep m) = acts_grow m (λ r u. settles (length w.members) c (on_keep (length w.members) r u))
   happens_grows app c (Submits m q) = asks_grow m (Submit q) (at w.members m)
   happens_grows app c (Asks m q) = asks_grow m (Ask q) (at w.members m)
   happens_grows app c (StopInDeliver k kept) = delivers_grow app (stops_in (keeps_in c.fails kept)) (at w.sent k)
   happens_grows app c (StopInBegin m kept) = acts_grow m (λ r u. stops_in (keeps_in c.fails kept) (on_begin (length w.members) m r u))
+  happens_grows app c (StopInKeep m kept) = acts_grow m (λ r u. stops_in (keeps_in c.fails kept) (on_keep (length w.members) r u))
   happens_grows app c (Stop m) = acts_grow m (λ r u. stops_in false (quiet u))
-  happens_grows app c (Start m) = starts_grow c.fails m (at w.members m)
+  happens_grows app c (Start m) = starts_grow c m (at w.members m)

@@ -1,6 +1,5 @@
 -- An event file has one simulation.
 use Rattle.std.proofs.Common.{◌≡◌, ◌⊎◌, ℕ, zero, suc, ◌+◌, ◌<◌, ◌≤◌, arith, refl, sym, subst, ap, ◌∙◌, Bool, true, false, ⊎_elim, inl, inr, cond, Option, Some, None, List, [], ◌∷◌, ◌++◌, append-nil, map, length}
-use Rattle.std.specs.Prelude.{filter}
 use Rattle.std.proofs.lemmas.List.{map-append}
 use Rattle.std.proofs.lemmas.List.Elements.{filter-append}
 use Rattle.ballots.specs.Messages.{Packet, up_to}
@@ -12,7 +11,7 @@ use Rattle.paxos.specs.Application.{Application}
 use Rattle.paxos.specs.Lists.{at}
 use Rattle.paxos.specs.World.{Deliver, delivers, settles}
 use Rattle.paxos.proofs.WellFormed.{at_number}
-use Rattle.paxq_sim.specs.Play.{IsSimulated, Plays, Progress, State, Takes, after_all, choice_in, is_undelivered, next, opening, report, undelivered, with_deliveries, with_event}
+use Rattle.paxq_sim.specs.Play.{IsSimulated, Plays, Progress, State, Takes, after_all, choice_in, is_undelivered, next, opening, report, undelivered, with_deliveries}
 use Rattle.paxq_sim.proofs.Steps.{after_more}
 
 -- no number above those that were sent names a message

@@ -1,13 +1,13 @@
 -- An event with all applied then, whatever it left open of that.
 use Rattle.std.proofs.Common.{◌≡◌, ℕ, zero, suc, refl, sym, ap, ap₂, ◌∙◌, Bool, true, false, Option, Some, None, List, [], ◌∷◌, length, map, option_map, slice_set}
 use Rattle.std.specs.Prelude.{if◌then◌else◌}
-use Rattle.std.proofs.lemmas.Option.{none-some, same_Some}
+use Rattle.std.proofs.lemmas.Option.{none-some}
 use Rattle.ballots.specs.Messages.{Packet}
 use Rattle.paxos.specs.Application.{Application}
 use Rattle.paxos.specs.Knowledge.{news, prefix}
 use Rattle.paxos.specs.Lists.{at, put}
 use Rattle.paxos.specs.Records.{Record, written}
-use Rattle.paxos.specs.Step.{Running, Effect, quiet, on_message, may_begin, begins, on_resend, on_catch_up_tick}
+use Rattle.paxos.specs.Step.{Running, Effect, quiet, on_message, may_begin, begins, on_keep, on_resend, on_catch_up_tick, resumed}
 use Rattle.paxos.specs.World.{
   World,
   Member,
@@ -17,10 +17,12 @@ use Rattle.paxos.specs.World.{
   Begin,
   Resend,
   CatchUp,
+  Keep,
   Submits,
   Asks,
   StopInDeliver,
   StopInBegin,
+  StopInKeep,
   Stop,
   Start,
   after,
@@ -30,8 +32,10 @@ use Rattle.paxos.specs.World.{
   delivers,
   happens,
   may_fail,
+  restarts,
   runs,
   settles,
+  starts,
   takes,
 }
 use Rattle.paxq_sim.specs.Play.{all_applied, member_with_all, with_all}
@@ -106,14 +110,25 @@ module _ (app : Application) (w : World) (fails : Option Bool) (j k : ℕ) where
   beginning m r u true = same_step n w m r (may_fail fails (begins n m r u)) j k
   beginning m r u false = refl
 
+  restarting : (m : ℕ) (r : Record) (f : Option Bool) (o : Option Running) → all_applied n (restarts w f j m r o) ≡ all_applied n (restarts w f k m r o)
+  restarting m r f (Some u) = refl
+  restarting m r (Some kept) None = refl
+  restarting m r None None = same_step n w m r (quiet (resumed m r)) j k
+
+  starting : (m : ℕ) (o : Option Member) → all_applied n (starts w (with j) m o) ≡ all_applied n (starts w (with k) m o)
+  starting m None = refl
+  starting m (Some x) = restarting m x.kept fails x.running
+
   pub same_event : (e : Event) → all_applied n (happens app w (with j) e) ≡ all_applied n (happens app w (with k) e)
   same_event (Deliver i) = delivering (at w.sent i)
   same_event (Begin m) = same_acts n w m _ _ (λ r u. beginning m r u (may_begin n r u))
   same_event (Resend m) = same_acts n w m _ _ (λ r u. same_step n w m r (may_fail fails (on_resend n m u)) j k)
   same_event (CatchUp m) = same_acts n w m _ _ (λ r u. same_step n w m r (may_fail fails (on_catch_up_tick n m u)) j k)
+  same_event (Keep m) = same_acts n w m _ _ (λ r u. same_step n w m r (may_fail fails (on_keep n r u)) j k)
   same_event (Submits m q) = refl
   same_event (Asks m q) = refl
   same_event (StopInDeliver i kept) = refl
   same_event (StopInBegin m kept) = refl
+  same_event (StopInKeep m kept) = refl
   same_event (Stop m) = refl
-  same_event (Start m) = refl
+  same_event (Start m) = starting m (at w.members m)

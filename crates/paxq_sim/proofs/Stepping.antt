@@ -3,17 +3,16 @@ use Rattle.std.proofs.Common.{◌≡◌, ℕ, suc, ◌+◌, arith, refl, sym, su
 use Rattle.std.specs.Prelude.{◌==◌, if◌then◌else◌}
 use Rattle.std.proofs.lemmas.Bool.{cases_eq}
 use Rattle.std.proofs.lemmas.Option.{none-some}
-use Rattle.records.specs.Law.{Fate, passing}
 use Rattle.records.specs.Script.{Script, fates_of}
 use Rattle.event_files.specs.declared.first.Failure.{Failure}
 use Rattle.paxos.specs.Application.{Application}
 use Rattle.paxos.specs.Knowledge.{news, prefix}
 use Rattle.paxos.specs.Records.{Write, Nothing, writes}
-use Rattle.paxos.specs.World.{World as Whole, Choice, Event, happens}
+use Rattle.paxos.specs.World.{World as Whole, Event, happens}
 use Rattle.paxos.proofs.WellFormed.{happens_sound}
 use Rattle.paxos.specs.Sound.{Sound}
 use Rattle.paxos.specs.Smooth.{AllApplied}
-use Rattle.world.specs.Reached.{HappenedOver, actor, is_cut, store_at, write_in}
+use Rattle.world.specs.Reached.{HappenedOver, actor, store_at, write_in}
 use Rattle.world.specs.Seats.{fates_of as fates_in, later}
 use Rattle.world.specs.Shown.{World}
 use Rattle.world.proofs.Lifting.{eq_other, eq_self}

@@ -67,7 +67,7 @@ fn setup(alloc: Global) -> Result<Setup, RowFault> {
 /// A node that leads, and has taken so many requests.
 fn node_after(alloc: Global, before: u64) -> Result<RowNode, RowFault> {
     let setup = setup(alloc)?;
-    let Ok(mut node) = Node::open(alloc, setup, MemRecords::new(alloc)) else {
+    let Ok((mut node, _)) = Node::open(alloc, setup, MemRecords::new(alloc)) else {
         return Err(RowFault::Memory);
     };
     match prepared(alloc, &mut node, before) {

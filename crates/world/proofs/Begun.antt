@@ -1,16 +1,18 @@
 -- A world in which nothing has happened yet.
-use Rattle.std.proofs.Common.{◌≡◌, ◌⊎◌, ℕ, zero, suc, false, refl, sym, subst, ap, ◌∙◌, inl, inr, ⊎_elim, Some, None, IsSome, List, [], ◌∷◌, ◌++◌, length}
+use Rattle.std.proofs.Common.{◌≡◌, ◌⊎◌, ◌<◌, ℕ, zero, suc, arith, nat_le, ◌&&◌, cond, Bool, true, false, refl, sym, subst, ap, ◌∙◌, inl, inr, ⊎_elim, Some, None, IsSome, List, [], ◌∷◌, ◌++◌, length}
 use Rattle.std.proofs.lemmas.List.{length-replicate}
 use Rattle.std.proofs.lemmas.Option.{none-some, same_Some}
 use Rattle.records.specs.Law.{Fate}
 use Rattle.ballots.specs.Terms.{Setup}
 use Rattle.ballots.specs.declared.value.Value.{Value}
-use Rattle.node.specs.Nodes.{Node, RunsAs}
+use Rattle.node.specs.Nodes.{HasStarted, Node, RunsAs}
 use Rattle.paxos.specs.Application.{Application}
 use Rattle.paxos.specs.Lists.{at, Has}
 use Rattle.paxos.specs.Records.{Record}
 use Rattle.paxos.specs.WellFormed.{IsRecord}
-use Rattle.paxos.specs.World.{World as Whole, Run, fresh, start, started}
+use Rattle.paxos.specs.Knowledge.{news, prefix}
+use Rattle.paxos.specs.Step.{resumed}
+use Rattle.paxos.specs.World.{World as Whole, Run, applies_to, fresh, start, started}
 use Rattle.paxos.proofs.Lists.{at_replicate}
 use Rattle.paxos.specs.Smooth.{SmoothRun}
 use Rattle.straight_runs.proofs.Smooth.{smooth_none, smooth_run}
@@ -31,7 +33,24 @@ at_cases (z ∷ xs) x y (suc (suc i)) h = ⊎_elim (λ (o : at xs (suc i) ≡ So
 
 -- nothing is kept
 fresh_is_record : {n : ℕ} → IsRecord n fresh.kept
-fresh_is_record = record { promise = inl refl; votes = tt }
+fresh_is_record = record { promise = inl refl; votes = tt; learnt = omega arith }
+
+-- a node that has started from a record that keeps nothing has applied nothing
+started_fresh : {R A : Type 0} (has_applied : List (List ℕ) → List Value → A → Type 0) (x : Node R A) (is_short : Bool) → x.member.acceptor.kept ≡ fresh.kept → HasStarted has_applied x is_short → RunsAs has_applied started x
+started_fresh has_applied x is_short unwritten h =
+    let n = x.setup.members in
+    let m = x.setup.member in
+    subst (λ k. RunsAs has_applied (record { heard = []; leader = None; applied = k }) x) (same_both (nat_le 0 0 && nat_le 0 (prefix n (news (resumed m fresh.kept).heard))) 0)
+    (subst (λ k. RunsAs has_applied (applies_to n k (resumed m fresh.kept)) x) (nothing is_short h.whole h.short)
+    (subst (λ r. RunsAs has_applied (applies_to n h.applied (resumed m r)) x) unwritten h.runs_as))
+  where
+    same_both : (b : Bool) (k : ℕ) → cond b k k ≡ k
+    same_both true k = refl
+    same_both false k = refl
+
+    nothing : (b : Bool) → (b ≡ false → h.applied ≡ length x.member.acceptor.kept.learnt) → (b ≡ true → h.applied < length x.member.acceptor.kept.learnt) → h.applied ≡ 0
+    nothing false whole short = whole refl ∙ ap (λ (r : Record). length r.learnt) unwritten
+    nothing true whole short = absurd (omega (arith, subst (λ (r : Record). h.applied < length r.learnt) unwritten (short refl)))
 
 -- what the member of a number is told when it is set up
 abbrev setup : (g n : ℕ) → (names : List (List ℕ)) → (m : ℕ) → Setup
@@ -39,9 +58,9 @@ setup g n names m = record { group = g; member = m; members = n; names = names }
 
 module _ {R A : Type 0} (is_kept : R → Type 0) (has_applied : List (List ℕ) → List Value → A → Type 0) where
   -- a node that has started from records that nobody had written
-  pub placed : (t : Setup) (x : Node R A) → x.setup ≡ t → x.member.acceptor.is_stopped ≡ false → (is_kept x.member.acceptor.records → x.member.acceptor.kept ≡ fresh.kept)
-      → (IsRecord t.members x.member.acceptor.kept → RunsAs has_applied started x) → IsPlaced is_kept has_applied t (record { node = Some x; left = None })
-  placed t x place runs unwritten starts = record {
+  pub placed : (t : Setup) (x : Node R A) (is_short : Bool) → x.setup ≡ t → x.member.acceptor.is_stopped ≡ false → (is_kept x.member.acceptor.records → x.member.acceptor.kept ≡ fresh.kept)
+      → (IsRecord t.members x.member.acceptor.kept → HasStarted has_applied x is_short) → IsPlaced is_kept has_applied t (record { node = Some x; left = None })
+  placed t x is_short place runs unwritten starts = record {
     seat = record {
       running = λ y e. subst (λ z. (z.setup ≡ t) × (z.member.acceptor.is_stopped ≡ false)) (same_Some x y e) (place, runs);
       stopped = λ p e. absurd (none-some p e);
@@ -49,7 +68,7 @@ module _ {R A : Type 0} (is_kept : R → Type 0) (has_applied : List (List ℕ) 
     node = x;
     there = refl;
     unwritten = unwritten;
-    starts = λ k. starts (subst (IsRecord t.members) (sym (unwritten k)) fresh_is_record);
+    starts = λ k. started_fresh has_applied x is_short (unwritten k) (starts (subst (IsRecord t.members) (sym (unwritten k)) fresh_is_record));
   }
 
   module _ (g n : ℕ) (names : List (List ℕ)) where

@@ -8,7 +8,8 @@ use Rattle.ballots.specs.Values.{positions}
 use Rattle.ballots.specs.declared.ballot.Ballot.{Ballot}
 use Rattle.ballots.specs.declared.reply.Reply.{Reply as Kept}
 use Rattle.ballots.specs.declared.value.Pair.{Pair}
-use Rattle.member.specs.Steps.{Input, Hears, Begins, Resends, CatchesUp, effect_of}
+use Rattle.ballots.specs.declared.value.Value.{Value}
+use Rattle.member.specs.Steps.{Input, Hears, Begins, Resends, CatchesUp, KeepsLearnt, effect_of}
 use Rattle.node.specs.Nodes.{IsForClients}
 use Rattle.paxos.proofs.Lists.{has_cases, has_flat, has_map}
 use Rattle.paxos.specs.Application.{Application}
@@ -17,7 +18,7 @@ use Rattle.paxos.specs.Knowledge.{AcceptedBy, ChosenAre, joins, learnt_from, new
 use Rattle.paxos.specs.Proposing.{has_free_place, has_open, proposes}
 use Rattle.paxos.specs.Lists.{Has}
 use Rattle.paxos.specs.Records.{Record, accept_write, prepare_write, window, writes}
-use Rattle.paxos.specs.Step.{Leader, Running, accepts, asks_on, begins, chosen_packet, closes, cover_heard, goes_on, is_called_for, is_learnt_heard, leading, learns, may_begin, next_ballot, on_ask, on_body, on_new_request, on_promise, on_submit, quiet, report_heard, resent, says, turn_of, values_of, yielding}
+use Rattle.paxos.specs.Step.{Leader, Running, accepts, asks_on, begins, chosen_packet, closes, cover_heard, goes_on, is_called_for, is_learnt_heard, keeping, leading, learns, may_begin, next_ballot, on_ask, on_body, on_new_request, on_promise, on_submit, quiet, report_heard, resent, says, to_keep, turn_of, values_of, yielding}
 use Rattle.paxos.specs.World.{Choice, may_fail, settles, stops_in}
 
 -- what is for clients goes to clients
@@ -137,6 +138,11 @@ effect_goes app n m CatchesUp r u = by (nat_lt (prefix n (news u.heard)) positio
     by : (t : Bool) → AllGo (if t then map (packet m (CatchUp (suc (prefix n (news u.heard))))) (filter (λ k. not (k == m)) (up_to n)) else [])
     by true = each m (CatchUp (suc (prefix n (news u.heard)))) (filter (λ k. not (k == m)) (up_to n)) (λ z. z)
     by false = none
+effect_goes app n m KeepsLearnt r u = by (to_keep n r u)
+  where
+    by : (o : Option Value) → AllGo (keeping u o).sends
+    by None = none
+    by (Some value) = none
 
 -- Of a step nothing for clients goes to a member, whatever it leaves open.
 pub step_goes : (app : Application) (n m : ℕ) (i : Input) (r : Record) (u : Running) (c : Choice) (k : Packet) → Has (settles n c (effect_of app n m r u i)).sends k → GoesToClients k

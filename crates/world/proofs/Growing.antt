@@ -7,8 +7,8 @@ use Rattle.paxos.specs.Agreement.{IsChosen}
 use Rattle.paxos.specs.Application.{Application}
 use Rattle.paxos.specs.Lists.{Has, at}
 use Rattle.paxos.specs.Records.{Record, written}
-use Rattle.paxos.specs.Step.{Running, Effect, on_begin, on_catch_up_tick, on_message, on_resend, quiet}
-use Rattle.paxos.specs.World.{Member, Cast, Told, World, Event, Deliver, Begin, Resend, CatchUp, Submits, Asks, StopInDeliver, StopInBegin, Stop, Start, Choice, Happening, cast_by, told_to, casts, after, runs, takes, acts, begins_in, delivers, asks, keeps_in, restarts, settles, started, starts, stops_in, happens, run}
+use Rattle.paxos.specs.Step.{Running, Effect, on_begin, on_catch_up_tick, on_keep, on_message, on_resend, quiet, resumed}
+use Rattle.paxos.specs.World.{Member, Cast, Told, World, Event, Deliver, Begin, Resend, CatchUp, Keep, Submits, Asks, StopInDeliver, StopInBegin, StopInKeep, Stop, Start, Choice, Happening, cast_by, told_to, casts, after, applies, runs, takes, acts, begins_in, delivers, asks, keeps_in, restarts, settles, starts, stops_in, happens, run}
 use Rattle.paxos.proofs.Lists.{has_left, length_put}
 
 -- nothing is taken out of them
@@ -51,26 +51,28 @@ asks_grows : (w : World) (m : ℕ) (body : Body) (o : Option Member) → Grows w
 asks_grows w m body None = grows_same w
 asks_grows w m body (Some x) = record { size = refl; sent = λ k h. has_left w.sent (packet 0 body m ∷ []) k h; votes = λ c h. h; told = λ t h. h }
 
-restarts_grows : (w : World) (fails : Option Bool) (m : ℕ) (r : Record) (o : Option Running) → Grows w (restarts w fails m r o)
-restarts_grows w fails m r (Some u) = grows_same w
-restarts_grows w (Some kept) m r None = grows_same w
-restarts_grows w None m r None = after_grows w m r (quiet started)
+restarts_grows : (w : World) (fails : Option Bool) (k m : ℕ) (r : Record) (o : Option Running) → Grows w (restarts w fails k m r o)
+restarts_grows w fails k m r (Some u) = grows_same w
+restarts_grows w (Some kept) k m r None = grows_same w
+restarts_grows w None k m r None = after_grows w m r (applies (length w.members) k (quiet (resumed m r)))
 
-starts_grows : (w : World) (fails : Option Bool) (m : ℕ) (o : Option Member) → Grows w (starts w fails m o)
-starts_grows w fails m None = grows_same w
-starts_grows w fails m (Some x) = restarts_grows w fails m x.kept x.running
+starts_grows : (w : World) (c : Choice) (m : ℕ) (o : Option Member) → Grows w (starts w c m o)
+starts_grows w c m None = grows_same w
+starts_grows w c m (Some x) = restarts_grows w c.fails c.applied m x.kept x.running
 
 happens_grows : (app : Application) (w : World) (c : Choice) (e : Event) → Grows w (happens app w c e)
 happens_grows app w c (Deliver k) = delivers_grows app w (settles (length w.members) c) (at w.sent k)
 happens_grows app w c (Begin m) = acts_grows w m (begins_in w c m)
 happens_grows app w c (Resend m) = acts_grows w m (λ r u. settles (length w.members) c (on_resend (length w.members) m u))
 happens_grows app w c (CatchUp m) = acts_grows w m (λ r u. settles (length w.members) c (on_catch_up_tick (length w.members) m u))
+happens_grows app w c (Keep m) = acts_grows w m (λ r u. settles (length w.members) c (on_keep (length w.members) r u))
 happens_grows app w c (Submits m q) = asks_grows w m (Submit q) (at w.members m)
 happens_grows app w c (Asks m q) = asks_grows w m (Ask q) (at w.members m)
 happens_grows app w c (StopInDeliver k kept) = delivers_grows app w (stops_in (keeps_in c.fails kept)) (at w.sent k)
 happens_grows app w c (StopInBegin m kept) = acts_grows w m (λ r u. stops_in (keeps_in c.fails kept) (on_begin (length w.members) m r u))
+happens_grows app w c (StopInKeep m kept) = acts_grows w m (λ r u. stops_in (keeps_in c.fails kept) (on_keep (length w.members) r u))
 happens_grows app w c (Stop m) = acts_grows w m (λ r u. stops_in false (quiet u))
-happens_grows app w c (Start m) = starts_grows w c.fails m (at w.members m)
+happens_grows app w c (Start m) = starts_grows w c m (at w.members m)
 
 pub run_grows : (app : Application) (w : World) (hs : List Happening) → Grows w (run app w hs)
 run_grows app w [] = grows_same w

@@ -4,17 +4,19 @@ use Rattle.std.specs.Prelude.{if◌then◌else◌}
 use Rattle.std.proofs.lemmas.Option.{same_Some}
 use Rattle.ballots.specs.Messages.{Packet}
 use Rattle.ballots.specs.declared.value.Value.{Value}
-use Rattle.member.specs.Steps.{Input, Hears, Begins, Resends, CatchesUp, effect_of}
+use Rattle.member.specs.Steps.{Input, Hears, Begins, Resends, CatchesUp, KeepsLearnt, effect_of, ticked}
+use Rattle.member.specs.declared.input.Tick.{Tick}
+use Rattle.member.specs.declared.input.Tick.TheVariants as tick
 use Rattle.node.specs.Nodes.{Node, RunsAs, IsSpent}
 use Rattle.paxos.specs.Lists.{at}
 use Rattle.paxos.specs.Application.{Application}
 use Rattle.paxos.specs.Records.{Record, Write, Nothing, writes}
-use Rattle.paxos.specs.Step.{Running, Effect, quiet, may_begin, begins, on_begin, on_message}
-use Rattle.paxos.specs.World.{World as Whole, Member as Part, Event as Happens, Choice, Deliver, Begin, Resend, CatchUp, StopInDeliver, StopInBegin, Stop, Start, acts, after, delivers, restarts, settles, started, starts, stops_in, keeps_in}
+use Rattle.paxos.specs.Step.{Running, Effect, quiet, may_begin, begins, on_begin, on_keep, on_message, resumed}
+use Rattle.paxos.specs.World.{World as Whole, Member as Part, Event as Happens, Choice, Deliver, Begin, Resend, CatchUp, Keep, StopInDeliver, StopInBegin, StopInKeep, Stop, Start, acts, after, applies, delivers, restarts, settles, starts, stops_in, keeps_in}
 use Rattle.paxos.proofs.Worlds.{acts-there, put-same}
 use Rattle.world.specs.Seats.{Skips, MayStart, MayStay, MayStep, MayStop, MayStopIn}
 use Rattle.world.specs.Shown.{World}
-use Rattle.world.specs.Reached.{Happened, HappenedIf, Stays, Steps, actor, reader, write_at, write_in, write_upon}
+use Rattle.world.specs.Reached.{Happened, HappenedIf, MayWrite, Stays, Steps, actor, reader, stop_in, write_at, write_in, write_upon}
 use Rattle.world.specs.declared.seat.Seat.{Seat}
 
 -- a step in which nothing happens
@@ -37,10 +39,10 @@ module _ (Does Other : Write → Option Bool → Type 0) (into : (w : Write) (f 
   pub stop_so : (app : Application) (n m : ℕ) (i : Input) (kept : Bool) (y : Part) (e : Effect) → MayStopIn Does app n m i kept y e → MayStopIn Other app n m i kept y e
   stop_so app n m i kept y e t = (t.0, t.1, t.2, into (effect_of app n m y.kept t.0 i).write t.2 t.3, t.4)
 
-  pub start_so : (y : Part) (e : Effect) → MayStart Does y e → MayStart Other y e
-  start_so y e t = (
+  pub start_so : (n m : ℕ) (y : Part) (e : Effect) → MayStart Does n m y e → MayStart Other n m y e
+  start_so n m y e t = (
     t.0,
-    ⊎_elim (λ (q : Does Nothing None × (e ≡ quiet started)). inl (into Nothing None q.0, q.1)) (λ (q : Does Nothing (Some false) × MayStay y e). inr (into Nothing (Some false) q.0, q.1)) t.1,
+    ⊎_elim (λ (q : (k : ℕ) × Does Nothing None × (e ≡ applies n k (quiet (resumed m y.kept)))). inl (q.0, into Nothing None q.1, q.2)) (λ (q : Does Nothing (Some false) × MayStay y e). inr (into Nothing (Some false) q.0, q.1)) t.1,
   )
 
 -- a step that may be so
@@ -131,8 +133,18 @@ module _ {R A : Type 0} (has_applied : List (List ℕ) → List Value → A → 
             (t.may.4 ∙ rw (sym len) (rw (sym t.size) refl)) t.is,
       )
 
+  -- the tick Keep
+  pub keeps_step : (v z : Whole) → Steps has_applied old s m (MayStep (Does m) app n m KeepsLearnt) v z → HappenedIf Does app (Keep m) v z
+  keeps_step v z t =
+      let c = t.may.2 in (
+        c,
+        does_so m _ _ c.fails refl (wrote v t.part t.may.0 (on_keep (length v.members)) t.there t.may.1 ∙ ap (λ j. (on_keep j t.part.kept t.may.0).write) (t.size ∙ len)) t.may.3,
+        acted v z t.part t.may.0 t.effect (λ r w. settles (length v.members) c (effect_of app (length v.members) m r w KeepsLearnt)) t.there t.may.1
+            (t.may.4 ∙ rw (sym len) (rw (sym t.size) refl)) t.is,
+      )
+
   -- a stop in a Begin
-  pub stops_in_begin : (v z : Whole) → Steps has_applied old s m (MayStopIn (Does m) app n m Begins true) v z → HappenedIf Does app (StopInBegin m true) v z
+  stops_in_begin : (v z : Whole) → Steps has_applied old s m (MayStopIn (Does m) app n m Begins true) v z → HappenedIf Does app (StopInBegin m true) v z
   stops_in_begin v z t =
       let c : Choice = record { fails = t.may.2; applied = 0 } in (
         c,
@@ -140,6 +152,23 @@ module _ {R A : Type 0} (has_applied : List (List ℕ) → List Value → A → 
         acted v z t.part t.may.0 t.effect (λ r w. stops_in (keeps_in c.fails true) (effect_of app (length v.members) m r w Begins)) t.there t.may.1
             (t.may.4 ∙ rw (sym len) (rw (sym t.size) refl)) t.is,
       )
+
+  -- and in a Keep
+  stops_in_keep : (v z : Whole) → Steps has_applied old s m (MayStopIn (Does m) app n m KeepsLearnt true) v z → HappenedIf Does app (StopInKeep m true) v z
+  stops_in_keep v z t =
+      let c : Choice = record { fails = t.may.2; applied = 0 } in (
+        c,
+        does_so m _ _ c.fails refl (wrote v t.part t.may.0 (on_keep (length v.members)) t.there t.may.1 ∙ ap (λ j. (on_keep j t.part.kept t.may.0).write) (t.size ∙ len)) t.may.3,
+        acted v z t.part t.may.0 t.effect (λ r w. stops_in (keeps_in c.fails true) (effect_of app (length v.members) m r w KeepsLearnt)) t.there t.may.1
+            (t.may.4 ∙ rw (sym len) (rw (sym t.size) refl)) t.is,
+      )
+
+  -- so in each tick that may write
+  pub stops_in_tick : (t : Tick) → MayWrite t → (v z : Whole) → Steps has_applied old s m (MayStopIn (Does m) app n m (ticked t) true) v z → HappenedIf Does app (stop_in m t true) v z
+  stops_in_tick tick.Begin may v z step = stops_in_begin v z step
+  stops_in_tick tick.Keep may v z step = stops_in_keep v z step
+  stops_in_tick tick.Resend may v z step = absurd may
+  stops_in_tick tick.CatchUp may v z step = absurd may
 
   -- a ballot that can begin
   pub begins_step : (x : Node R A) → s.node ≡ Some x → x.setup.members ≡ n → ((u : Running) → RunsAs has_applied u x → IsSpent x u Begins → ⊥)
@@ -166,15 +195,20 @@ module _ {R A : Type 0} (has_applied : List (List ℕ) → List Value → A → 
       bool_cases false = inr refl
 
   -- a start, or a store that fails to give the record
-  pub starts_step : (v z : Whole) → Steps has_applied old s m (MayStart (Does m)) v z → HappenedIf Does app (Start m) v z
+  pub starts_step : (v z : Whole) → Steps has_applied old s m (MayStart (Does m) n m) v z → HappenedIf Does app (Start m) v z
   starts_step v z t = ⊎_elim
-      (λ (e : Does m Nothing None × (t.effect ≡ quiet started)).
-      (record { fails = None; applied = 0 }, e.0, t.is ∙ ap (after v m t.part.kept) e.1 ∙ sym (ap (restarts v None m t.part.kept) t.may.0) ∙ sym (ap (starts v None m) t.there)))
+      (λ (e : (k : ℕ) × Does m Nothing None × (t.effect ≡ applies n k (quiet (resumed m t.part.kept)))).
+      let c : Choice = record { fails = None; applied = e.0 } in (
+        c,
+        e.1,
+        t.is ∙ ap (after v m t.part.kept) (e.2 ∙ ap (λ j. applies j e.0 (quiet (resumed m t.part.kept))) (sym (t.size ∙ len)))
+            ∙ sym (ap (restarts v None e.0 m t.part.kept) t.may.0) ∙ sym (ap (starts v c m) t.there),
+      ))
       (λ (e : Does m Nothing (Some false) × MayStay t.part t.effect). (
         record { fails = Some false; applied = 0 },
         e.0,
         t.is ∙ ap (after v m t.part.kept) e.1 ∙ stay_same v m t.part t.there
-            ∙ sym (ap (restarts v (Some false) m t.part.kept) t.may.0) ∙ sym (ap (starts v (Some false) m) t.there),
+            ∙ sym (ap (restarts v (Some false) 0 m t.part.kept) t.may.0) ∙ sym (ap (starts v (record { fails = Some false; applied = 0 }) m) t.there),
       ))
       t.may.1
 
@@ -193,16 +227,23 @@ module _ {R A : Type 0} (has_applied : List (List ℕ) → List Value → A → 
           (acted v z t.part t.may.0 t.effect (λ r w. stops_in false (effect_of app (length v.members) m r w (Hears p))) t.there t.may.1 t.may.2 t.is),
     )
 
-    -- and in a Begin
-    pub stops_at_begin : (v z : Whole) → Steps has_applied old s m MayStop v z → HappenedIf Does app (StopInBegin m false) v z
-    stops_at_begin v z t = (
+    -- and in a tick
+    pub stops_at_tick : (t : Tick) → MayWrite t → (v z : Whole) → Steps has_applied old s m MayStop v z → HappenedIf Does app (stop_in m t false) v z
+    stops_at_tick tick.Begin may v z t = (
       record { fails = None; applied = 0 },
       none m Nothing refl,
       acted v z t.part t.may.0 t.effect (λ r w. stops_in false (effect_of app (length v.members) m r w Begins)) t.there t.may.1 t.may.2 t.is,
     )
+    stops_at_tick tick.Keep may v z t = (
+      record { fails = None; applied = 0 },
+      none m Nothing refl,
+      acted v z t.part t.may.0 t.effect (λ r w. stops_in false (effect_of app (length v.members) m r w KeepsLearnt)) t.there t.may.1 t.may.2 t.is,
+    )
+    stops_at_tick tick.Resend may v z t = absurd may
+    stops_at_tick tick.CatchUp may v z t = absurd may
 
     -- a stop in a Begin that writes nothing, since no ballot can begin
-    pub stops_unbegun : Skips has_applied s Begins → (x : Node R A) → s.node ≡ Some x → x.setup.members ≡ n → (v z : Whole) → Steps has_applied old s m MayStop v z → HappenedIf Does app (StopInBegin m true) v z
+    stops_unbegun : Skips has_applied s Begins → (x : Node R A) → s.node ≡ Some x → x.setup.members ≡ n → (v z : Whole) → Steps has_applied old s m MayStop v z → HappenedIf Does app (StopInBegin m true) v z
     stops_unbegun skips x there place v z t =
         let known = t.is_part.running x there in
         let same : known.0 ≡ t.may.0 = same_Some known.0 t.may.0 (sym known.1 ∙ t.may.1) in
@@ -216,3 +257,12 @@ module _ {R A : Type 0} (has_applied : List (List ℕ) → List Value → A → 
           acted v z t.part t.may.0 t.effect (λ r w. stops_in true (effect_of app (length v.members) m r w Begins)) t.there t.may.1
               (t.may.2 ∙ ap (λ b. stops_in true (if b then begins (length v.members) m t.part.kept t.may.0 else quiet t.may.0)) (sym may)) t.is,
         )
+
+    -- so in each tick that may write, of which nothing comes
+    pub stops_skipped : (t : Tick) → MayWrite t → Skips has_applied s (ticked t) → (x : Node R A) → s.node ≡ Some x → x.setup.members ≡ n → (v z : Whole) → Steps has_applied old s m MayStop v z → HappenedIf Does app (stop_in m t true) v z
+    stops_skipped tick.Begin may skips x there place v z t = stops_unbegun skips x there place v z t
+    stops_skipped tick.Keep may skips x there place v z t =
+        let known = t.is_part.running x there in
+        absurd (⊎_elim (λ (f : Unit {0} → ⊥). f tt) (λ (f : (u : Running) → RunsAs has_applied u x → ⊥). f known.0 known.2) (skips x there))
+    stops_skipped tick.Resend may skips x there place v z t = absurd may
+    stops_skipped tick.CatchUp may skips x there place v z t = absurd may

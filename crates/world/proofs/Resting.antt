@@ -11,20 +11,20 @@ use Rattle.node.specs.declared.draft.Draft.{Draft}
 use Rattle.paxos.specs.Lists.{at, Has}
 use Rattle.paxos.specs.Application.{Application}
 use Rattle.paxos.specs.Records.{Record, Write, Nothing, writes}
-use Rattle.paxos.specs.Step.{Running, Effect, quiet, may_begin, begins, on_begin, on_message, on_resend, on_catch_up_tick}
-use Rattle.paxos.specs.World.{World as Whole, Member as Part, Choice, Begin, CatchUp, Deliver, Resend, Start, Stop, StopInBegin, StopInDeliver, Submits, acts, asks, begins_in, delivers, happens, keeps_in, restarts, settles, starts, stops_in}
+use Rattle.paxos.specs.Step.{Running, Effect, quiet, may_begin, begins, on_begin, on_keep, on_message, on_resend, on_catch_up_tick}
+use Rattle.paxos.specs.World.{World as Whole, Member as Part, Choice, Begin, CatchUp, Deliver, Keep, Resend, Start, Stop, StopInBegin, StopInDeliver, StopInKeep, Submits, acts, asks, begins_in, delivers, happens, keeps_in, restarts, settles, starts, stops_in}
 use Rattle.paxos.proofs.Lists.{has_cases}
 use Rattle.paxos.specs.Sound.{Sound}
 use Rattle.paxos.proofs.Worlds.{acts-there, quiet-same}
 use Rattle.events.specs.Events.{event_of}
-use Rattle.world.specs.Reached.{Follows, HappenedIf, Steps, is_cut, reader, write_at, write_in, write_upon}
+use Rattle.world.specs.Reached.{Follows, HappenedIf, MayWrite, Steps, is_cut, reader, stop_in, write_at, write_in, write_upon}
 use Rattle.world.specs.Seats.{IsPlanned, MayStep, Skips}
 use Rattle.world.specs.Shown.{World, Shows}
 use Rattle.events.specs.declared.event.Event.TheVariants as event
 use Rattle.member.specs.declared.input.Tick.{Tick}
 use Rattle.member.specs.declared.input.Tick.TheVariants as tick
 use Rattle.world.specs.declared.seat.Seat.{Seat}
-use Rattle.world.proofs.Happening.{begins_step, catches_up, resends}
+use Rattle.world.proofs.Happening.{begins_step, catches_up, keeps_step, resends}
 use Rattle.world.proofs.Clients.{GoesToClients}
 use Rattle.world.proofs.Idling.{part_of, stopped_silent, stopped_still}
 use Rattle.world.proofs.Lifting.{idle, some_at}
@@ -38,6 +38,14 @@ pub tick_cut : (m : ℕ) (t : Tick) → is_cut (event_of (event.Tick m t)) ≡ f
 tick_cut m tick.Begin = refl
 tick_cut m tick.Resend = refl
 tick_cut m tick.CatchUp = refl
+tick_cut m tick.Keep = refl
+
+-- a stop in a tick that may write cuts its write
+pub stop_cut : (m : ℕ) (t : Tick) (kept : Bool) → MayWrite t → is_cut (stop_in m t kept) ≡ true
+stop_cut m tick.Begin kept may = refl
+stop_cut m tick.Keep kept may = refl
+stop_cut m tick.Resend kept may = absurd may
+stop_cut m tick.CatchUp kept may = absurd may
 
 -- a tick that is a step
 pub tick_step : {R A : Type 0} (has_applied : List (List ℕ) → List Value → A → Type 0) (Does : ℕ → Write → Option Bool → Type 0) (app : Application) (n : ℕ) (w : World R A) (m : ℕ) (s : Seat R A) (t : Tick) (d : Draft) → length w.seats ≡ n → ((x : Node R A) → s.node ≡ Some x → x.setup.members ≡ n) → IsPlanned has_applied app s (ticked t) d
@@ -45,6 +53,7 @@ pub tick_step : {R A : Type 0} (has_applied : List (List ℕ) → List Value →
 tick_step has_applied Does app n w m s tick.Begin d len seat planned v z step = begins_step has_applied Does app n w s m len planned.node planned.there (seat planned.node planned.there) planned.due v z step
 tick_step has_applied Does app n w m s tick.Resend d len seat planned v z step = resends has_applied Does app n w s m len v z step
 tick_step has_applied Does app n w m s tick.CatchUp d len seat planned v z step = catches_up has_applied Does app n w s m len v z step
+tick_step has_applied Does app n w m s tick.Keep d len seat planned v z step = keeps_step has_applied Does app n w s m len v z step
 
 module _ {R A : Type 0} (stands : R → Record → Record → Type 0) (is_kept : R → Type 0) (has_applied : List (List ℕ) → List Value → A → Type 0) (Does : ℕ → Write → Option Bool → Type 0) (silent : (j : ℕ) (w : Write) → writes w ≡ false → Does j w None)
     (app : Application) (n : ℕ) (few : n ≤ most_members) (w : World R A) (m : ℕ) (s : Seat R A) (there : at w.seats m ≡ Some s) where
@@ -89,13 +98,26 @@ module _ {R A : Type 0} (stands : R → Record → Record → Type 0) (is_kept :
       one before v sound shows None q = stopped_still has_applied n few w m before v sound shows s there q (λ r u. settles (length v.members) any (on_catch_up_tick (length v.members) m u))
       one before v sound shows (Some x) q = let y = part_of has_applied n few w m before v sound shows s there in let u = y.2.running x q in
           absurd (⊎_elim (λ (f : Unit {0} → ⊥). f tt) (λ (f : (u : Running) → RunsAs has_applied u x → ⊥). f u.0 u.2) (skips x q))
+  skipped_tick tick.Keep seat skips = idle (HappenedIf Does app (Keep m)) w (λ before v sound shows. (any, silent m _ (quietly before v sound shows s.node refl), sym (one before v sound shows s.node refl)))
+    where
+      never : (before : ℕ → Record) (v : Whole) → Sound n v → Shows has_applied w before v → (x : Node R A) → s.node ≡ Some x → ⊥
+      never before v sound shows x q = let y = part_of has_applied n few w m before v sound shows s there in let u = y.2.running x q in
+          ⊎_elim (λ (f : Unit {0} → ⊥). f tt) (λ (f : (u : Running) → RunsAs has_applied u x → ⊥). f u.0 u.2) (skips x q)
+
+      quietly : (before : ℕ → Record) (v : Whole) → Sound n v → Shows has_applied w before v → (o : Option (Node R A)) → s.node ≡ o → writes (write_at (on_keep (length v.members)) (at v.members m)) ≡ false
+      quietly before v sound shows None q = stopped_silent has_applied n few w m before v sound shows s there q (on_keep (length v.members))
+      quietly before v sound shows (Some x) q = absurd (never before v sound shows x q)
+
+      one : (before : ℕ → Record) (v : Whole) → Sound n v → Shows has_applied w before v → (o : Option (Node R A)) → s.node ≡ o → acts v m (λ r u. settles (length v.members) any (on_keep (length v.members) r u)) ≡ v
+      one before v sound shows None q = stopped_still has_applied n few w m before v sound shows s there q (λ r u. settles (length v.members) any (on_keep (length v.members) r u))
+      one before v sound shows (Some x) q = absurd (never before v sound shows x q)
 
   -- a stop of a member that is stopped
   pub stopped_stop : s.node ≡ None → Follows stands is_kept has_applied (Sound n) (HappenedIf Does app (Stop m)) w w
   stopped_stop none = idle (HappenedIf Does app (Stop m)) w (λ before v sound shows. (any, silent m Nothing refl, sym (stopped_still has_applied n few w m before v sound shows s there none (λ r u. stops_in false (quiet u)))))
 
   -- and in a Begin
-  pub stopped_begin : (kept : Bool) → s.node ≡ None → Follows stands is_kept has_applied (Sound n) (HappenedIf Does app (StopInBegin m kept)) w w
+  stopped_begin : (kept : Bool) → s.node ≡ None → Follows stands is_kept has_applied (Sound n) (HappenedIf Does app (StopInBegin m kept)) w w
   stopped_begin kept none = idle (HappenedIf Does app (StopInBegin m kept)) w (λ before v sound shows. (
     any,
     silently kept before v sound shows,
@@ -106,6 +128,26 @@ module _ {R A : Type 0} (stands : R → Record → Record → Type 0) (is_kept :
       silently : (kept : Bool) (before : ℕ → Record) (v : Whole) → Sound n v → Shows has_applied w before v → Does m (write_in app v (StopInBegin m kept)) None
       silently true before v sound shows = silent m _ (stopped_silent has_applied n few w m before v sound shows s there none (on_begin (length v.members) m))
       silently false before v sound shows = silent m Nothing refl
+
+  -- and in a Keep
+  stopped_keep : (kept : Bool) → s.node ≡ None → Follows stands is_kept has_applied (Sound n) (HappenedIf Does app (StopInKeep m kept)) w w
+  stopped_keep kept none = idle (HappenedIf Does app (StopInKeep m kept)) w (λ before v sound shows. (
+    any,
+    silently kept before v sound shows,
+    sym (stopped_still has_applied n few w m before v sound shows s there none
+        (λ r u. stops_in (keeps_in None kept) (on_keep (length v.members) r u))),
+  ))
+    where
+      silently : (kept : Bool) (before : ℕ → Record) (v : Whole) → Sound n v → Shows has_applied w before v → Does m (write_in app v (StopInKeep m kept)) None
+      silently true before v sound shows = silent m _ (stopped_silent has_applied n few w m before v sound shows s there none (on_keep (length v.members)))
+      silently false before v sound shows = silent m Nothing refl
+
+  -- so in each tick that may write
+  pub stopped_tick : (t : Tick) → MayWrite t → (kept : Bool) → s.node ≡ None → Follows stands is_kept has_applied (Sound n) (HappenedIf Does app (stop_in m t kept)) w w
+  stopped_tick tick.Begin may kept none = stopped_begin kept none
+  stopped_tick tick.Keep may kept none = stopped_keep kept none
+  stopped_tick tick.Resend may kept none = absurd may
+  stopped_tick tick.CatchUp may kept none = absurd may
 
   -- and in a delivery
   pub stopped_delivery : (k : ℕ) (p : Packet) (kept : Bool) → at w.sent k ≡ Some p → p.target ≡ m → s.node ≡ None → Follows stands is_kept has_applied (Sound n) (HappenedIf Does app (StopInDeliver k kept)) w w
@@ -130,7 +172,7 @@ module _ {R A : Type 0} (stands : R → Record → Record → Type 0) (is_kept :
   running_start x q = idle (HappenedIf Does app (Start m)) w (λ before v sound shows.
       let y = part_of has_applied n few w m before v sound shows s there in
       let u = y.2.running x q in
-      (any, silent m Nothing refl, sym (ap (starts v None m) y.1 ∙ ap (restarts v None m y.0.kept) u.1)))
+      (any, silent m Nothing refl, sym (ap (starts v any m) y.1 ∙ ap (restarts v None 0 m y.0.kept) u.1)))
 
   -- a request of a client
   pub submitted : (q : Request) (new : World R A) → new ≡ record { members = w.members; group = w.group; names = w.names; seats = w.seats; sent = w.sent ++ packet 0 (Submit q) m ∷ []; told = w.told }

@@ -14,10 +14,10 @@ use Rattle.node.specs.declared.draft.Draft.{Draft}
 use Rattle.node.specs.Nodes.{IsDrafted, Node, RunsAs, Steps as StepsOf, Took, posted, step_of}
 use Rattle.node.specs.declared.outbox.Outbox.{Outbox}
 use Rattle.paxos.specs.Application.{Application}
-use Rattle.paxos.specs.Records.{Record, Write, Nothing, NewPromise, NewVote, writes, written}
-use Rattle.paxos.specs.Step.{Running, Effect, quiet}
+use Rattle.paxos.specs.Records.{Record, Write, Nothing, NewPromise, NewVote, NewLearnt, writes, written}
+use Rattle.paxos.specs.Step.{Running, Effect, quiet, resumed}
 use Rattle.paxos.specs.WellFormed.{IsRecord}
-use Rattle.paxos.specs.World.{Member as Part, Choice, applies, settles, started, stops_in}
+use Rattle.paxos.specs.World.{Member as Part, Choice, applies, applies_to, settles, stops_in}
 use Rattle.world.specs.Seats.{Did, IsKeptAt, IsPart, IsSeat, MayStart, MayStay, MayStep, MayStop, MayStopIn, Moves, Stands, part_after, store_in}
 use Rattle.world.specs.declared.seat.Seat.{Seat}
 use Rattle.world.specs.Posts.{packet_in}
@@ -291,10 +291,11 @@ module _ {R A : Type 0} (stands : R → Record → Record → Type 0) (is_kept :
     }
 
     -- it starts
-    pub starts : (Does : Write → Option Bool → Type 0) (n : ℕ) → Does Nothing None → ((z : Part) → Given z → IsRecord n z.kept) → (IsRecord n x.member.acceptor.kept → RunsAs has_applied started x)
+    pub starts : (Does : Write → Option Bool → Type 0) (n m : ℕ) → Does Nothing None → ((z : Part) → Given z → IsRecord n z.kept)
+        → (IsRecord n x.member.acceptor.kept → (k : ℕ) × RunsAs has_applied (applies_to n k (resumed m x.member.acceptor.kept)) x)
         → (is_kept x.member.acceptor.records → (a b : Record) → stands r.1 a b → (x.member.acceptor.kept ≡ a) ⊎ (x.member.acceptor.kept ≡ b))
-        → Moves stands is_kept has_applied Given (MayStart Does) old new [] []
-    starts Does n does fits is_started loaded = record {
+        → Moves stands is_kept has_applied Given (MayStart Does n m) old new [] []
+    starts Does n m does fits is_started loaded = record {
       kept = kept_then;
       changes = λ k a b s.
           let t = s.stopped empty in
@@ -306,17 +307,19 @@ module _ {R A : Type 0} (stands : R → Record → Record → Type 0) (is_kept :
               x.member.acceptor.kept,
               own,
               λ z given p.
-                  let c_is : c ≡ x.member.acceptor.kept = ⊎_elim (λ (e : c ≡ x.member.acceptor.kept). e) (λ (e : c ≡ x.member.acceptor.kept). e) q in (
-                    quiet started,
-                    (p.stopped empty, inl (does, refl)),
+                  let c_is : c ≡ x.member.acceptor.kept = ⊎_elim (λ (e : c ≡ x.member.acceptor.kept). e) (λ (e : c ≡ x.member.acceptor.kept). e) q in
+                  let s = is_started (subst (IsRecord n) p.kept_is (fits z given)) in
+                  let u = applies_to n s.0 (resumed m z.kept) in (
+                    applies n s.0 (quiet (resumed m z.kept)),
+                    (p.stopped empty, inl (s.0, does, refl)),
                     refl,
                     refl,
                     record {
                       kept_is = p.kept_is ∙ sym c_is;
                       running = λ v h. let e = same_Some x v (sym here ∙ h) in (
-                        started,
+                        u,
                         refl,
-                        subst (RunsAs has_applied started) e (is_started (subst (IsRecord n) p.kept_is (fits z given))),
+                        subst (RunsAs has_applied u) e (subst (λ r. RunsAs has_applied (applies_to n s.0 (resumed m r)) x) (sym p.kept_is) s.1),
                         c_is ∙ ap (λ (w : Node R A). w.member.acceptor.kept) e,
                       );
                       stopped = λ h. absurd (none-some x (sym h ∙ here));
@@ -374,8 +377,8 @@ module _ {R A : Type 0} (stands : R → Record → Record → Type 0) (is_kept :
     idle_stays = idle MayStay (λ z h. refl)
 
     -- the store failed to give the record
-    pub idle_starts : (Does : Write → Option Bool → Type 0) → Does Nothing (Some false) → Moves stands is_kept has_applied Given (MayStart Does) old new [] []
-    idle_starts Does does = idle (MayStart Does) (λ z h. (h, inr (does, refl)))
+    pub idle_starts : (Does : Write → Option Bool → Type 0) (n m : ℕ) → Does Nothing (Some false) → Moves stands is_kept has_applied Given (MayStart Does n m) old new [] []
+    idle_starts Does n m does = idle (MayStart Does n m) (λ z h. (h, inr (does, refl)))
 
 -- Where nobody sits nothing is shown.
 pub nobody : {R A : Type 0} (stands : R → Record → Record → Type 0) (is_kept : R → Type 0) (has_applied : List (List ℕ) → List Value → A → Type 0) (Given : Part → Type 0) (May : Part → Effect → Type 0) (old new : Seat R A)
@@ -410,6 +413,7 @@ module _ {R : Type 0} (failed : R → ℕ) (fates : R → ℕ → Fate) where
     did_write stands last t Nothing g = record { counted = inl refl; known = λ f h. refl; rest = g }
     did_write stands last t (NewPromise b) g = record { counted = inl refl; known = λ f h. sym (g.0 f (h q refl)); rest = g.1 }
     did_write stands last t (NewVote p vote) g = record { counted = inl refl; known = λ f h. sym (g.0 f (h q refl)); rest = g.1 }
+    did_write stands last t (NewLearnt value) g = record { counted = inl refl; known = λ f h. sym (g.0 f (h q refl)); rest = g.1 }
 
     -- a start, and one where the store fails to give the record
     pub did_start : ((k : ℕ) → fates r k ≡ fates q k) → Did failed fates is_cut (Some q) (Some r) Nothing None
@@ -464,6 +468,7 @@ module _ {R : Type 0} (failed : R → ℕ) (fates : R → ℕ → Fate) where
     did_fail stands last T Nothing is grown law g = absurd (false≢true is)
     did_fail stands last T (NewPromise b) is grown law g = failing_write stands last (NewPromise b) is grown law g.0 g.1
     did_fail stands last T (NewVote p vote) is grown law g = failing_write stands last (NewVote p vote) is grown law g.0 g.1
+    did_fail stands last T (NewLearnt value) is grown law g = failing_write stands last (NewLearnt value) is grown law g.0 g.1
 
   -- seats have done so that hold these stores
   pub failure_in : (stands : Record → Record → Type 0) (is_cut : Bool) (a b : Option R) (q r : R) (last : Record) (w : Write) → a ≡ Some q → b ≡ Some r

@@ -4,8 +4,10 @@ use Rattle.std.specs.Option.{option_and_then}
 use Rattle.records.specs.Law.{Fate}
 use Rattle.ballots.specs.Messages.{Packet}
 use Rattle.ballots.specs.declared.value.Value.{Value}
+use Rattle.member.specs.declared.input.Tick.{Tick}
+use Rattle.member.specs.declared.input.Tick.TheVariants as tick
 use Rattle.paxos.specs.Lists.{at}
-use Rattle.paxos.specs.Step.{Running, Effect, on_begin, on_message}
+use Rattle.paxos.specs.Step.{Running, Effect, on_begin, on_keep, on_message}
 use Rattle.paxos.specs.Application.{Application}
 use Rattle.paxos.specs.Records.{Record, Write, Nothing}
 use Rattle.paxos.specs.Sound.{Sound}
@@ -75,10 +77,12 @@ actor w (protocol.Deliver k) = reader (at w.sent k)
 actor w (protocol.Begin m) = m
 actor w (protocol.Resend m) = m
 actor w (protocol.CatchUp m) = m
+actor w (protocol.Keep m) = m
 actor w (protocol.Submits m q) = m
 actor w (protocol.Asks m q) = m
 actor w (protocol.StopInDeliver k kept) = reader (at w.sent k)
 actor w (protocol.StopInBegin m kept) = m
+actor w (protocol.StopInKeep m kept) = m
 actor w (protocol.Stop m) = m
 actor w (protocol.Start m) = m
 
@@ -86,15 +90,30 @@ actor w (protocol.Start m) = m
 abbrev pub write_in : Application → Whole → Happens → Write
 write_in app w (protocol.Deliver k) = write_upon app w (at w.sent k)
 write_in app w (protocol.Begin m) = write_at (on_begin (length w.members) m) (at w.members m)
+write_in app w (protocol.Keep m) = write_at (on_keep (length w.members)) (at w.members m)
 write_in app w (protocol.StopInDeliver k true) = write_upon app w (at w.sent k)
 write_in app w (protocol.StopInBegin m true) = write_at (on_begin (length w.members) m) (at w.members m)
+write_in app w (protocol.StopInKeep m true) = write_at (on_keep (length w.members)) (at w.members m)
 write_in app w e = Nothing
 
 -- whether it stops in what it writes
 abbrev pub is_cut : Happens → Bool
 is_cut (protocol.StopInDeliver k kept) = true
 is_cut (protocol.StopInBegin m kept) = true
+is_cut (protocol.StopInKeep m kept) = true
 is_cut e = false
+
+-- a tick that may write
+abbrev pub MayWrite : Tick → Type 0
+MayWrite tick.Begin = Unit {0}
+MayWrite tick.Keep = Unit {0}
+MayWrite t = ⊥
+
+-- a stop in the write of a tick; in one that never writes it is a stop
+abbrev pub stop_in : (member : ℕ) → Tick → (kept : Bool) → Happens
+stop_in m tick.Begin kept = protocol.StopInBegin m kept
+stop_in m tick.Keep kept = protocol.StopInKeep m kept
+stop_in m t kept = protocol.Stop m
 
 -- the event happens, where the store of the member that it comes to does so with what is written
 abbrev pub HappenedIf : (Does : (member : ℕ) → Write → Option Bool → Type 0) → Application → Happens → Whole → Whole → Type 0

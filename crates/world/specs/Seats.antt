@@ -15,9 +15,9 @@ use Rattle.paxos.specs.Lists.{at}
 use Rattle.paxos.specs.Application.{Application}
 use Rattle.paxos.specs.Knowledge.{news, prefix}
 use Rattle.paxos.specs.Records.{Record, Write, Nothing, writes, written}
-use Rattle.paxos.specs.Step.{Running, Effect, quiet}
+use Rattle.paxos.specs.Step.{Running, Effect, quiet, resumed}
 use Rattle.paxos.specs.WellFormed.{IsMessage, IsRecord}
-use Rattle.paxos.specs.World.{Member as Part, Choice, keeps_in, settles, started, stops_in}
+use Rattle.paxos.specs.World.{Member as Part, Choice, applies, keeps_in, settles, stops_in}
 use Rattle.world.specs.Posts.{packet_in}
 use Rattle.world.specs.declared.seat.Seat.{Seat}
 
@@ -147,9 +147,9 @@ MayStopIn Does app n m i kept y e =
 abbrev pub MayStop : Part → Effect → Type 0
 MayStop y e = (u : Running) × (y.running ≡ Some u) × (e ≡ stops_in false (quiet u))
 
--- a start, or the store has failed to give the record
-abbrev pub MayStart : (Does : Write → Option Bool → Type 0) → Part → Effect → Type 0
-MayStart Does y e = (y.running ≡ None) × (Does Nothing None × (e ≡ quiet started) ⊎ Does Nothing (Some false) × MayStay y e)
+-- a start of one of n members, which applies so much of what its record keeps, or the store has failed to give the record
+abbrev pub MayStart : (Does : Write → Option Bool → Type 0) → (members self : ℕ) → Part → Effect → Type 0
+MayStart Does n m y e = (y.running ≡ None) × (((k : ℕ) × Does Nothing None × (e ≡ applies n k (quiet (resumed m y.kept)))) ⊎ Does Nothing (Some false) × MayStay y e)
 
 -- what is sent where a step was made: what the bytes say to their targets
 abbrev pub sent_by : (group members self : ℕ) → Option Outbox → List Packet

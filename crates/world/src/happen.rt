@@ -2,12 +2,12 @@
 
 ghost use Rattle.std.specs.Prelude.{◌≡◌, ◌<◌, ◌≤◌, true, None, Some, IfSome, OnErr, OnOk};
 ghost use Rattle.ballots.specs.Messages.{Packet};
-ghost use Rattle.paxos.specs.World.{Deliver, Start, Stop, StopInBegin, StopInDeliver, Submits};
+ghost use Rattle.paxos.specs.World.{Deliver, Start, Stop, StopInDeliver, Submits};
 ghost use Rattle.paxos.specs.Lists.{at};
 ghost use Rattle.world.specs.Posts.{sent_in};
 ghost use Rattle.world.specs.Held.{IsDeliveryOf, IsHeld, shown};
 ghost use Rattle.events.specs.Events.{event_of, is_for};
-ghost use Rattle.world.specs.Reached.{HasHappened, IsUnmoved};
+ghost use Rattle.world.specs.Reached.{HasHappened, IsUnmoved, MayWrite, stop_in};
 ghost use Rattle.events.specs.declared.event.Event.TheVariants as event;
 
 use crate::mail::Delivery;
@@ -122,42 +122,45 @@ impl<R: Records + Drop, A: Application + Drop> State<R, A> {
 }
 
 impl<R: PlannedRecords + Drop, A: Application + Drop> State<R, A> {
-    /// A member stops in the write of a Begin, which is kept.
+    /// A member stops in the write of a tick, which is kept.
     ///
     /// It fails where memory is refused, and then nothing that shows has changed.
-    fn stop_beginning(&mut self, alloc: Global, number: u8) -> Result<(), AllocError>
+    fn stop_ticking(&mut self, alloc: Global, number: u8, tick: Tick) -> Result<(), AllocError>
         requires held { IsHeld self.old }
         requires least { 1 ≤ number }
         requires most { number ≤ self.old.members }
+        requires writes { MayWrite tick }
         ensures held { IsHeld self.new }
-        ensures happened { OnOk result (HasHappened R.stands R.is_kept R.failed R.fates A.has_applied (A.meaning self.old.names) (StopInBegin number true) (shown self.old) (shown self.new)) }
+        ensures happened { OnOk result (HasHappened R.stands R.is_kept R.failed R.fates A.has_applied (A.meaning self.old.names) (stop_in number tick true) (shown self.old) (shown self.new)) }
         ensures refused { OnErr result (IsUnmoved R.stands R.is_kept A.has_applied (shown self.old) (shown self.new)) }
     {
-        let Some(draft) = self.tick(alloc, number, Tick::Begin)? else {
+        let Some(draft) = self.tick(alloc, number, tick)? else {
             self.stop(number);
             return Ok(());
         };
         self.stop_in(alloc, number, draft)
     }
 
-    /// A member stops in the write of a Begin, which is kept or lost.
+    /// A member stops in the write of a tick, which is kept or lost.
     ///
     /// It fails where memory is refused, and then nothing that shows has changed.
-    pub(super) fn stop_in_begin(
+    pub(super) fn stop_in_tick(
         &mut self,
         alloc: Global,
         number: u8,
+        tick: Tick,
         kept: bool,
     ) -> Result<(), AllocError>
         requires held { IsHeld self.old }
         requires least { 1 ≤ number }
         requires most { number ≤ self.old.members }
+        requires writes { MayWrite tick }
         ensures held { IsHeld self.new }
-        ensures happened { OnOk result (HasHappened R.stands R.is_kept R.failed R.fates A.has_applied (A.meaning self.old.names) (StopInBegin number kept) (shown self.old) (shown self.new)) }
+        ensures happened { OnOk result (HasHappened R.stands R.is_kept R.failed R.fates A.has_applied (A.meaning self.old.names) (stop_in number tick kept) (shown self.old) (shown self.new)) }
         ensures refused { OnErr result (IsUnmoved R.stands R.is_kept A.has_applied (shown self.old) (shown self.new)) }
     {
         if kept {
-            return self.stop_beginning(alloc, number);
+            return self.stop_ticking(alloc, number, tick);
         }
         self.stop(number);
         Ok(())
@@ -226,7 +229,12 @@ impl<R: PlannedRecords + Drop, A: Application + Drop> State<R, A> {
             Event::StopIn(Step::Deliver(number), kept) => {
                 self.stop_in_delivery(alloc, *number, *kept)
             }
-            Event::StopIn(Step::Begin(member), kept) => self.stop_in_begin(alloc, *member, *kept),
+            Event::StopIn(Step::Begin(member), kept) => {
+                self.stop_in_tick(alloc, *member, Tick::Begin, *kept)
+            }
+            Event::StopIn(Step::Keep(member), kept) => {
+                self.stop_in_tick(alloc, *member, Tick::Keep, *kept)
+            }
             Event::Stop(member) => {
                 self.stop_at(*member);
                 Ok(())

@@ -60,7 +60,7 @@ fn place<R: Records + Drop, A: Application + Drop>(
         return Err(RecordsFault::Memory);
     };
     match Node::open(alloc, setup, records) {
-        Ok(node) => Ok(Seat {
+        Ok((node, _is_short)) => Ok(Seat {
             node: Some(node),
             left: None,
         }),

@@ -117,12 +117,13 @@ impl<R: Records + Drop, A: Application + Drop> Seat<R, A> {
         self.empty();
     }
 
-    /// Starts a member from its records, where it is stopped and its store does not fail.
+    /// Starts a member from its records, where it is stopped and its store does not fail. It applies what they keep as learnt, as far as memory
+    /// is found.
     ///
     /// It fails where memory is refused, and then the member is stopped as before.
     pub(super) fn start(&mut self, alloc: Global) -> Result<(), AllocError>
         ensures moved { OnOk result ((t : SetupTerm) → IsSeat t self.old → self.old.node ≡ None
-            → Moves R.stands R.is_kept A.has_applied (IsFit t.members) (MayStart (Did R.failed R.fates false (store_in self.old) (store_in self.new))) self.old self.new [] []) }
+            → Moves R.stands R.is_kept A.has_applied (IsFit t.members) (MayStart (Did R.failed R.fates false (store_in self.old) (store_in self.new)) t.members t.member) self.old self.new [] []) }
         ensures refused { OnErr result (Moves R.stands R.is_kept A.has_applied IsAny MayStay self.old self.new [] []) }
         ensures runs { IsSome self.old.node → self.new ≡ self.old }
         ensures seat { (t : SetupTerm) → IsSeat t self.old → IsSeat t self.new }
@@ -134,7 +135,7 @@ impl<R: Records + Drop, A: Application + Drop> Seat<R, A> {
             return Ok(());
         };
         match Node::open(alloc, setup, records) {
-            Ok(node) => {
+            Ok((node, _is_short)) => {
                 self.node = Some(node);
                 Ok(())
             }

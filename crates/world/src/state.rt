@@ -149,7 +149,7 @@ impl<R: Records + Drop, A: Application + Drop> State<R, A> {
         requires most { number ≤ self.old.members }
         ensures held { IsHeld self.new }
         ensures started { OnOk result ((s : SeatTerm R A) → at self.old.seats.items number ≡ Some s → s.node ≡ None
-            → Follows R.stands R.is_kept A.has_applied (Sound self.old.members) (Steps A.has_applied (shown self.old) s number (MayStart (Did R.failed R.fates false (store_at self.old.seats.items number) (store_at self.new.seats.items number)))) (shown self.old) (shown self.new)) }
+            → Follows R.stands R.is_kept A.has_applied (Sound self.old.members) (Steps A.has_applied (shown self.old) s number (MayStart (Did R.failed R.fates false (store_at self.old.seats.items number) (store_at self.new.seats.items number)) self.old.members number)) (shown self.old) (shown self.new)) }
         ensures others { (j : ℕ) → (j ≡ number → ⊥) → store_at self.new.seats.items j ≡ store_at self.old.seats.items j }
         ensures runs { (s : SeatTerm R A) → at self.old.seats.items number ≡ Some s → IsSome s.node → shown self.new ≡ shown self.old }
         ensures same { (s : SeatTerm R A) → at self.old.seats.items number ≡ Some s → IsSome s.node → (m : ℕ) → store_at self.new.seats.items m ≡ store_at self.old.seats.items m }

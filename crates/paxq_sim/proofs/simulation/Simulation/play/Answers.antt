@@ -1,4 +1,4 @@
-use Rattle.std.proofs.Common.{◌∙◌, arith, length, refl, sym, subst, take, take_all}
+use Rattle.std.proofs.Common.{◌∙◌, length, refl, sym, subst, take, take_all}
 use Rattle.std.proofs.lemmas.Option.{slice_get_read}
 use Rattle.world.proofs.Straightly.{take_step}
 use Rattle.paxq_sim.specs.Going.{HasCome}

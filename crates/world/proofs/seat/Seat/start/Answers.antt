@@ -1,6 +1,8 @@
 use Rattle.std.proofs.Common.{◌≡◌, false, Err, Some, refl, sym, subst, ap, ◌∙◌}
 use Rattle.ballots.specs.Terms.{Setup}
-use Rattle.node.specs.Nodes.{records_fault}
+use Rattle.node.specs.Nodes.{RunsAs, records_fault}
+use Rattle.paxos.specs.Step.{resumed}
+use Rattle.paxos.specs.World.{applies_to}
 use Rattle.records.specs.Law.{Counts}
 use Rattle.paxos.specs.WellFormed.{IsRecord}
 use Rattle.world.specs.Seats.{Did, IsAny, IsFit, store_in}
@@ -16,10 +18,13 @@ returns-in-Ok-clause-moved g c = λ t seat none.
     let y = c.in-Ok.node in
     let is : c.in-Some.setup ≡ t = seat.stopped p left in
     starts {R = g.row.R.Denot} {A = g.row.A.Denot} g.R.Records.stands g.R.Records.is_kept g.A.Application.has_applied (IsFit t.members) c.args.self.now (record { node = Some y; left = c.take.new.self })
-    y p none left refl c.in-Ok.ensures.kept (Did g.R.Records.failed g.R.Records.fates false (store_in c.args.self.now) (store_in (record { node = Some y; left = c.take.new.self }))) t.members
+    y p none left refl c.in-Ok.ensures.kept (Did g.R.Records.failed g.R.Records.fates false (store_in c.args.self.now) (store_in (record { node = Some y; left = c.take.new.self }))) t.members t.member
     (did_in {R = g.row.R.Denot} g.R.Records.failed g.R.Records.fates false _ _ c.in-Some.records y.member.acceptor.records _ _ (store_stopped c.args.self.now p none left) refl
     (did_start {R = g.row.R.Denot} g.R.Records.failed g.R.Records.fates false c.in-Some.records y.member.acceptor.records c.in-Ok.ensures.fates))
-    (λ z k. k) (λ k. c.in-Ok.ensures.started (subst (λ (v : Setup). IsRecord v.members y.member.acceptor.kept) (sym is) k)) c.in-Ok.ensures.loaded
+    (λ z k. k)
+    (λ k. let h = c.in-Ok.ensures.started (subst (λ (v : Setup). IsRecord v.members y.member.acceptor.kept) (sym is) k) in
+    (h.applied, subst (λ (v : Setup). RunsAs {R = g.row.R.Denot} {A = g.row.A.Denot} g.A.Application.has_applied (applies_to v.members h.applied (resumed v.member y.member.acceptor.kept)) y) (c.in-Ok.ensures.setup ∙ is) h.runs_as))
+    c.in-Ok.ensures.loaded
 
 pub returns-in-Memory-clause-refused : goal.returns-in-Memory-clause-refused
 returns-in-Memory-clause-refused g c =
@@ -37,7 +42,7 @@ returns-in-Store-clause-moved g c = λ t seat none.
     let new : Seat g.row.R.Denot g.row.A.Denot = record { node = c.args.self.now.node; left = Some back } in
     idle_starts {R = g.row.R.Denot} {A = g.row.A.Denot} g.R.Records.stands g.R.Records.is_kept g.A.Application.has_applied (IsFit t.members) c.args.self.now new
     p back none left none refl
-    c.in-Err.ensures.refused.1.kept c.in-Err.ensures.refused.1.crash (Did g.R.Records.failed g.R.Records.fates false (store_in c.args.self.now) (store_in new))
+    c.in-Err.ensures.refused.1.kept c.in-Err.ensures.refused.1.crash (Did g.R.Records.failed g.R.Records.fates false (store_in c.args.self.now) (store_in new)) t.members t.member
     (did_in {R = g.row.R.Denot} g.R.Records.failed g.R.Records.fates false _ _ c.in-Some.records c.in-Err.records _ _
     (store_stopped c.args.self.now p none left) (store_stopped new back none refl)
     (did_not_start {R = g.row.R.Denot} g.R.Records.failed g.R.Records.fates false c.in-Some.records c.in-Err.records

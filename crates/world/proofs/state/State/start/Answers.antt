@@ -32,13 +32,13 @@ returns-clause-started g c =
     let there = read_there self.seats.items number seat c.requires.least (subst (λ n. number ≤ n) (sym held.size) c.requires.most) c.index_mut.ensures.value in
     ok_so c.start.result _ _ (λ moved s at_s none.
     let same = same_Some seat s (sym there ∙ at_s) in
-    subst (λ (x : Seat g.row.R.Denot g.row.A.Denot). Follows {R = g.row.R.Denot} {A = g.row.A.Denot} g.R.Records.stands g.R.Records.is_kept g.A.Application.has_applied (Sound self.members) (Steps g.A.Application.has_applied (shown self) x number (MayStart (Did g.R.Records.failed g.R.Records.fates false (store_at self.seats.items number) (store_at (with_item self.seats (number - 1) c.start.new.self).items number)))) (shown self) (shown (record { members = self.members; group = self.group; names = self.names; seats = with_item self.seats (number - 1) c.start.new.self; mail = self.mail; told = self.told }))) same
+    subst (λ (x : Seat g.row.R.Denot g.row.A.Denot). Follows {R = g.row.R.Denot} {A = g.row.A.Denot} g.R.Records.stands g.R.Records.is_kept g.A.Application.has_applied (Sound self.members) (Steps g.A.Application.has_applied (shown self) x number (MayStart (Did g.R.Records.failed g.R.Records.fates false (store_at self.seats.items number) (store_at (with_item self.seats (number - 1) c.start.new.self).items number)) self.members number)) (shown self) (shown (record { members = self.members; group = self.group; names = self.names; seats = with_item self.seats (number - 1) c.start.new.self; mail = self.mail; told = self.told }))) same
     (silent_after {R = g.row.R.Denot} {A = g.row.A.Denot} g.R.Records.stands g.R.Records.is_kept g.A.Application.has_applied self (record { members = self.members; group = self.group; names = self.names; seats = with_item self.seats (number - 1) c.start.new.self; mail = self.mail; told = self.told }) number seat c.start.new.self
     held c.requires.least there refl refl refl refl (IsFit self.members) _
     (fit_after {R = g.row.R.Denot} {A = g.row.A.Denot} g.R.Records.stands g.R.Records.is_kept g.A.Application.has_applied self (record { members = self.members; group = self.group; names = self.names; seats = with_item self.seats (number - 1) c.start.new.self; mail = self.mail; told = self.told }) number seat c.start.new.self
     held c.requires.least there refl refl refl refl) refl refl
     (moves_so {R = g.row.R.Denot} {A = g.row.A.Denot} _ _ (start_so _ _ (did_after {R = g.row.R.Denot} {A = g.row.A.Denot} g.R.Records.stands g.R.Records.is_kept g.A.Application.has_applied self (record { members = self.members; group = self.group; names = self.names; seats = with_item self.seats (number - 1) c.start.new.self; mail = self.mail; told = self.told }) number seat c.start.new.self
-    held c.requires.least there refl refl refl refl g.R.Records.failed g.R.Records.fates false))
+    held c.requires.least there refl refl refl refl g.R.Records.failed g.R.Records.fates false) self.members number)
     (moved (setup_of (shown self) number) (held.seats number seat there) (ap (λ (x : Seat g.row.R.Denot g.row.A.Denot). x.node) same ∙ none))))) c.start.ensures.moved
 
 pub returns-clause-runs : goal.returns-clause-runs

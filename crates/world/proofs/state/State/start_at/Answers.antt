@@ -17,6 +17,6 @@ returns-clause-happened g c =
     let app = g.A.Application.meaning self.names in
     start_happens {R = g.row.R.Denot} {A = g.row.A.Denot} g.R.Records.stands g.R.Records.is_kept g.A.Application.has_applied (HaveDone g.R.Records.failed g.R.Records.fates false self.seats.items c.start.new.self.seats.items) app self c.start.new.self number s.0 s.1 c.requires.held
     (λ none. so _ _ (shown self) (shown c.start.new.self)
-    (λ v z sound step. steps_so {R = g.row.R.Denot} {A = g.row.A.Denot} g.A.Application.has_applied _ _ (start_so _ _ (have_done {R = g.row.R.Denot} {A = g.row.A.Denot} g.R.Records.failed g.R.Records.fates false self.seats.items self.seats.items c.start.new.self.seats.items number (λ j. refl) c.start.ensures.others)) (shown self) s.0 number v z step)
+    (λ v z sound step. steps_so {R = g.row.R.Denot} {A = g.row.A.Denot} g.A.Application.has_applied _ _ (start_so _ _ (have_done {R = g.row.R.Denot} {A = g.row.A.Denot} g.R.Records.failed g.R.Records.fates false self.seats.items self.seats.items c.start.new.self.seats.items number (λ j. refl) c.start.ensures.others) self.members number) (shown self) s.0 number v z step)
     (started s.0 s.1 none))
     (λ some. (c.start.ensures.runs s.0 s.1 some, nothing_done {R = g.row.R.Denot} {A = g.row.A.Denot} g.R.Records.failed g.R.Records.fates false self.seats.items c.start.new.self.seats.items (c.start.ensures.same s.0 s.1 some)))) c.start.ensures.started
