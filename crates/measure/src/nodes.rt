@@ -1,13 +1,13 @@
 //! Trees that are printed and compared.
 
-ghost use Rattle.std.specs.Prelude.{IsSome};
-ghost use Rattle.data_model.specs.Trees.{find};
+ghost use Rattle.std.specs.Prelude.{◌≢◌, ◌≤◌, length, IsSome};
+ghost use Rattle.data_model.specs.Trees.{children_of, find};
 ghost use Rattle.shelves.specs.Shelf.{shelf_trees};
 
 use document_names::Names;
 use shelves::Shelf;
 use std::alloc::Global;
-use trees::{Content, Forest, Kind, NodeId};
+use trees::{Forest, Kind, NodeId};
 use values::{Atom, Comparison, Item, LimitedText, Text, atomize, compare_general, push_item};
 
 /// The bytes that a printed document has at most.
@@ -65,6 +65,14 @@ fn put_siblings(alloc: Global, forest: &mut Forest, count: u32) -> Option<()> {
     Some(())
 }
 
+/// The index, or how many children the node has, where those are fewer.
+fn index_among(forest: &Forest, parent: NodeId, index: usize) -> usize
+    requires { IsSome (find parent forest.now.trees) }
+    ensures { result ≤ length (children_of parent forest.now.trees) }
+{
+    index.min(forest.children(parent).len())
+}
+
 /// Makes an element or a text, a child of another node before which `index` children stand, or all where there are fewer.
 fn put(
     alloc: Global,
@@ -73,26 +81,24 @@ fn put(
     index: usize,
     kind: Kind,
 ) -> Option<NodeId>
-    requires { IsSome (find parent forest.old.trees) }
+    requires there { IsSome (find parent forest.old.trees) }
+    requires other { kind ≢ Kind.Document }
 {
-    let identity = forest.next();
-    if identity.number() >= 1 << 62 {
-        return None;
-    }
-    let index = index.min(forest.children(parent).len());
+    let index = index_among(forest, parent, index);
     let (name, text) = if kind == Kind::Text {
         ("", TEXT)
     } else {
         ("item", "")
     };
-    let node = Content {
-        identity,
-        kind,
-        name: String::from_str(alloc, name).ok()?,
-        text: String::from_str(alloc, text).ok()?,
+    let name = String::from_str(alloc, name).ok()?;
+    let text = String::from_str(alloc, text).ok()?;
+    forest.facts();
+    let node = match forest.make(alloc, kind, name, text) {
+        Ok(node) => node,
+        Err(_) => return None,
     };
-    forest.make_child(alloc, parent, index, node).ok()?;
-    Some(identity)
+    forest.put_children(parent, index, &[node]).ok()?;
+    Some(node)
 }
 
 /// How many elements were put in the middle of so many siblings and taken out again; or else only made, with no parent.

@@ -2,9 +2,9 @@
 //! else stands on it.
 //!
 //! `votes ROUND FROM COUNT` accepts so many votes, at positions that rise from one on, by the ballot of that round and this member;
-//! `promises ROUND COUNT` promises so many ballots of this member, whose rounds rise from one on. Each prints a line once its write is
-//! acknowledged: `vote POSITION` or `promise ROUND`. `open` opens the record and does no more, `load` prints the promise and how many votes
-//! stand, and `show` the promise and each vote.
+//! `promises ROUND COUNT` promises so many ballots of this member, whose rounds rise from one on; `learnt COUNT` keeps so many values as learnt
+//! at the next positions. Each prints a line once its write is acknowledged: `vote POSITION`, `promise ROUND` or `learnt POSITION`. `open` opens
+//! the record and does no more, `load` prints the promise and how many votes and learnt values stand, and `show` the promise and each of them.
 #![tactic(auto)]
 
 mod opening;
@@ -21,7 +21,7 @@ use sqlite::{Alter, Connection, Error};
 use std::io;
 use std::process::ExitCode;
 use words::{Deed, read_words};
-use writing::{promise_all, vote_all};
+use writing::{keep_all, promise_all, vote_all};
 
 /// Ends with status 0 once all is done, 1 where memory or the output is refused, 2 where the words are others, 3 where the file is not opened
 /// as that member's record, and 4 where a write or a load fails or the acceptor does not answer.
@@ -74,7 +74,9 @@ fn run_on<R: Records + Drop>(rt: &HostRuntime, mut records: R, deed: Deed) -> io
         Deed::Open => Ok(0),
         Deed::Load => load(rt, &mut records),
         Deed::Show => show(rt, &mut records),
-        Deed::Votes { .. } | Deed::Promises { .. } => write_on(rt, records, deed),
+        Deed::Votes { .. } | Deed::Promises { .. } | Deed::Learnt { .. } => {
+            write_on(rt, records, deed)
+        }
     }
 }
 
@@ -90,6 +92,7 @@ fn write_on<R: Records + Drop>(rt: &HostRuntime, records: R, deed: Deed) -> io::
             from,
             count,
         } => vote_all(rt, &mut acceptor, ballot, from, count),
+        Deed::Learnt { count } => keep_all(rt, &mut acceptor, count),
         Deed::Promises { ballot, count } => promise_all(rt, &mut acceptor, ballot, count),
         _ => Ok(0),
     }

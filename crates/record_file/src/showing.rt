@@ -5,7 +5,7 @@ use ballots::{Ballot, Entry, Value, Window};
 use records::{Record, Records};
 use std::io;
 
-/// Prints the promise, and how many votes there are.
+/// Prints the promise, and how many votes and learnt values there are.
 pub(super) fn load<R: Records>(rt: &HostRuntime, records: &mut R) -> io::Result<u8> {
     let Ok(record) = records.load(rt.alloc()) else {
         return Ok(4);
@@ -22,6 +22,8 @@ pub(super) fn load<R: Records>(rt: &HostRuntime, records: &mut R) -> io::Result<
     let (round, member) = (promise.round, promise.member);
     println!(rt; "promise {round} {member}")?;
     println!(rt; "votes {votes}")?;
+    let learnt = record.learnt_to();
+    println!(rt; "learnt {learnt}")?;
     Ok(0)
 }
 
@@ -45,7 +47,7 @@ fn after(window: &Window) -> Option<u32> {
     Some(window.covered + 1)
 }
 
-/// Prints the promise, and a line for each vote.
+/// Prints the promise, and a line for each vote and for each learnt value.
 pub(super) fn show<R: Records>(rt: &HostRuntime, records: &mut R) -> io::Result<u8> {
     let Ok(record) = records.load(rt.alloc()) else {
         return Ok(4);
@@ -60,7 +62,24 @@ pub(super) fn show<R: Records>(rt: &HostRuntime, records: &mut R) -> io::Result<
         };
         next = show_some(rt, &record, from)?;
     }
+    show_learnt(rt, record.learnt())?;
     Ok(0)
+}
+
+/// Prints `learnt POSITION NUMBER TEXT` for each value, the last two of the request; for the no-op none.
+fn show_learnt(rt: &HostRuntime, values: &[Value]) -> io::Result<()> {
+    let mut position = 0u64;
+    for value in values {
+        position = position.saturating_add(1);
+        match value {
+            Value::NoOp => println!(rt; "learnt {position}")?,
+            Value::Request(request) => {
+                let (number, text) = (request.id().number, request.text());
+                println!(rt; "learnt {position} {number} {text}")?;
+            }
+        }
+    }
+    Ok(())
 }
 
 /// Prints the votes from a position on, some of them, and gives where the next ones may begin.

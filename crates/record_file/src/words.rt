@@ -9,14 +9,18 @@ use std::alloc::Global;
 pub(super) enum Deed {
     /// It is opened alone.
     Open,
-    /// The promise, and how many votes there are.
+    /// The promise, and how many votes and learnt values there are.
     Load,
-    /// The promise, and each vote.
+    /// The promise, each vote and each learnt value.
     Show,
     /// Votes of a ballot at so many positions from one on.
     Votes {
         ballot: Ballot,
         from: u32,
+        count: u32,
+    },
+    /// So many values are kept as learnt, at the next positions.
+    Learnt {
         count: u32,
     },
     /// So many promises from a ballot on, each of the next round.
@@ -60,6 +64,9 @@ fn read_deed(member: u8, words: &[String]) -> Option<Deed> {
         ("votes", [round, from, count]) => Some(Deed::Votes {
             ballot: ballot(round, member)?,
             from: from.parse::<u32>().ok()?,
+            count: count.parse::<u32>().ok()?,
+        }),
+        ("learnt", [count]) => Some(Deed::Learnt {
             count: count.parse::<u32>().ok()?,
         }),
         ("promises", [round, count]) => Some(Deed::Promises {

@@ -1,4 +1,4 @@
-//! Votes and promises, each with a line once it is acknowledged.
+//! Votes, promises and learnt values, each with a line once it is acknowledged.
 
 ghost use Rattle.std.specs.Prelude.{◌≡◌, ◌≤◌, true, IfSome};
 ghost use Rattle.ballots.specs.Ballot.{IsBallot};
@@ -30,20 +30,22 @@ fn is_position(position: u32) -> bool
     1 <= position && position <= POSITIONS
 }
 
-/// The vote of a ballot at a position: a request whose number is made of both.
-fn vote(alloc: Global, ballot: Ballot, position: u32) -> Option<Vote>
-    ensures { IfSome result (λ v. v.ballot ≡ ballot) }
-{
-    let number = ballot
-        .round
+/// A request whose number is made of a round and a position.
+fn request(alloc: Global, round: u64, position: u32) -> Option<Value> {
+    let number = round
         .saturating_mul(10_000_000)
         .saturating_add(u64::from(position));
     let text = "insert node element a {\"some text\"} into doc(\"db\")";
     let request = Request::new(alloc, 1, number, 1, text).ok()?;
-    Some(Vote {
-        ballot,
-        value: Value::Request(request),
-    })
+    Some(Value::Request(request))
+}
+
+/// The vote of a ballot at a position.
+fn vote(alloc: Global, ballot: Ballot, position: u32) -> Option<Vote>
+    ensures { IfSome result (λ v. v.ballot ≡ ballot) }
+{
+    let value = request(alloc, ballot.round, position)?;
+    Some(Vote { ballot, value })
 }
 
 /// Accepts votes of a ballot at so many positions from one on, and prints a line for each. It ends where one is not accepted.
@@ -108,4 +110,33 @@ fn promises<R: Records + Drop>(alloc: Global, acceptor: &mut Acceptor<R>, ballot
         return false;
     }
     acceptor.on_begin(alloc, ballot).is_ok()
+}
+
+/// Keeps so many values as learnt at the next positions, and prints a line for each. It ends where one is not kept.
+pub(super) fn keep_all<R: Records + Drop>(
+    rt: &HostRuntime,
+    acceptor: &mut Acceptor<R>,
+    count: u32,
+) -> io::Result<u8> {
+    for _ in 0..count {
+        if !keeps(rt.alloc(), acceptor) {
+            return Ok(4);
+        }
+        let position = acceptor.kept();
+        println!(rt; "learnt {position}")?;
+    }
+    Ok(0)
+}
+
+/// Whether it keeps a value as learnt at the next position: the request of round 1 there.
+#[tactic(auto, unfolding(ballots::specs::Values::positions))]
+fn keeps<R: Records + Drop>(alloc: Global, acceptor: &mut Acceptor<R>) -> bool {
+    let kept = acceptor.kept();
+    if kept >= POSITIONS {
+        return false;
+    }
+    match request(alloc, 1, kept.saturating_add(1)) {
+        Some(value) => acceptor.on_keep(alloc, &value).is_ok(),
+        None => false,
+    }
 }

@@ -1,4 +1,4 @@
--- What the three statements of a new record make of a database.
+-- What the statements of a new record make of a database.
 use Rattle.std.proofs.Common.{◌≡◌, inl, ℕ, pos, List, [], ◌∷◌, false, None, Ok, Err, Result, OnOk, refl, sym, ap, subst, ◌∙◌, arith}
 use Rattle.sqlite.specs.declared.types.Value.TheVariants.{Null, Int, Text}
 use Rattle.sqlite.specs.declared.error.Error.{Error}
@@ -22,10 +22,13 @@ use Rattle.sqlite.specs.Effect.{Database}
 use Rattle.sqlite.specs.State.{State, mode_of, Writes, Executes, ExecutesInside}
 use Rattle.sqlite.proofs.Callers.{IsPlain, command_of, statement_of, runs_as, one_step}
 use Rattle.ballots.specs.Terms.{Setup}
-use Rattle.sql_records.specs.Texts.{meta, votes, no_schema, schema, meta_text, votes_text, member_text}
-use Rattle.sql_records.specs.Stored.{IsStored, joined, meta_row}
-use Rattle.sql_records.specs.Created.{AreEmpty, FirstIsEmpty, Makes, half_schema, new_record}
-use Rattle.sql_records.proofs.Means.{meta_is, votes_is}
+use Rattle.record_tables.specs.Texts.{meta, votes, learnt, no_schema, schema, schema_1, meta_text, votes_text, learnt_text, member_text}
+use Rattle.record_tables.specs.declared.version.Version.TheVariants.{Second}
+use Rattle.paxos.specs.Records.{empty_record}
+use Rattle.sql_records.specs.Stored.{AreKept, IsStored, joined, meta_row}
+use Rattle.sql_records.specs.Created.{FirstIsEmpty, HaveNoneLearnt, HaveRows, Makes, half_schema}
+use Rattle.sql_records.proofs.Means.{meta_is, votes_is, learnt_is}
+use Rattle.sql_records.proofs.LearntRows.{nothing_kept}
 use Rattle.sql_records.proofs.Update.{went, same_value, cast_int, cast_null}
 
 abbrev pub Compiles : Schema → List ℕ → Type 0
@@ -47,8 +50,16 @@ pub votes_plain : IsPlain (understood half_schema votes_text)
 unfolding understood everything
 votes_plain = (refl, refl)
 
+pub learnt_creates : Compiles schema_1 learnt_text
+unfolding understood everything
+learnt_creates = (refl, refl)
+
+pub learnt_plain : IsPlain (understood schema_1 learnt_text)
+unfolding understood everything
+learnt_plain = (refl, refl)
+
 abbrev pub member_terms : List Term
-member_terms = lit (Int (pos 1)) ∷ lit Null ∷ lit (Int (pos 1)) ∷ col 0 0 ∷ col 0 1 ∷ col 0 2 ∷ col 0 3 ∷ lit (Int (pos 0)) ∷ lit (Int (pos 0)) ∷ []
+member_terms = lit (Int (pos 1)) ∷ lit Null ∷ lit (Int (pos 2)) ∷ col 0 0 ∷ col 0 1 ∷ col 0 2 ∷ col 0 3 ∷ lit (Int (pos 0)) ∷ lit (Int (pos 0)) ∷ []
 
 pub member_inserts : command_of (understood schema member_text) ≡ Insert 0 (Values member_terms 9)
 unfolding understood everything
@@ -84,23 +95,29 @@ module _ (old new : State) where
       let it = made old new meta_text no_schema meta m.known meta_creates meta_plain meta_is refl count ran.0 in
       record { known = it.0; rows = it.1; mode = ran.1.mode }
 
-  pub votes_made : (r : Result ℕ Error) → Makes old half_schema FirstIsEmpty → ExecutesInside 0 votes_text [] old new r → OnOk r (Makes new schema AreEmpty)
+  pub votes_made : (r : Result ℕ Error) → Makes old half_schema FirstIsEmpty → ExecutesInside 0 votes_text [] old new r → OnOk r (Makes new schema_1 (HaveRows [] []))
   votes_made (Err e) m ran = tt
   votes_made (Ok count) m ran =
       let it = made old new votes_text half_schema (record votes { tree = 0 }) m.known votes_creates votes_plain votes_is refl count ran.0 in
       record { known = it.0; rows = (it.2.0 ∙ m.rows, it.1); mode = ran.1.mode }
+
+  pub learnt_made : (r : Result ℕ Error) (member votes : List Row) → Makes old schema_1 (HaveRows member votes) → ExecutesInside 0 learnt_text [] old new r → OnOk r (Makes new schema (HaveNoneLearnt member votes))
+  learnt_made (Err e) member votes m ran = tt
+  learnt_made (Ok count) member votes m ran =
+      let it = made old new learnt_text schema_1 (record learnt { tree = 0 }) m.known learnt_creates learnt_plain learnt_is refl count ran.0 in
+      record { known = it.0; rows = (it.2.0 ∙ m.rows.0, it.2.1.0 ∙ m.rows.1, it.1); mode = ran.1.mode }
 
   module _ (o : Setup) where
     abbrev pub member_params : Row
     member_params = Int (pos o.group) ∷ Int (pos o.member) ∷ Int (pos o.members) ∷ Text (joined o.names) ∷ []
 
     abbrev pub member_shown : Row
-    member_shown = Int (pos 1) ∷ Null ∷ Int (pos 1) ∷ Int (pos o.group) ∷ Int (pos o.member) ∷ Int (pos o.members) ∷ Text (joined o.names) ∷ Int (pos 0) ∷ Int (pos 0) ∷ []
+    member_shown = Int (pos 1) ∷ Null ∷ Int (pos 2) ∷ Int (pos o.group) ∷ Int (pos o.member) ∷ Int (pos o.members) ∷ Text (joined o.names) ∷ Int (pos 0) ∷ Int (pos 0) ∷ []
 
-    row_put : (db : Trees) → db 0 ≡ [] → edited db (edit_of db meta [] Chosen 0 (member_shown ∷ [])) ≡ meta_row o 0 0 ∷ []
-    row_put db none = rw (none, cast_null, cast_int 1, cast_int o.group, cast_int o.member, cast_int o.members, cast_int 0) refl
+    row_put : (db : Trees) → db 0 ≡ [] → edited db (edit_of db meta [] Chosen 0 (member_shown ∷ [])) ≡ meta_row 2 o 0 0 ∷ []
+    row_put db none = rw (none, cast_null, cast_int 1, cast_int 2, cast_int o.group, cast_int o.member, cast_int o.members, cast_int 0) refl
 
-    adds : (count : ℕ) → Makes old schema AreEmpty → Executes member_text member_params old new (Ok count) → (new.now.schema ≡ schema) × (new.now.trees 0 ≡ meta_row o 0 0 ∷ []) × (new.now.trees 1 ≡ [])
+    adds : (count : ℕ) → Makes old schema (HaveNoneLearnt [] []) → Executes member_text member_params old new (Ok count) → (new.now.schema ≡ schema) × (new.now.trees 0 ≡ meta_row 2 o 0 0 ∷ []) × (new.now.trees 1 ≡ []) × (new.now.trees 2 ≡ [])
     adds count m h =
         let db = old.now.trees in
         let command = Insert 0 (Values member_terms 9) in
@@ -113,14 +130,15 @@ module _ (old new : State) where
         let counted = went written.2 in
         let trees : done.0.trees ≡ written.0 = ap (λ (it : Written). it.trees) (same_value counted.2) ∙ same_value counted.1 in
         let step = one_step schema _ db written.0 (edit_of db meta [] Chosen 0 given.0) refl written.1 in
-        let row : edited db (edit_of db meta [] Chosen 0 given.0) ≡ meta_row o 0 0 ∷ [] = ap (λ all. edited db (edit_of db meta [] Chosen 0 all)) given.1.1 ∙ row_put db m.rows.0 in (
+        let row : edited db (edit_of db meta [] Chosen 0 given.0) ≡ meta_row 2 o 0 0 ∷ [] = ap (λ all. edited db (edit_of db meta [] Chosen 0 all)) given.1.1 ∙ row_put db m.rows.0 in (
           ap (λ (d : Database). d.schema) now,
           ap (λ (d : Database). d.trees 0) now ∙ ap (λ (t : Trees). t 0) trees ∙ step.rows ∙ row,
           ap (λ (d : Database). d.trees 1) now ∙ ap (λ (t : Trees). t 1) trees ∙ step.others 1 (omega arith) tt ∙ m.rows.1,
+          ap (λ (d : Database). d.trees 2) now ∙ ap (λ (t : Trees). t 2) trees ∙ step.others 2 (omega arith) tt ∙ m.rows.2,
         )
 
-    pub new_stored : (db : Trees) → db 0 ≡ meta_row o 0 0 ∷ [] → db 1 ≡ [] → IsStored o db new_record
-    new_stored db one none = record {
+    pub new_stored : (db : Trees) → db 0 ≡ meta_row 2 o 0 0 ∷ [] → db 1 ≡ [] → db 2 ≡ [] → IsStored Second o db empty_record
+    new_stored db one none no_values = record {
       meta = one;
       rows = [];
       votes = none;
@@ -130,10 +148,11 @@ module _ (old new : State) where
       rising = tt;
       promise = inl refl;
       each = λ e has. absurd has;
+      kept = subst (λ t. AreKept t []) (sym no_values) nothing_kept;
     }
 
-    pub member_put : (r : Result ℕ Error) → Makes old schema AreEmpty → ExecutesInside 0 member_text member_params old new r → OnOk r (Makes new schema (λ db. IsStored o db new_record))
+    pub member_put : (r : Result ℕ Error) → Makes old schema (HaveNoneLearnt [] []) → ExecutesInside 0 member_text member_params old new r → OnOk r (Makes new schema (λ db. IsStored Second o db empty_record))
     member_put (Err e) m ran = tt
     member_put (Ok count) m ran =
         let it = adds count m ran.0 in
-        record { known = it.0; rows = new_stored new.now.trees it.1 it.2; mode = ran.1.mode }
+        record { known = it.0; rows = new_stored new.now.trees it.1 it.2 it.3; mode = ran.1.mode }

@@ -32,11 +32,11 @@ use Rattle.sqlite.specs.Order.{Row}
 use Rattle.sqlite.specs.Tree.{Trees}
 use Rattle.sqlite.specs.State.{State, Escapes, EndsScope, ExecutesIn, ExecutesInside, IsMisplaced, IsStatement, RunsAlone, RunsCommand, is_pragma, mode_of, shows_rows, text_of}
 use Rattle.sqlite.proofs.Callers.{IsPlain, command_of, statement_of}
-use Rattle.sql_records.specs.Created.{FirstIsEmpty, Makes, half_schema}
+use Rattle.sql_records.specs.Created.{FirstIsEmpty, HaveRows, Makes, half_schema}
 use Rattle.sql_records.specs.Faults.{StoreFailed}
-use Rattle.sql_records.specs.Texts.{meta, votes, no_schema, meta_text, votes_text}
-use Rattle.sql_records.proofs.Means.{meta_is, votes_is}
-use Rattle.sql_records.proofs.Creating.{Compiles, meta_creates, meta_plain, votes_creates, votes_plain}
+use Rattle.record_tables.specs.Texts.{meta, votes, learnt, no_schema, schema_1, meta_text, votes_text, learnt_text}
+use Rattle.sql_records.proofs.Means.{meta_is, votes_is, learnt_is}
+use Rattle.sql_records.proofs.Creating.{Compiles, meta_creates, meta_plain, votes_creates, votes_plain, learnt_creates, learnt_plain}
 use Rattle.sql_records.proofs.StoreFaults.{IsWhole, fails_by, not_run}
 
 -- a part that stopped did so by itself, or by what follows it
@@ -201,6 +201,23 @@ votes_can = record {
   uncounted = refl;
 }
 
+learnt_can : CanBeMade schema_1 learnt_text (record learnt { tree = 0 })
+unfolding understood everything lib.Utf8.encode fits_kind is_free_name same_name begins value_cmp lib.Ieee.is_nan lib.Ieee.lt
+learnt_can = record {
+  defined = learnt_is;
+  utf8 = (learnt_text, (refl, refl));
+  named = (codes "learnt", (refl, refl));
+  free = refl;
+  common = refl;
+  keyless = refl;
+  low = omega arith;
+  reals = omega arith;
+  formed = refl;
+  fit = refl;
+  short = omega arith;
+  uncounted = refl;
+}
+
 meta_whole : IsWhole (length meta_text) 0 (understood no_schema meta_text)
 unfolding understood everything
 meta_whole = (omega arith, refl)
@@ -208,6 +225,10 @@ meta_whole = (omega arith, refl)
 votes_whole : IsWhole (length votes_text) 0 (understood half_schema votes_text)
 unfolding understood everything
 votes_whole = (omega arith, refl)
+
+learnt_whole : IsWhole (length learnt_text) 0 (understood schema_1 learnt_text)
+unfolding understood everything
+learnt_whole = (omega arith, refl)
 
 module _ (old new : State) (r : Result ℕ Error) where
   table_failed : (text : List ℕ) (before : Schema) (table : Table) → old.now.schema ≡ before → Compiles before text → IsPlain (understood before text) → IsWhole (length text) 0 (understood before text) → CanBeMade before text table
@@ -221,3 +242,6 @@ module _ (old new : State) (r : Result ℕ Error) where
 
   pub votes_failed : Makes old half_schema FirstIsEmpty → ExecutesInside 0 votes_text [] old new r → IfErr r (λ e. e ≢ SqliteFailure code.OutOfMemory → StoreFailed old new)
   votes_failed m ran = table_failed votes_text half_schema (record votes { tree = 0 }) m.known votes_creates votes_plain votes_whole votes_can ran
+
+  pub learnt_failed : (member votes : List Row) → Makes old schema_1 (HaveRows member votes) → ExecutesInside 0 learnt_text [] old new r → IfErr r (λ e. e ≢ SqliteFailure code.OutOfMemory → StoreFailed old new)
+  learnt_failed member votes m ran = table_failed learnt_text schema_1 (record learnt { tree = 0 }) m.known learnt_creates learnt_plain learnt_whole learnt_can ran

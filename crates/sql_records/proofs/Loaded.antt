@@ -29,9 +29,13 @@ use Rattle.ballots.specs.declared.value.Entry.{Entry}
 use Rattle.paxos.specs.Records.{Record}
 use Rattle.records.specs.Kept.{AreAbove, IsRising}
 use Rattle.ballots.specs.Spelling.{IsValue, value_spelling}
-use Rattle.sql_records.specs.Texts.{schema, meta_columns, votes_columns, key_column}
-use Rattle.sql_records.specs.Stored.{IsPromise, IsStored, MayStand, meta_row, vote_row, times}
-use Rattle.sql_records.specs.Reading.{meta_shown, vote_shown, AreShown, ShowsMember}
+use Rattle.record_tables.specs.Texts.{schema, meta_columns, votes_columns, learnt_columns, key_column}
+use Rattle.record_tables.specs.declared.version.Version.{Version}
+use Rattle.record_tables.specs.declared.version.Version.TheVariants.{First, Second}
+use Rattle.record_tables.specs.Versions.{number_of, tables_of}
+use Rattle.ballots.specs.Values.{positions}
+use Rattle.sql_records.specs.Stored.{AreKept, IsPromise, IsStored, KeepsLearnt, MayStand, learnt_row, learnt_rows, meta_row, vote_row, times}
+use Rattle.sql_records.specs.Reading.{learnt_shown, meta_shown, vote_shown, AreLearnt, AreShown, ShowsMember}
 
 -- ---- a row that obeys its table
 
@@ -69,6 +73,13 @@ nine (a ∷ b ∷ c ∷ d ∷ e ∷ f ∷ g ∷ []) len null = absurd (omega (ar
 nine (a ∷ b ∷ c ∷ d ∷ e ∷ f ∷ g ∷ h ∷ []) len null = absurd (omega (arith, len))
 nine (a ∷ b ∷ c ∷ d ∷ e ∷ f ∷ g ∷ h ∷ i ∷ []) len null = ap (λ v. a ∷ v ∷ c ∷ d ∷ e ∷ f ∷ g ∷ h ∷ i ∷ []) (null_is b null)
 nine (a ∷ b ∷ c ∷ d ∷ e ∷ f ∷ g ∷ h ∷ i ∷ x ∷ more) len null = absurd (omega (arith, len))
+
+three : (r : Row) → length r ≡ 3 → is_null (column r 1) ≡ true → r ≡ column r 0 ∷ Null ∷ column r 2 ∷ []
+three [] len null = absurd (omega (arith, len))
+three (a ∷ []) len null = absurd (omega (arith, len))
+three (a ∷ b ∷ []) len null = absurd (omega (arith, len))
+three (a ∷ b ∷ c ∷ []) len null = ap (λ v. a ∷ v ∷ c ∷ []) (null_is b null)
+three (a ∷ b ∷ c ∷ d ∷ more) len null = absurd (omega (arith, len))
 
 five : (r : Row) → length r ≡ 5 → is_null (column r 1) ≡ true → r ≡ column r 0 ∷ Null ∷ column r 2 ∷ column r 3 ∷ column r 4 ∷ []
 five [] len null = absurd (omega (arith, len))
@@ -214,6 +225,14 @@ vote_shape r typed present =
     let least = long r 4 last in
     five r (omega (arith, most, least)) (first_null (key_column (codes "position")) (drop 1 votes_columns) r (omega (arith, least)) fits)
 
+pub learnt_shape : (r : Row) → (are_typed (Some 0) 0 learnt_columns (drop 1 r) && true) ≡ true → are_present (Some 0) 0 learnt_columns r ≡ true → r ≡ column r 0 ∷ Null ∷ column r 2 ∷ []
+learnt_shape r typed present =
+    let fits = left_of _ _ typed in
+    let most = short 2 r (few (Some 0) 0 learnt_columns (drop 1 r) fits) in
+    let last = left_of (has r 2) true present in
+    let least = long r 2 last in
+    three r (omega (arith, most, least)) (first_null (key_column (codes "position")) (drop 1 learnt_columns) r (omega (arith, least)) fits)
+
 -- a vote's row, from what is shown of it
 widen : Row → Row
 widen x = column x 0 ∷ Null ∷ column x 1 ∷ column x 2 ∷ column x 3 ∷ []
@@ -243,26 +262,43 @@ single f [] y h = absurd cc
 single f (x ∷ []) y h = (x, (refl, cc))
 single f (x ∷ z ∷ more) y h = absurd cc
 
-module _ (o : Setup) (trees : Trees) (sound : IsSound schema trees) where
-  pub member_row : (row : Row) (b : Ballot) → IsPermutation (map meta_shown (trees 0)) (row ∷ []) → ShowsMember o b row → trees 0 ≡ meta_row o b.round b.member ∷ []
+abbrev AreTyped : List Column → List Row → Type 0
+AreTyped columns = AllByRecursion (λ r. (are_typed (Some 0) 0 columns (drop 1 r) && true) ≡ true)
+
+abbrev ArePresent : List Column → List Row → Type 0
+ArePresent columns = AllByRecursion (λ r. are_present (Some 0) 0 columns r ≡ true)
+
+-- the rows of the first two tables obey them in each version
+obeyed : (v : Version) (trees : Trees) → IsSound (tables_of v) trees → (AreTyped meta_columns (trees 0) × ArePresent meta_columns (trees 0)) × (AreTyped votes_columns (trees 1) × ArePresent votes_columns (trees 1))
+obeyed First trees sound =
+    let typed = sound.obeys.rules Datatype in
+    let present = sound.obeys.rules NotNull in
+    ((typed.0, present.0), (typed.1.0, present.1.0))
+obeyed Second trees sound =
+    let typed = sound.obeys.rules Datatype in
+    let present = sound.obeys.rules NotNull in
+    ((typed.0, present.0), (typed.1.0, present.1.0))
+
+module _ (version : Version) (o : Setup) (trees : Trees) (sound : IsSound (tables_of version) trees) where
+  pub member_row : (row : Row) (b : Ballot) → IsPermutation (map meta_shown (trees 0)) (row ∷ []) → ShowsMember version o b row → trees 0 ≡ meta_row (number_of version) o b.round b.member ∷ []
   member_row row b moved m =
       let one = one_permutation row (map meta_shown (trees 0)) (IsPermutation-sym _ _ moved) in
       let it = single meta_shown (trees 0) row one in
-      let typed = (subst (AllByRecursion _) it.1.0 (sound.obeys.rules Datatype).0).0 in
-      let present = (subst (AllByRecursion _) it.1.0 (sound.obeys.rules NotNull).0).0 in
-      let s : ShowsMember o b (meta_shown it.0) = subst (ShowsMember o b) (sym it.1.1) m in
-      it.1.0 ∙ ap (λ (r : Row). r ∷ []) (meta_shape it.0 typed present ∙ rw (s.id, s.version, s.group, s.member, s.members, s.docs, s.round, s.leader) refl)
+      let obeys = (obeyed version trees sound).0 in
+      let typed = (subst (AreTyped meta_columns) it.1.0 obeys.0).0 in
+      let present = (subst (ArePresent meta_columns) it.1.0 obeys.1).0 in
+      let s : ShowsMember version o b (meta_shown it.0) = subst (ShowsMember version o b) (sym it.1.1) m in
+      it.1.0 ∙ ap (λ (r : Row). r ∷ []) (meta_shape it.0 typed present ∙ rw (s.id, s.number, s.group, s.member, s.members, s.docs, s.round, s.leader) refl)
 
-  pub loaded : (row : Row) (b : Ballot) (rows : List Row) (r : Record) → IsPermutation (map meta_shown (trees 0)) (row ∷ []) → ShowsMember o b row
-      → IsPermutation (map vote_shown (trees 1)) rows → AreShown o.members b rows r.votes → r.promise ≡ b → IsRising r → IsStored o trees r
-  loaded row b rows r metas m moved shown promise rising =
-      let typed = (sound.obeys.rules Datatype).1.0 in
-      let present = (sound.obeys.rules NotNull).1.0 in
+  pub loaded : (row : Row) (b : Ballot) (rows : List Row) (r : Record) → IsPermutation (map meta_shown (trees 0)) (row ∷ []) → ShowsMember version o b row
+      → IsPermutation (map vote_shown (trees 1)) rows → AreShown o.members b rows r.votes → r.promise ≡ b → IsRising r → KeepsLearnt version trees r.learnt → IsStored version o trees r
+  loaded row b rows r metas m moved shown promise rising kept =
+      let obeys = (obeyed version trees sound).1 in
       let from : IsPermutation (map widen (map vote_shown (trees 1))) (map widen rows) = IsPermutation-map widen (map vote_shown (trees 1)) rows moved in
-      let same : IsPermutation (trees 1) (map vote_row r.votes) = subst₂ IsPermutation (wide (trees 1) typed present) (seen o.members b rows r.votes shown) from in
+      let same : IsPermutation (trees 1) (map vote_row r.votes) = subst₂ IsPermutation (wide (trees 1) obeys.0 obeys.1) (seen o.members b rows r.votes shown) from in
       let it = unmapped vote_row r.votes (trees 1) (IsPermutation-sym _ _ same) in
       record {
-        meta = subst (λ (c : Ballot). trees 0 ≡ meta_row o c.round c.member ∷ []) (sym promise) (member_row row b metas m);
+        meta = subst (λ (c : Ballot). trees 0 ≡ meta_row (number_of version) o c.round c.member ∷ []) (sym promise) (member_row row b metas m);
         rows = it.0;
         votes = it.1.0;
         once = λ p. let few = once_rising p 0 r.votes rising in let moves = times_permuted p r.votes it.0 it.1.1 in omega (arith, few, moves);
@@ -271,16 +307,50 @@ module _ (o : Setup) (trees : Trees) (sound : IsSound schema trees) where
         rising = rising;
         promise = subst (IsPromise o.members) (sym promise) m.promise;
         each = λ e has. subst (λ (c : Ballot). MayStand o.members c e) (sym promise) (stand o.members b rows r.votes e shown has);
+        kept = kept;
       }
+
+-- ---- values kept as learnt
+
+-- a learnt value's row, from what is shown of it
+widen_learnt : Row → Row
+widen_learnt x = column x 0 ∷ Null ∷ column x 1 ∷ []
+
+wide_learnt : (rs : List Row) → AreTyped learnt_columns rs → ArePresent learnt_columns rs → map widen_learnt (map learnt_shown rs) ≡ rs
+unfolding widen_learnt
+wide_learnt [] typed present = refl
+wide_learnt (r ∷ rs) typed present = ap (λ x. x ∷ map widen_learnt (map learnt_shown rs)) (sym (learnt_shape r typed.0 present.0)) ∙ ap (λ xs. r ∷ xs) (wide_learnt rs typed.1 present.1)
+
+seen_learnt : (p : ℕ) (rows : List Row) (vs : List Proposed) → AreLearnt p rows vs → map widen_learnt rows ≡ learnt_rows p vs
+unfolding widen_learnt
+seen_learnt p [] [] h = refl
+seen_learnt p [] (v ∷ vs) h = absurd h
+seen_learnt p (r ∷ rs) [] h = absurd h
+seen_learnt p (r ∷ rs) (v ∷ vs) h = let s = h.0 in rw (s.at, s.spelt) (ap (λ xs. learnt_row p v ∷ xs) (seen_learnt (suc p) rs vs h.1))
+
+spelt_learnt : (p : ℕ) (rows : List Row) (vs : List Proposed) → AreLearnt p rows vs → (v : Proposed) → Has vs v → IsValue v
+spelt_learnt p [] [] h v none = absurd none
+spelt_learnt p [] (x ∷ vs) h v has = absurd h
+spelt_learnt p (r ∷ rs) [] h v none = absurd none
+spelt_learnt p (r ∷ rs) (x ∷ vs) h v (inl is) = subst IsValue (sym is) h.0.value
+spelt_learnt p (r ∷ rs) (x ∷ vs) h v (inr has) = spelt_learnt (suc p) rs vs h.1 v has
+
+pub kept_loaded : (trees : Trees) → IsSound schema trees → (rows : List Row) (vs : List Proposed) → IsPermutation (map learnt_shown (trees 2)) rows → AreLearnt 1 rows vs → length vs ≤ positions → AreKept (trees 2) vs
+kept_loaded trees sound rows vs moved shown most =
+    let typed = (sound.obeys.rules Datatype).1.1.0 in
+    let present = (sound.obeys.rules NotNull).1.1.0 in
+    let from : IsPermutation (map widen_learnt (map learnt_shown (trees 2))) (map widen_learnt rows) = IsPermutation-map widen_learnt (map learnt_shown (trees 2)) rows moved in
+    let same : IsPermutation (trees 2) (learnt_rows 1 vs) = subst₂ IsPermutation (wide_learnt (trees 2) typed present) (seen_learnt 1 rows vs shown) from in
+    record { rows = IsPermutation-sym _ _ same; few = most; values = spelt_learnt 1 rows vs shown }
 
 -- ---- two records of one database
 
-map_has : (es : List Entry) (r : Row) → Has (map vote_row es) r → (e : Entry) × (Has es e × (r ≡ vote_row e))
+pub map_has : (es : List Entry) (r : Row) → Has (map vote_row es) r → (e : Entry) × (Has es e × (r ≡ vote_row e))
 map_has [] r none = absurd none
 map_has (e ∷ es) r (inl is) = (e, (inl refl, is))
 map_has (e ∷ es) r (inr h) = let it = map_has es r h in (it.0, (inr it.1.0, it.1.1))
 
-has_map : (es : List Entry) (e : Entry) → Has es e → Has (map vote_row es) (vote_row e)
+pub has_map : (es : List Entry) (e : Entry) → Has es e → Has (map vote_row es) (vote_row e)
 has_map [] e none = absurd none
 has_map (x ∷ es) e (inl is) = inl (ap vote_row is)
 has_map (x ∷ es) e (inr h) = inr (has_map es e h)
@@ -304,22 +374,21 @@ row_tells apart e f good good' h =
 ballot_of : ℕ → ℕ → Ballot
 ballot_of round member = record { round = round; member = member }
 
-record_of : Ballot → List Entry → Record
-record_of b es = record { promise = b; votes = es }
-
-module _ (apart : SpeltApart) (o : Setup) (trees : Trees) where
-  shared : (a b : Record) → IsStored o trees a → IsStored o trees b → (e : Entry) → Has a.votes e → Has b.votes e
+module _ (apart : SpeltApart) (version : Version) (o : Setup) (trees : Trees) where
+  shared : (a b : Record) → IsStored version o trees a → IsStored version o trees b → (e : Entry) → Has a.votes e → Has b.votes e
   shared a b x y e has =
       let there = has_map x.rows e (x.complete e has) in
       let it = map_has y.rows (vote_row e) (subst (λ rs. Has rs (vote_row e)) (sym x.votes ∙ y.votes) there) in
       let in_b = y.sound it.0 it.1.0 in
       subst (Has b.votes) (sym (row_tells apart e it.0 (x.each e has).value (y.each it.0 in_b).value it.1.1)) in_b
 
-  pub one_record : (a b : Record) → IsStored o trees a → IsStored o trees b → a ≡ b
-  unfolding ballot_of record_of
-  one_record a b x y =
-      let rows : meta_row o a.promise.round a.promise.member ∷ [] ≡ meta_row o b.promise.round b.promise.member ∷ [] = sym x.meta ∙ y.meta in
+  pub one_promise : (a b : Record) → IsStored version o trees a → IsStored version o trees b → a.promise ≡ b.promise
+  unfolding ballot_of
+  one_promise a b x y =
+      let rows : meta_row (number_of version) o a.promise.round a.promise.member ∷ [] ≡ meta_row (number_of version) o b.promise.round b.promise.member ∷ [] = sym x.meta ∙ y.meta in
       let n : a.promise.round ≡ b.promise.round = cc in
       let m : a.promise.member ≡ b.promise.member = cc in
-      let votes : a.votes ≡ b.votes = same_rising 0 a.votes b.votes x.rising y.rising (shared a b x y) (shared b a y x) in
-      λ i. record_of (ballot_of (n i) (m i)) (votes i)
+      λ i. ballot_of (n i) (m i)
+
+  pub one_vote : (a b : Record) → IsStored version o trees a → IsStored version o trees b → a.votes ≡ b.votes
+  one_vote a b x y = same_rising 0 a.votes b.votes x.rising y.rising (shared a b x y) (shared b a y x)

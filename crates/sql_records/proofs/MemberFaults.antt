@@ -33,10 +33,10 @@ use Rattle.sqlite.specs.State.{State, ExecutesInside, mode_of}
 use Rattle.sqlite.proofs.Callers.{statement_of}
 use Rattle.ballots.specs.Terms.{Setup}
 use Rattle.document_names.specs.Names.{is_document_name, is_document_name_byte, are_distinct, are_document_names}
-use Rattle.sql_records.specs.Created.{AreEmpty, Makes}
+use Rattle.sql_records.specs.Created.{HaveNoneLearnt, Makes}
 use Rattle.sql_records.specs.Faults.{StoreFailed}
 use Rattle.sql_records.specs.Stored.{joined, meta_row}
-use Rattle.sql_records.specs.Texts.{meta, schema, member_text}
+use Rattle.record_tables.specs.Texts.{meta, schema, member_text}
 use Rattle.sql_records.proofs.Creating.{member_inserts, member_plain, member_params, member_shown, member_terms}
 use Rattle.sql_records.proofs.CreationFaults.{halted, inside_failed}
 use Rattle.sql_records.proofs.StoreFaults.{IsWhole}
@@ -79,7 +79,7 @@ joined_short (name ∷ names) h =
 -- ---- the row can be stored, and no rule refuses it
 
 -- no row refers to another, and no index asks for anything
-no_keys : (rows : List Row) → AllByRecursion (λ row. true ≡ true) rows
+pub no_keys : (rows : List Row) → AllByRecursion (λ row. true ≡ true) rows
 no_keys [] = tt
 no_keys (row ∷ rows) = (refl, no_keys rows)
 
@@ -89,13 +89,13 @@ each_at P (x ∷ xs) h zero d low = h.0
 each_at P (x ∷ xs) h (suc k) d low = each_at P xs h.1 k d (omega arith)
 
 module _ (o : Setup) (good : are_document_names o.names ≡ true) where
-  storable : IsStorableRow (table_reals meta) (meta_row o 0 0)
+  pub storable : (round leader : ℕ) → IsStorableRow (table_reals meta) (meta_row 2 o round leader)
   unfolding lib.Ieee.is_nan
-  storable = (
+  storable round leader = (
     record {
       typed = λ c is. absurd (let none = bit_at-zero c in omega arith);
       columns = (omega arith, omega arith);
-      numbers = each_at (λ v. NotNan (number v)) (meta_row o 0 0) (tt, (tt, (tt, (tt, (tt, (tt, (tt, (tt, (tt, tt)))))))));
+      numbers = each_at (λ v. NotNan (number v)) (meta_row 2 o round leader) (tt, (tt, (tt, (tt, (tt, (tt, (tt, (tt, (tt, tt)))))))));
       short = let short = joined_short o.names good in omega arith;
     },
     omega arith,
@@ -103,7 +103,7 @@ module _ (o : Setup) (good : are_document_names o.names ≡ true) where
 
   module _ (db : Trees) (none : db 0 ≡ []) where
     abbrev edit : Edit
-    edit = record { table = meta; gone = []; news = meta_row o 0 0 ∷ [] }
+    edit = record { table = meta; gone = []; news = meta_row 2 o 0 0 ∷ [] }
 
     not_refused : (why : Refusal) → ¬ IsRefused schema Enforced db edit why
     unfolding binary value_cmp lib.Ieee.is_nan lib.Ieee.lt
@@ -111,7 +111,7 @@ module _ (o : Setup) (good : are_document_names o.names ≡ true) where
     not_refused (Violates NotNull) h = both_ways _ h refl
     not_refused (Violates Check) h = both_ways _ h refl
     not_refused (Violates PrimaryKey) h = both_ways _ (rw none at h) refl
-    not_refused (Violates Unique) h = h (no_keys (edited db edit), (no_keys (db 1), tt))
+    not_refused (Violates Unique) h = h (no_keys (edited db edit), (no_keys (db 1), (no_keys (db 2), tt)))
     not_refused (Violates ForeignKey) h = h
     not_refused Mismatch h = both_ways _ h refl
     not_refused NoRowid h = both_ways _ h refl
@@ -125,7 +125,7 @@ module _ (o : Setup) (good : are_document_names o.names ≡ true) where
     not_edited : (why : Option Refusal) → ¬ Writes schema Enforced db edit (Err why)
     not_edited why (inl refused) = not_refused refused.0 refused.1
     not_edited why (inr (inl big)) = elim big.2 [
-      | inl row ↦ elim big.1 [ inl same ↦ row (subst (IsStorableRow (table_reals meta)) (sym same) storable) | inr other ↦ other ]
+      | inl row ↦ elim big.1 [ inl same ↦ row (subst (IsStorableRow (table_reals meta)) (sym same) (storable 0 0)) | inr other ↦ other ]
       | inr index ↦ index.1
     ]
     not_edited why (inr (inr went)) = no_more went.2.0 went.0 why went.2.1
@@ -136,12 +136,12 @@ member_whole : IsWhole (length member_text) 4 (understood schema member_text)
 unfolding understood everything
 member_whole = (omega arith, refl)
 
-module _ (old new : State) (o : Setup) (good : are_document_names o.names ≡ true) (m : Makes old schema AreEmpty) where
+module _ (old new : State) (o : Setup) (good : are_document_names o.names ≡ true) (m : Makes old schema (HaveNoneLearnt [] [])) where
   abbrev db : Trees
   db = old.now.trees
 
   is_edit : edit_of db meta [] Chosen 0 (member_shown old new o ∷ []) ≡ edit o good db m.rows.0
-  is_edit = rw (cast_null, cast_int 1, cast_int o.group, cast_int o.member, cast_int o.members, cast_int 0) refl
+  is_edit = rw (cast_null, cast_int 1, cast_int 2, cast_int o.group, cast_int o.member, cast_int o.members, cast_int 0) refl
 
   by_limit : (stop : Option Error) → Sourced old.step_limit (record { schema = schema; trees = db }) (member_params old new o) (Values member_terms 9) (Err stop) → IsSome old.step_limit
   by_limit None h = absurd h
@@ -161,7 +161,7 @@ module _ (old new : State) (o : Setup) (good : are_document_names o.names ≡ tr
       ]
     ]
     | inr done ↦ elim (halted done.2) [
-      | inl tested ↦ absurd (tested.0 (no_keys (done.0.trees 0), (no_keys (done.0.trees 1), tt)))
+      | inl tested ↦ absurd (tested.0 (no_keys (done.0.trees 0), (no_keys (done.0.trees 1), (no_keys (done.0.trees 2), tt))))
       | inr kept ↦ elim (halted kept.2) [ inl returns ↦ absurd (let e = returns in cc) | inr gives ↦ absurd (let e = gives.2 in cc) ]
     ]
   ]

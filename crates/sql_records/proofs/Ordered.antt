@@ -1,4 +1,4 @@
--- What ORDER BY says of the votes that a query shows.
+-- What ORDER BY says of the rows that a query shows.
 use Rattle.std.proofs.Common.{◌≡◌, ◌⊎◌, inl, inr, ℕ, ◌+◌, ◌≤◌, ◌<◌, suc, pos, List, [], ◌∷◌, ◌++◌, map, Bool, false, true, get_or, int_cmp, nat_lt, ◌==◌, refl, sym, ap, subst, ◌∙◌, arith}
 use Rattle.std.proofs.lemmas.Bool.{cases_Bool}
 use Rattle.std.proofs.lemmas.Bool.Decides.{nat_tests}
@@ -12,7 +12,7 @@ use Rattle.sqlite.specs.Order.{Row}
 use Rattle.sqlite.specs.Tree.{Trees}
 use Rattle.sqlite.specs.Program.{overlay}
 use Rattle.sqlite.specs.State.{State, Begins}
-use Rattle.sqlite.specs.Query.{IsAnswer, output, output_cmp, Output}
+use Rattle.sqlite.specs.Query.{Query, IsAnswer, output, output_cmp, Output}
 use Rattle.sqlite.proofs.Callers.{begins_as}
 use Rattle.sqlite_rules.specs.Lists.{Has}
 use Rattle.sqlite_value.specs.Order.{column}
@@ -20,7 +20,8 @@ use Rattle.sqlite_value.proofs.OrderLemmas.{value_cmp-Int}
 use Rattle.ballots.specs.declared.ballot.Ballot.{Ballot}
 use Rattle.ballots.specs.declared.value.Entry.{Entry}
 use Rattle.records.specs.Kept.{AreAbove}
-use Rattle.sql_records.specs.Texts.{schema, votes_load_text}
+use Rattle.record_tables.specs.Texts.{votes_load_text}
+use Rattle.record_tables.specs.Versions.{AreTables, tables_of}
 use Rattle.sql_records.specs.Stored.{times, vote_row}
 use Rattle.sql_records.specs.Reading.{AreShown, AreVotes, Shows, ShowsNoVote, vote_shown}
 use Rattle.sql_records.proofs.Means.{votes_query, votes_query_is, votes_plain}
@@ -36,10 +37,7 @@ shown_of e = vote_shown (vote_row e)
 abbrev output_of : Entry → Output
 output_of e = output votes_query ([] ∷ vote_row e ∷ [])
 
-abbrev IsOrdered : List Entry → Type 0
-IsOrdered es = IsSorted (output_cmp votes_query) (map output_of es)
-
-number_of : (m n : ℕ) → Int (pos m) ≡ Int (pos n) → m ≡ n
+pub number_of : (m n : ℕ) → Int (pos m) ≡ Int (pos n) → m ≡ n
 number_of m n e = cc
 
 not_less : (m n : ℕ) → is_lt (ordering_then (int_cmp (pos m) (pos n)) Equal) ≡ false → nat_lt m n ≡ false
@@ -48,32 +46,40 @@ not_less m n h = elim (cases_Bool (nat_lt m n)) [
   | inr other ↦ other
 ]
 
--- the second is not below the first
-next_is : (a b : Entry) (es : List Entry) → IsOrdered (a ∷ b ∷ es) → a.position ≤ b.position
-next_is a b es h =
-    let first : is_lt (output_cmp votes_query (output_of b) (output_of a)) ≡ false = h 0 (output_of a) (omega arith) (omega arith) in
-    let least : nat_lt b.position a.position ≡ false = not_less b.position a.position (rw value_cmp-Int at first) in
-    grind (arith, nat_tests)
-
-rest_is : (a : Entry) (es : List Entry) → IsOrdered (a ∷ es) → IsOrdered es
-rest_is a es h k d low high =
-    let next : suc k + 1 ≡ suc (k + 1) = omega arith in
-    subst (λ n. is_lt (output_cmp votes_query (get_or (map output_of (a ∷ es)) n d) (get_or (map output_of es) k d)) ≡ false) next (h (suc k) d (omega arith) (omega arith))
-
 here : (p : ℕ) (e : Entry) → e.position ≡ p → (e.position == p) ≡ true
 here p e h = grind (arith, nat_tests)
 
--- with one vote at most at a position they rise
-rise : (q : ℕ) (e : Entry) (es : List Entry) → q < e.position → IsOrdered (e ∷ es) → ((p : ℕ) → times p (e ∷ es) ≤ 1) → AreAbove q (e ∷ es)
-rise q e [] low h once = (low, tt)
-rise q e (f ∷ fs) low h once = (low, rise e.position f fs (apart e f fs (next_is e f fs h) (once e.position)) (rest_is e (f ∷ fs) h) (λ p. let few = once p in omega arith))
-  where
-    apart : (e f : Entry) (fs : List Entry) → e.position ≤ f.position → times e.position (e ∷ f ∷ fs) ≤ 1 → e.position < f.position
-    apart e f fs most few = by (e.position == f.position) refl
-      where
-        by : (b : Bool) → (e.position == f.position) ≡ b → e.position < f.position
-        by true same = absurd (let is = same_number e.position f.position same in let mine = here e.position e refl in let other = here e.position f (sym is) in omega (arith, rw (mine, other) at few))
-        by false other = grind (arith, nat_tests)
+-- outputs of a query whose order is that of a position
+module _ (q : Query) (out : Entry → Output) (by_position : (a b : Entry) → output_cmp q (out a) (out b) ≡ ordering_then (int_cmp (pos a.position) (pos b.position)) Equal) where
+  abbrev pub IsOrdered : List Entry → Type 0
+  IsOrdered es = IsSorted (output_cmp q) (map out es)
+
+  -- the second is not below the first
+  next_is : (a b : Entry) (es : List Entry) → IsOrdered (a ∷ b ∷ es) → a.position ≤ b.position
+  next_is a b es h =
+      let first : is_lt (output_cmp q (out b) (out a)) ≡ false = h 0 (out a) (omega arith) (omega arith) in
+      let least : nat_lt b.position a.position ≡ false = not_less b.position a.position (subst (λ o. is_lt o ≡ false) (by_position b a) first) in
+      grind (arith, nat_tests)
+
+  rest_is : (a : Entry) (es : List Entry) → IsOrdered (a ∷ es) → IsOrdered es
+  rest_is a es h k d low high =
+      let next : suc k + 1 ≡ suc (k + 1) = omega arith in
+      subst (λ n. is_lt (output_cmp q (get_or (map out (a ∷ es)) n d) (get_or (map out es) k d)) ≡ false) next (h (suc k) d (omega arith) (omega arith))
+
+  -- with one at most at a position they rise
+  pub rise : (p : ℕ) (e : Entry) (es : List Entry) → p < e.position → IsOrdered (e ∷ es) → ((n : ℕ) → times n (e ∷ es) ≤ 1) → AreAbove p (e ∷ es)
+  rise p e [] low h once = (low, tt)
+  rise p e (f ∷ fs) low h once = (low, rise e.position f fs (apart e f fs (next_is e f fs h) (once e.position)) (rest_is e (f ∷ fs) h) (λ n. let few = once n in omega arith))
+    where
+      apart : (e f : Entry) (fs : List Entry) → e.position ≤ f.position → times e.position (e ∷ f ∷ fs) ≤ 1 → e.position < f.position
+      apart e f fs most few = by (e.position == f.position) refl
+        where
+          by : (b : Bool) → (e.position == f.position) ≡ b → e.position < f.position
+          by true same = absurd (let is = same_number e.position f.position same in let mine = here e.position e refl in let other = here e.position f (sym is) in omega (arith, rw (mine, other) at few))
+          by false other = grind (arith, nat_tests)
+
+votes_order : (a b : Entry) → output_cmp votes_query (output_of a) (output_of b) ≡ ordering_then (int_cmp (pos a.position) (pos b.position)) Equal
+votes_order a b = rw (value_cmp-Int (pos a.position) (pos b.position)) refl
 
 -- a row that comes after others shows a vote above them
 reach : (n : ℕ) (b : Ballot) (given : List Row) (row : Row) (tail : List Row) (es zs : List Entry) (d : ℕ) → AreShown n b given es → given ++ row ∷ tail ≡ map shown_of zs → AreAbove d zs
@@ -113,8 +119,8 @@ module _ (db : Trees) (n : ℕ) (b : Ballot) (votes : List Entry) (are : AreVote
       by [] is = tt
       by (e ∷ es) is =
           let moved = in_order.1.1 in
-          rise 0 e es (are.least e (has_moved zs votes e (IsPermutation-sym _ _ moved) (subst (λ xs. Has xs e) (sym is) (inl refl))))
-          (subst IsOrdered is (subst (IsSorted (output_cmp votes_query)) in_order.1.0 a.sorted))
+          rise votes_query output_of votes_order 0 e es (are.least e (has_moved zs votes e (IsPermutation-sym _ _ moved) (subst (λ xs. Has xs e) (sym is) (inl refl))))
+          (subst (IsOrdered votes_query output_of votes_order) is (subst (IsSorted (output_cmp votes_query)) in_order.1.0 a.sorted))
           (λ p. subst (λ xs. times p xs ≤ 1) is (let few = are.once p in let same = times_permuted p votes zs moved in omega (arith, few, same)))
 
   abbrev pub Refused : Row → ℕ → Type 0
@@ -131,9 +137,9 @@ module _ (db : Trees) (n : ℕ) (b : Ballot) (votes : List Entry) (are : AreVote
       ]
 
 -- the first rows of an answer are those of some whole one
-pub refuses : (s : State) → s.now.schema ≡ schema → (n : ℕ) (b : Ballot) (votes : List Entry) → AreVotes n b (s.now.trees 1) votes → (given : List Row) (row : Row) (es : List Entry)
+pub refuses : (s : State) → AreTables s.now.schema → (n : ℕ) (b : Ballot) (votes : List Entry) → AreVotes n b (s.now.trees 1) votes → (given : List Row) (row : Row) (es : List Entry)
     → Begins votes_load_text [] s (given ++ row ∷ []) → AreShown n b given es → ShowsNoVote n b row ⊎ ((e : Entry) × Shows n b row e × (1 ≤ e.position) × (e.position ≤ last_of 0 es)) → ⊥
 refuses s known n b votes are given row es begins shown refused =
-    let first = begins_as votes_load_text [] s s schema known _ votes_query_is.0 votes_plain votes_query_is.1 (given ++ row ∷ []) begins in
+    let first = begins_as votes_load_text [] s s (tables_of known.0) known.1 _ (votes_query_is known.0).0 (votes_plain known.0) (votes_query_is known.0).1 (given ++ row ∷ []) begins in
     let start = first.1 in
     none_refused s.now.trees n b votes are ((given ++ row ∷ []) ++ start.0) (start.1 Null) given row start.0 es (append_assoc given (row ∷ []) start.0) shown refused

@@ -1,5 +1,5 @@
 -- Why a statement on the tables of a record fails.
-use Rattle.std.proofs.Common.{◌≡◌, ◌≢◌, inl, inr, ℕ, ◌≤◌, List, [], length, Option, false, Ok, Err, Result, IsSome, refl, sym, ap, subst, ◌∙◌, arith}
+use Rattle.std.proofs.Common.{◌≡◌, ◌≢◌, inl, inr, ℕ, ◌≤◌, List, [], length, Option, Bool, true, false, Ok, Err, Result, IsSome, refl, sym, ap, subst, ◌∙◌, arith}
 use Rattle.std.specs.Prelude.{IfErr}
 use Rattle.sqlite_disk.specs.Disk.{MoreFaults}
 use Rattle.sqlite_trees.specs.declared.error.StoreError.{StoreError}
@@ -17,40 +17,63 @@ use Rattle.sqlite.specs.Command.TheVariants.{Select}
 use Rattle.sqlite.specs.Effect.{Database, RefusesQuery, RefusesToRead}
 use Rattle.sqlite.specs.Listing.{understood, reads_listing, IsSourceOf}
 use Rattle.sqlite.specs.Query.{Query}
-use Rattle.sqlite.specs.State.{State, Fails, FailsToQuery, HasCause, IsNoStatement, IsNotRun, IsUnchanged, Survives, store_error}
+use Rattle.sqlite.specs.State.{State, HasCleanDisk, Fails, FailsToQuery, HasCause, IsNoStatement, IsNotRun, IsUnchanged, Survives, store_error}
 use Rattle.sqlite.proofs.Callers.{IsPlain, command_of}
 use Rattle.sql_records.specs.Faults.{StoreFailed}
-use Rattle.sql_records.specs.Texts.{schema, load_text, votes_load_text}
-use Rattle.sql_records.proofs.Means.{load_query, load_is, load_plain, votes_query, votes_query_is, votes_plain}
+use Rattle.record_tables.specs.Texts.{schema, load_text, votes_load_text, learnt_load_text}
+use Rattle.record_tables.specs.declared.version.Version.{Version}
+use Rattle.record_tables.specs.declared.version.Version.TheVariants.{First, Second}
+use Rattle.record_tables.specs.Versions.{AreTables, tables_of}
+use Rattle.sql_records.proofs.Means.{load_query, load_is, load_plain, votes_query, votes_query_is, votes_plain, learnt_query, learnt_query_is, learnt_plain}
 
 -- it is the whole text, and has so many parameters
 abbrev pub IsWhole : (bytes parameters : ℕ) → Result Compiled CompileError → Type 0
 IsWhole n count (Ok c) = (n ≤ c.tail) × (count ≡ length c.names)
 IsWhole n count (Err e) = ⊥
 
-load_whole : IsWhole (length load_text) 0 (understood schema load_text)
+load_whole : (v : Version) → IsWhole (length load_text) 0 (understood (tables_of v) load_text)
 unfolding understood everything
-load_whole = (omega arith, refl)
+load_whole First = (omega arith, refl)
+load_whole Second = (omega arith, refl)
 
-votes_whole : IsWhole (length votes_load_text) 0 (understood schema votes_load_text)
+votes_whole : (v : Version) → IsWhole (length votes_load_text) 0 (understood (tables_of v) votes_load_text)
 unfolding understood everything
-votes_whole = (omega arith, refl)
+votes_whole First = (omega arith, refl)
+votes_whole Second = (omega arith, refl)
+
+learnt_whole : IsWhole (length learnt_load_text) 0 (understood schema learnt_load_text)
+unfolding understood everything
+learnt_whole = (omega arith, refl)
 
 -- only a limit on the steps refuses it
-abbrev IsRefusedByLimit : Option ℕ → Query → Type 0
-IsRefusedByLimit limit q = (db : Trees) (e : Error) → RefusesQuery limit (record { schema = schema; trees = db }) (record { lets = []; body = q }) [] e → IsSome limit
+abbrev IsRefusedByLimit : Schema → Option ℕ → Query → Type 0
+IsRefusedByLimit tables limit q = (db : Trees) (e : Error) → RefusesQuery limit (record { schema = tables; trees = db }) (record { lets = []; body = q }) [] e → IsSome limit
 
-load_limited : (limit : Option ℕ) → IsRefusedByLimit limit load_query
-load_limited limit db e (inl h) = absurd (let no = h.1 in cc)
-load_limited limit db e (inr (inl (is, inl h))) = absurd h
-load_limited limit db e (inr (inl (is, inr h))) = absurd h.4
-load_limited limit db e (inr (inr h)) = h.1
+load_limited : (v : Version) (limit : Option ℕ) → IsRefusedByLimit (tables_of v) limit load_query
+load_limited First limit db e (inl h) = absurd (let no = h.1 in cc)
+load_limited First limit db e (inr (inl (is, inl h))) = absurd h
+load_limited First limit db e (inr (inl (is, inr h))) = absurd h.4
+load_limited First limit db e (inr (inr h)) = h.1
+load_limited Second limit db e (inl h) = absurd (let no = h.1 in cc)
+load_limited Second limit db e (inr (inl (is, inl h))) = absurd h
+load_limited Second limit db e (inr (inl (is, inr h))) = absurd h.4
+load_limited Second limit db e (inr (inr h)) = h.1
 
-votes_limited : (limit : Option ℕ) → IsRefusedByLimit limit votes_query
-votes_limited limit db e (inl h) = absurd (let no = h.1 in cc)
-votes_limited limit db e (inr (inl (is, inl h))) = absurd h
-votes_limited limit db e (inr (inl (is, inr h))) = absurd h.4
-votes_limited limit db e (inr (inr h)) = h.1
+votes_limited : (v : Version) (limit : Option ℕ) → IsRefusedByLimit (tables_of v) limit votes_query
+votes_limited First limit db e (inl h) = absurd (let no = h.1 in cc)
+votes_limited First limit db e (inr (inl (is, inl h))) = absurd h
+votes_limited First limit db e (inr (inl (is, inr h))) = absurd h.4
+votes_limited First limit db e (inr (inr h)) = h.1
+votes_limited Second limit db e (inl h) = absurd (let no = h.1 in cc)
+votes_limited Second limit db e (inr (inl (is, inl h))) = absurd h
+votes_limited Second limit db e (inr (inl (is, inr h))) = absurd h.4
+votes_limited Second limit db e (inr (inr h)) = h.1
+
+learnt_limited : (limit : Option ℕ) → IsRefusedByLimit schema limit learnt_query
+learnt_limited limit db e (inl h) = absurd (let no = h.1 in cc)
+learnt_limited limit db e (inr (inl (is, inl h))) = absurd h
+learnt_limited limit db e (inr (inl (is, inr h))) = absurd h.4
+learnt_limited limit db e (inr (inr h)) = h.1
 
 module _ (old new : State) where
   -- a failure for want of memory is told as that
@@ -83,15 +106,15 @@ module _ (old new : State) where
     not_run e (inl h) other = absurd (no_statement e h.0)
     not_run e (inr h) other = fails_by (λ none. absurd none) e h other
 
-  module _ (sql : List ℕ) (has : old.now.schema ≡ schema) (plain : IsPlain (understood schema sql)) (whole : IsWhole (length sql) 0 (understood schema sql)) where
-    module _ (q : Query) (names : List (List ℕ)) (is : command_of (understood schema sql) ≡ Select (record { lets = []; body = q }) names) (unlisted : reads_listing schema sql ≡ false)
-        (limited : IsRefusedByLimit old.step_limit q) where
-      refused : (db : Database) (e : Error) → db.schema ≡ schema → RefusesQuery old.step_limit db (record { lets = []; body = q }) [] e → IsSome old.step_limit
+  module _ (sql : List ℕ) (tables : Schema) (has : old.now.schema ≡ tables) (plain : IsPlain (understood tables sql)) (whole : IsWhole (length sql) 0 (understood tables sql)) where
+    module _ (q : Query) (names : List (List ℕ)) (is : command_of (understood tables sql) ≡ Select (record { lets = []; body = q }) names) (unlisted : reads_listing tables sql ≡ false)
+        (limited : IsRefusedByLimit tables old.step_limit q) where
+      refused : (db : Database) (e : Error) → db.schema ≡ tables → RefusesQuery old.step_limit db (record { lets = []; body = q }) [] e → IsSome old.step_limit
       refused db e known h = limited db.trees e (subst (λ s. RefusesQuery old.step_limit (record { schema = s; trees = db.trees }) (record { lets = []; body = q }) [] e) known h)
 
       pub store_failed : (e : Error) → FailsToQuery sql [] old new e → e ≢ SqliteFailure code.OutOfMemory → StoreFailed old new
       unfolding FailsToQuery
-      store_failed e (inl h) other = not_run sql [] schema has plain whole e h other
+      store_failed e (inl h) other = not_run sql [] tables has plain whole e h other
       store_failed e (inr h) other =
           let known = sym h.1.is ∙ ap (λ s. understood s sql) has in
           let p = subst IsPlain (sym known) plain in
@@ -99,11 +122,17 @@ module _ (old new : State) where
           let db : it.0 ≡ old.now = subst (λ b. IsSourceOf b old.now it.0) (ap (λ s. reads_listing s sql) has ∙ unlisted) it.1 in
           inr (inr (refused it.0 e (ap (λ (d : Database). d.schema) db ∙ has) (subst (λ k. RefusesToRead old.step_limit k it.0 [] e) (ap command_of known ∙ is) it.2)))
 
-pub load_failed : (old new : State) → old.now.schema ≡ schema → (e : Error) → FailsToQuery load_text [] old new e → e ≢ SqliteFailure code.OutOfMemory → StoreFailed old new
-load_failed old new has e h other = store_failed old new load_text has load_plain load_whole load_query _ load_is.0 load_is.1 (load_limited old.step_limit) e h other
+pub load_failed : (old new : State) → AreTables old.now.schema → (e : Error) → FailsToQuery load_text [] old new e → e ≢ SqliteFailure code.OutOfMemory → StoreFailed old new
+load_failed old new t e h other =
+    store_failed old new load_text (tables_of t.0) t.1 (load_plain t.0) (load_whole t.0) load_query _ (load_is t.0).0 (load_is t.0).1 (load_limited t.0 old.step_limit) e h other
 
-pub votes_failed : (old new : State) → old.now.schema ≡ schema → (e : Error) → FailsToQuery votes_load_text [] old new e → e ≢ SqliteFailure code.OutOfMemory → StoreFailed old new
-votes_failed old new has e h other = store_failed old new votes_load_text has votes_plain votes_whole votes_query _ votes_query_is.0 votes_query_is.1 (votes_limited old.step_limit) e h other
+pub votes_failed : (old new : State) → AreTables old.now.schema → (e : Error) → FailsToQuery votes_load_text [] old new e → e ≢ SqliteFailure code.OutOfMemory → StoreFailed old new
+votes_failed old new t e h other =
+    store_failed old new votes_load_text (tables_of t.0) t.1 (votes_plain t.0) (votes_whole t.0) votes_query _ (votes_query_is t.0).0 (votes_query_is t.0).1 (votes_limited t.0 old.step_limit) e h other
+
+pub learnt_failed : (old new : State) → old.now.schema ≡ schema → (e : Error) → FailsToQuery learnt_load_text [] old new e → e ≢ SqliteFailure code.OutOfMemory → StoreFailed old new
+learnt_failed old new has e h other =
+    store_failed old new learnt_load_text schema has learnt_plain learnt_whole learnt_query _ learnt_query_is.0 learnt_query_is.1 (learnt_limited old.step_limit) e h other
 
 more_since : (a b c : ℕ) → a ≤ b → MoreFaults b c → MoreFaults a c
 more_since a b c low more = grind (arith, low, more)
@@ -114,6 +143,29 @@ since old mid new P same kept (inl more) = inl (more_since old.faults mid.faults
 since old mid new P same kept (inr (inl shut)) = absurd (let up = same.0.is_open in cc)
 since old mid new P same kept (inr (inr limit)) = inr (inr (subst IsSome kept.limit limit))
 
-pub load_fails : {V : Type 0} (old new : State) → old.now.schema ≡ schema → (r : Result V Error) → IfErr r (FailsToQuery load_text [] old new) → IfErr r (λ e. e ≢ SqliteFailure code.OutOfMemory → StoreFailed old new)
-load_fails old new has (Ok v) h = tt
-load_fails old new has (Err e) h = load_failed old new has e h
+still_more : (a b c : ℕ) → MoreFaults a b → b ≤ c → MoreFaults a c
+still_more a b c more low = grind (arith, more, low)
+
+-- what fails later fails as well from before a call that survives
+pub later : (old mid new : State) (P : Trees → Type 0) → HasCleanDisk mid → Survives old mid P → mid.faults ≤ new.faults → StoreFailed mid new → StoreFailed old new
+later old mid new P clean kept grows (inl more) = inl (more_since old.faults mid.faults new.faults kept.counts more)
+later old mid new P clean kept grows (inr (inl shut)) = by old.is_open refl
+  where
+    by : (b : Bool) → old.is_open ≡ b → StoreFailed old new
+    by false closed = inr (inl closed)
+    by true up = elim (kept.closes clean up) [ inl still ↦ absurd (let both : true ≡ false = sym still ∙ shut in cc) | inr more ↦ inl (still_more old.faults mid.faults new.faults more grows) ]
+later old mid new P clean kept grows (inr (inr limit)) = inr (inr (subst IsSome kept.limit limit))
+
+pub err_later : {V : Type 0} (old mid new : State) (P : Trees → Type 0) → HasCleanDisk mid → Survives old mid P → mid.faults ≤ new.faults → (r : Result V Error) → IfErr r (λ e. e ≢ SqliteFailure code.OutOfMemory → StoreFailed mid new)
+    → IfErr r (λ e. e ≢ SqliteFailure code.OutOfMemory → StoreFailed old new)
+err_later old mid new P clean kept grows (Ok v) h = tt
+err_later old mid new P clean kept grows (Err e) h = λ other. later old mid new P clean kept grows (h other)
+
+-- what has failed has still failed after another call
+pub store_still : (old mid new : State) → mid.faults ≤ new.faults → StoreFailed old mid → StoreFailed old new
+store_still old mid new grows (inl more) = inl (still_more old.faults mid.faults new.faults more grows)
+store_still old mid new grows (inr rest) = inr rest
+
+pub load_fails : {V : Type 0} (old new : State) → AreTables old.now.schema → (r : Result V Error) → IfErr r (FailsToQuery load_text [] old new) → IfErr r (λ e. e ≢ SqliteFailure code.OutOfMemory → StoreFailed old new)
+load_fails old new t (Ok v) h = tt
+load_fails old new t (Err e) h = load_failed old new t e h

@@ -6,28 +6,34 @@ use Rattle.sqlite.specs.Effect.{Database}
 use Rattle.ballots.specs.Terms.{Setup}
 use Rattle.ballots.specs.declared.ballot.Ballot.{Ballot}
 use Rattle.paxos.specs.Records.{Record}
-use Rattle.sql_records.specs.Texts.{no_schema, schema}
+use Rattle.record_tables.specs.Texts.{no_schema}
+use Rattle.record_tables.specs.declared.version.Version.{Version}
+use Rattle.record_tables.specs.Versions.{number_of, tables_of}
 use Rattle.sql_records.specs.Stored.{IsPromise, IsSetup, IsStored, meta_row}
 
--- The one row of the member's table is that of some member, with a promise, and not the row of this one: another group, member, number of
--- members or list of names.
-pub record IsAnothers (o : Setup) (db : Database) : Type 0 where
-  pub known : db.schema ≡ schema
+-- The one row of the member's table is that of some member, in the version of the tables, with a promise, and not the row of this one:
+-- another group, member, number of members or list of names.
+pub record IsAnothersIn (version : Version) (o : Setup) (db : Database) : Type 0 where
+  pub known : db.schema ≡ tables_of version
   pub other : Setup
   pub numbers : IsSetup other
   pub promise : Ballot
-  pub row : db.trees 0 ≡ meta_row other promise.round promise.member ∷ []
+  pub row : db.trees 0 ≡ meta_row (number_of version) other promise.round promise.member ∷ []
   pub sound : IsPromise other.members promise
-  pub differs : meta_row other promise.round promise.member ≢ meta_row o promise.round promise.member
+  pub differs : meta_row (number_of version) other promise.round promise.member ≢ meta_row (number_of version) o promise.round promise.member
 
--- If the tables are those of a record, then no record of this member stands in them, nor another member's row.
-pub record HoldsNone (o : Setup) (db : Database) : Type 0 where
-  pub none : db.schema ≡ schema → (r : Record) → ¬ IsStored o db.trees r
-  pub nobody : ¬ IsAnothers o db
+-- so it is in one of the versions
+abbrev pub IsAnothers : Setup → Database → Type 0
+IsAnothers o db = (version : Version) × IsAnothersIn version o db
 
--- There are tables: other ones than those of a record, or these with no record of this member and no row of another.
+-- If the tables are those of that version of a record, then no record of this member stands in them, nor another member's row.
+pub record HoldsNone (version : Version) (o : Setup) (db : Database) : Type 0 where
+  pub none : db.schema ≡ tables_of version → (r : Record) → ¬ IsStored version o db.trees r
+  pub nobody : ¬ IsAnothersIn version o db
+
+-- There are tables: other ones than those of a record, or those of a version with no record of this member in it and no row of another.
 abbrev pub IsDamaged : Setup → Database → Type 0
-IsDamaged o db = (db.schema ≢ no_schema) × HoldsNone o db
+IsDamaged o db = (db.schema ≢ no_schema) × ((version : Version) → HoldsNone version o db)
 
 -- Why a store is said to have failed: the disk failed or refused in the call, or the connection was shut, or its statements may take only
 -- so many steps.

@@ -1,12 +1,32 @@
 -- What opened records stand over.
-use Rattle.sqlite.specs.Held.{Held}
-use Rattle.ballots.specs.Terms.{Setup}
-use Rattle.sql_records.specs.declared.store.SqlRecords.{SqlRecords}
+use Rattle.std.specs.Prelude.{ℕ, IsTrue, Option, IfSome, refl}
+use Rattle.std.specs.Coded.{Coded, code_by, coded×, coded_ℕ}
+use Rattle.sqlite.specs.State.{HasCleanDisk}
+use Rattle.sqlite.specs.Store.{Ghosts}
+use Rattle.sqlite.specs.Held.{Held, held_code, state}
+use Rattle.ballots.specs.Terms.{Setup, setup_code}
+use Rattle.paxos.specs.Records.{Record}
+use Rattle.sql_records.specs.Holds.{Holds}
+
+-- opened records: the connection, the member whose records they are, and in how many calls the store has failed
+pub record Opened (S : Type 0) : Type 0 where
+  pub connection : Held S
+  pub setup : Setup
+  pub failures : ℕ
+
+-- how a proof tells them apart
+abbrev pub opened_code : {S : Type 0} → Coded S → Coded (Opened S)
+opened_code {S} store =
+    code_by (Held S × (Setup × ℕ)) (coded× (held_code store) (coded× setup_code coded_ℕ)) (λ s. (s.connection, (s.setup, s.failures))) (λ p. record { connection = p.0; setup = p.1.0; failures = p.1.1 }) (λ _. refl)
 
 -- the connection
-abbrev pub connection_of : {S : Type 0} → SqlRecords S → Held S
+abbrev pub connection_of : {S : Type 0} → Opened S → Held S
 connection_of s = s.connection
 
 -- the member whose records they are
-abbrev pub owner : {S : Type 0} → SqlRecords S → Setup
+abbrev pub owner : {S : Type 0} → Opened S → Setup
 owner s = s.setup
+
+-- A record that was read, as long as it is held, is the one that stands, and the connection is open: so far as the disk is clean.
+abbrev pub IsCurrent : {S : Type 0} → Ghosts S → Held S → Setup → Option Record → Type 0
+IsCurrent g h o read = IfSome read (λ r. HasCleanDisk (state g h) → IsTrue (state g h).is_open × Holds (state g h) o r r)

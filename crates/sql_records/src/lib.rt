@@ -3,8 +3,10 @@
 
 mod creation;
 mod docs;
-mod layout;
+mod keep;
+mod learnt;
 mod load;
+mod migration;
 mod opening;
 mod promise;
 mod reading;

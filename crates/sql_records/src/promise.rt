@@ -10,21 +10,24 @@ ghost use Rattle.ballots.specs.Ballot.{IsBallot, below};
 ghost use Rattle.paxos.specs.Records.{Record, NewPromise, written};
 ghost use Rattle.records.specs.Law.{Puts};
 ghost use Rattle.sql_records.specs.Holds.{Failed, Holds, Written};
-ghost use Rattle.sql_records.specs.Texts.{promise_text};
+ghost use Rattle.record_tables.specs.Texts.{promise_text};
 
 use ballots::Ballot;
 use records::RecordsFault;
 use sqlite::{Alter, Connection, Error, ErrorCode, Statement, params};
 
-/// Reads the statement. Nothing is written by it, and where it succeeds the connection is open. It fails with the error of the store, and
+/// The statement that writes a promise.
+pub(super) const PROMISE: &str = "UPDATE meta SET round = ?1, leader = ?2";
+
+/// Reads a statement. Nothing is written by it, and where it succeeds the connection is open. It fails with the error of the store, and
 /// then the record stands as before, too.
-pub(super) fn look<S: Alter>(connection: &mut Connection<S>) -> Result<Statement, Error>
+pub(super) fn look<S: Alter>(connection: &mut Connection<S>, text: &str) -> Result<Statement, Error>
     ensures holds { HasCleanDisk (state S.Store connection.new) → (o : Setup) (a b : Record) → Holds (state S.Store connection.old) o a b → Holds (state S.Store connection.new) o a b }
     ensures open { HasCleanDisk (state S.Store connection.new) → OnOk result (IsTrue (state S.Store connection.new).is_open × IsTrue (state S.Store connection.old).is_open) }
-    ensures text { HasCleanDisk (state S.Store connection.new) → IfOk result (λ s. s.text ≡ promise_text) }
+    ensures text { HasCleanDisk (state S.Store connection.new) → IfOk result (λ s. s.text ≡ text.now) }
     ensures clean { doubt (state S.Store connection.old).is_clean ≤ doubt (state S.Store connection.new).is_clean }
 {
-    connection.prepare("UPDATE meta SET round = ?1, leader = ?2")
+    connection.prepare(text)
 }
 
 /// Whether memory was refused.
@@ -73,7 +76,7 @@ pub(super) fn judge<S: Alter>(
     if !is_memory(error) {
         return Err(RecordsFault::Store);
     }
-    match look(connection) {
+    match look(connection, PROMISE) {
         Ok(_) => Err(RecordsFault::Memory),
         Err(_) => Err(RecordsFault::Store),
     }
@@ -91,7 +94,7 @@ pub(super) fn put_promise<S: Alter>(
         → Holds (state S.Store connection.old) o last last → Puts (Holds (state S.Store connection.new) o) last (written (NewPromise ballot) last) result }
     ensures clean { doubt (state S.Store connection.old).is_clean ≤ doubt (state S.Store connection.new).is_clean }
 {
-    let statement = match look(connection) {
+    let statement = match look(connection, PROMISE) {
         Ok(statement) => statement,
         Err(error) if is_memory(&error) => return Err(RecordsFault::Memory),
         Err(_) => return Err(RecordsFault::Store),

@@ -1,6 +1,6 @@
 //! From rows to a record.
 
-ghost use Rattle.std.specs.Prelude.{◌≡◌, ◌≢◌, ◌⊎◌, ◌≤◌, ◌<◌, ◌+◌, ◌^◌, [], ◌∷◌, ◌↔◌, ℕ, pos, IfOk, IsErrOf, IsTrue, OnOk};
+ghost use Rattle.std.specs.Prelude.{◌≡◌, ◌≢◌, ◌⊎◌, ◌≤◌, ◌<◌, ◌+◌, ◌^◌, [], ◌∷◌, ◌↔◌, ℕ, suc, pos, length, IfOk, IsErrOf, IsTrue, OnOk};
 ghost use Rattle.ballots.specs.Terms.{IsPlace, Setup as Owner};
 ghost use Rattle.paxos.specs.WellFormed.{IsBallotOf};
 ghost use Rattle.ballots.specs.Values.{positions};
@@ -10,14 +10,15 @@ ghost use Rattle.ballots.specs.Spelling.{AreBytes, IsValue, value_spelling};
 ghost use Rattle.ballots.specs.declared.ballot.Ballot.{Ballot as BallotTerm};
 ghost use Rattle.ballots.specs.declared.value.Entry.{Entry as EntryTerm};
 ghost use Rattle.ballots.specs.declared.value.Value.{Value as ValueTerm};
-ghost use Rattle.paxos.specs.Records.{with_vote};
+ghost use Rattle.paxos.specs.Records.{NewLearnt, with_vote, written};
 ghost use Rattle.sql_records.specs.Stored.{IsPromise, IsSetup, joined};
-ghost use Rattle.sql_records.specs.Reading.{Shows, ShowsAnother, ShowsMember, ShowsNoMember, ShowsNoVote, ShowsOwner};
+ghost use Rattle.sql_records.specs.Reading.{Shows, ShowsAnother, ShowsLearnt, ShowsMember, ShowsNoMember, ShowsNotNext, ShowsNoVote, ShowsOwner};
 
 use super::docs;
 use ballots::laws::spellings;
 use ballots::limits::{LAST_ROUND, MOST_MEMBERS, POSITIONS};
 use ballots::{Ballot, Entry, Setup, Value, ValueFault, Vote, take_value};
+use record_tables::Version;
 use records::Record;
 use sqlite::types::FromSql;
 use sqlite::{Error, ErrorCode, Row};
@@ -161,6 +162,7 @@ pub(super) fn add_vote(
     ensures not_other { IsErrOf result OpenFault.Other → ⊥ }
     ensures not_store { IsErrOf result OpenFault.Store → ⊥ }
     ensures added { OnOk result ((e : EntryTerm) × Shows members promise row.now e × (last.old < e.position) × (last.new ≡ e.position) × (found.new.votes ≡ with_vote e.position e.vote found.old.votes)) }
+    ensures learnt { OnOk result (found.new.learnt ≡ found.old.learnt) }
     ensures damaged { IsErrOf result OpenFault.Damaged → ShowsNoVote members promise row.now ⊎ ((e : EntryTerm) × Shows members promise row.now e × (1 ≤ e.position) × (e.position ≤ last.old)) }
 {
     let entry = read_vote(alloc, row, promise, members)?;
@@ -174,24 +176,69 @@ pub(super) fn add_vote(
     }
 }
 
-/// The promise in the row of this member.
+/// The value that a row shows as learnt at a position.
+fn read_learnt(alloc: Global, row: &Row, next: u32) -> Result<Value, OpenFault>
+    ensures not_other { IsErrOf result OpenFault.Other → ⊥ }
+    ensures not_store { IsErrOf result OpenFault.Store → ⊥ }
+    ensures shows { IfOk result (ShowsLearnt next row.now) }
+    ensures damaged { IsErrOf result OpenFault.Damaged → (v : ValueTerm) → ¬ ShowsLearnt next row.now v }
+{
+    let position: u32 = column(row, 0)?;
+    if position != next {
+        return Err(OpenFault::Damaged);
+    }
+    let Ok(ValueRef::Blob(bytes)) = row.get_ref(1) else {
+        return Err(OpenFault::Damaged);
+    };
+    read_value(alloc, bytes)
+}
+
+/// Keeps the value that a row shows as learnt behind the last one of a record. Its position has to be the next one.
+///
+/// Faults, which leave the record as it is: `Memory` where memory is refused; `Damaged` where there is no further position, or the row
+/// shows no value that is learnt there.
+#[tactic(auto, unfolding(ballots::specs::Values::positions))]
+pub(super) fn add_learnt(alloc: Global, row: &Row, found: &mut Record) -> Result<(), OpenFault>
+    ensures not_other { IsErrOf result OpenFault.Other → ⊥ }
+    ensures not_store { IsErrOf result OpenFault.Store → ⊥ }
+    ensures few { length found.old.learnt ≤ positions }
+    ensures added { OnOk result ((v : ValueTerm) × ShowsLearnt (suc (length found.old.learnt)) row.now v × (length found.old.learnt < positions) × (found.new ≡ written (NewLearnt v) found.old)) }
+    ensures damaged { IsErrOf result OpenFault.Damaged → ShowsNotNext (suc (length found.old.learnt)) row.now }
+{
+    let last = found.learnt_to();
+    if last >= POSITIONS {
+        return Err(OpenFault::Damaged);
+    }
+    let value = read_learnt(alloc, row, last + 1)?;
+    match found.push_learnt(value) {
+        Ok(()) => Ok(()),
+        Err(_) => Err(OpenFault::Memory),
+    }
+}
+
+/// The promise in the row of this member, in that version.
 ///
 /// Faults: `Memory` where memory is refused; `Other` where the row is another member's; `Damaged` where there is not just one row, or it is
 /// that of no member.
-pub(super) fn read_member(alloc: Global, rows: &[Row], setup: &Setup) -> Result<Ballot, OpenFault>
-    ensures other { IsErrOf result OpenFault.Other → ShowsAnother setup.now rows.now }
+pub(super) fn read_member(
+    alloc: Global,
+    rows: &[Row],
+    setup: &Setup,
+    version: Version,
+) -> Result<Ballot, OpenFault>
+    ensures other { IsErrOf result OpenFault.Other → ShowsAnother version setup.now rows.now }
     ensures not_store { IsErrOf result OpenFault.Store → ⊥ }
-    ensures shows { IfOk result (λ b. (row : _) × (rows.now ≡ row ∷ []) × ShowsMember setup.now b row) }
-    ensures damaged { IsErrOf result OpenFault.Damaged → ShowsNoMember rows.now }
+    ensures shows { IfOk result (λ b. (row : _) × (rows.now ≡ row ∷ []) × ShowsMember version setup.now b row) }
+    ensures damaged { IsErrOf result OpenFault.Damaged → ShowsNoMember version rows.now }
 {
     let [row] = rows else {
         return Err(OpenFault::Damaged);
     };
     let id: u32 = column(row, 0)?;
-    let version: u32 = column(row, 1)?;
+    let number: u32 = column(row, 1)?;
     let members: u32 = column(row, 4)?;
     let ballot = read_ballot(row, 6, 7)?;
-    if id != 1 || version != 1 || !is_promise(ballot, members) {
+    if id != 1 || number != version.number() || !is_promise(ballot, members) {
         return Err(OpenFault::Damaged);
     }
     if !is_of(alloc, row, setup)? {

@@ -1,9 +1,10 @@
 //! Records in a SQLite database.
 
-ghost use Rattle.std.specs.Prelude.{◌≡◌, ◌≤◌, ◌↔◌, None, false, IsTrue};
+ghost use Rattle.std.specs.Prelude.{◌≡◌, ◌≤◌, ◌↔◌, None, Some, false, IsTrue};
 ghost use Rattle.records.specs.Law.{Counts, Grew};
-ghost use Rattle.sql_records.specs.Opened.{connection_of};
+ghost use Rattle.sql_records.specs.Opened.{IsCurrent, connection_of};
 
+use super::keep::put_learnt;
 use super::load::load;
 use super::promise::put_promise;
 use super::reading::OpenFault;
@@ -13,6 +14,7 @@ use ballots::{Ballot, Setup, Value, put_value};
 use records::{PlannedRecords, Record, Records, RecordsFault};
 use sqlite::{Alter, Connection};
 use std::alloc::Global;
+use std::marker::Model;
 
 /// The record of one member in a SQLite database.
 #[derive(Drop)]
@@ -20,17 +22,33 @@ pub struct SqlRecords<S: Alter> {
     connection: Connection<S>,
     setup: Setup,
     failures: u64,
+    /// The record that was read when they were opened, up to the first load or write.
+    read: Option<Record>,
+}
+
+impl<S: Alter> Model for SqlRecords<S> {
+    ghost use Rattle.sql_records.specs.Opened.{Opened, opened_code, IsCurrent};
+
+    ghost Value = { Opened S };
+
+    ghost coded = { opened_code S.code };
+
+    ghost view = { λ s. record { connection = s.connection; setup = s.setup; failures = s.failures } };
+
+    ghost invariant = { λ s. IsCurrent S.Store s.connection s.setup s.read };
 }
 
 impl<S: Alter> SqlRecords<S> {
-    /// The records over a connection, with no failures.
-    pub(super) fn new(connection: Connection<S>, setup: Setup) -> SqlRecords<S>
+    /// The records over a connection, with no failures, and the record that was read there.
+    pub(super) fn new(connection: Connection<S>, setup: Setup, read: Record) -> SqlRecords<S>
+        requires { IsCurrent S.Store connection setup (Some read) }
         ensures { result ≡ record { connection = connection; setup = setup; failures = 0 } }
     {
         SqlRecords {
             connection,
             setup,
             failures: 0,
+            read: Some(read),
         }
     }
 
@@ -42,6 +60,7 @@ impl<S: Alter> SqlRecords<S> {
             connection,
             setup: _,
             failures: _,
+            read: _,
         } = self;
         connection
     }
@@ -96,6 +115,10 @@ impl<S: Alter> Records for SqlRecords<S> {
     ghost passes = { λ s. false };
 
     fn load(&mut self, alloc: Global) -> Result<Record, RecordsFault> {
+        spellings();
+        if let Some(record) = self.read.take() {
+            return Ok(record);
+        }
         match load(alloc, &mut self.connection, &self.setup) {
             Ok(record) => Ok(record),
             Err(OpenFault::Memory) => Err(RecordsFault::Memory),
@@ -105,6 +128,7 @@ impl<S: Alter> Records for SqlRecords<S> {
 
     fn put_promise(&mut self, _alloc: Global, ballot: Ballot) -> Result<(), RecordsFault> {
         spellings();
+        self.read = None;
         if !has_member(&self.setup, ballot) {
             return Err(count(&mut self.failures));
         }
@@ -120,6 +144,7 @@ impl<S: Alter> Records for SqlRecords<S> {
         value: &Value,
     ) -> Result<(), RecordsFault> {
         spellings();
+        self.read = None;
         if !has_member(&self.setup, ballot) {
             return Err(count(&mut self.failures));
         }
@@ -128,6 +153,22 @@ impl<S: Alter> Records for SqlRecords<S> {
             return Err(RecordsFault::Memory);
         }
         let done = put_vote(&mut self.connection, ballot, position, bytes.as_slice());
+        answer(&mut self.failures, done)
+    }
+
+    fn put_learnt(
+        &mut self,
+        alloc: Global,
+        position: u32,
+        value: &Value,
+    ) -> Result<(), RecordsFault> {
+        spellings();
+        self.read = None;
+        let mut bytes = Vec::new(alloc);
+        if put_value(value, &mut bytes).is_err() {
+            return Err(RecordsFault::Memory);
+        }
+        let done = put_learnt(&mut self.connection, position, bytes.as_slice());
         answer(&mut self.failures, done)
     }
 

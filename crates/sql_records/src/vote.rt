@@ -13,7 +13,7 @@ ghost use Rattle.paxos.specs.Records.{Record, NewPromise, NewVote, written};
 ghost use Rattle.records.specs.Law.{Puts};
 ghost use Rattle.sql_records.specs.Holds.{Holds, Under, Sees, Written};
 
-use super::promise::{is_memory, judge, look, round_of};
+use super::promise::{PROMISE, is_memory, judge, look, round_of};
 use ballots::Ballot;
 use records::RecordsFault;
 use sqlite::{Alter, Connection, Error, Transaction, params};
@@ -107,7 +107,7 @@ pub(super) fn put_vote<S: Alter>(
         → Puts (Holds (state S.Store connection.new) o) last (written (NewVote position (record { ballot = ballot; value = v })) last) result }
     ensures clean { doubt (state S.Store connection.old).is_clean ≤ doubt (state S.Store connection.new).is_clean }
 {
-    match look(connection) {
+    match look(connection, PROMISE) {
         Ok(_) => {}
         Err(error) if is_memory(&error) => return Err(RecordsFault::Memory),
         Err(_) => return Err(RecordsFault::Store),

@@ -1,6 +1,6 @@
 //! The votes of a record, one row at a time.
 
-ghost use Rattle.std.specs.Prelude.{◌≡◌, List, map, IfOk, IsErrOf, OnOk, IsPermutation};
+ghost use Rattle.std.specs.Prelude.{◌≡◌, List, [], map, IfOk, IsErrOf, OnOk, IsPermutation};
 ghost use Rattle.sqlite.specs.State.{HasCleanDisk, IsUnchanged, Survives};
 ghost use Rattle.sqlite.specs.Order.{Row as RowTerm};
 ghost use Rattle.sqlite.specs.Held.{state};
@@ -9,7 +9,7 @@ ghost use Rattle.records.specs.Kept.{IsRising};
 ghost use Rattle.sql_records.specs.Faults.{StoreFailed};
 ghost use Rattle.sql_records.specs.Holds.{Ended};
 ghost use Rattle.sql_records.specs.Reading.{AreShown, AreVotes, vote_shown};
-ghost use Rattle.sql_records.specs.Texts.{schema};
+ghost use Rattle.record_tables.specs.Versions.{AreTables};
 
 use super::load::fault_of;
 use super::reading::{OpenFault, add_vote};
@@ -19,7 +19,7 @@ use records::Record;
 use sqlite::{Alter, Connection};
 use std::alloc::Global;
 
-/// The record of that promise and the votes that the table shows, whose positions rise. Beside the record it holds some rows at a time.
+/// The record of that promise and the votes that the table shows, whose positions rise, with nothing kept as learnt. Beside the record it holds some rows at a time.
 ///
 /// Faults: `Memory` where memory is refused; `Store` where the store failed; `Damaged` where the rows are not those of votes that may stand
 /// under that promise. Nothing has changed then, or what was under way was rolled back.
@@ -29,10 +29,11 @@ pub(super) fn load_votes<S: Alter>(
     promise: Ballot,
     members: u32,
 ) -> Result<Record, OpenFault>
-    requires { HasCleanDisk (state S.Store connection.old) → (state S.Store connection.old).now.schema ≡ schema }
+    requires { HasCleanDisk (state S.Store connection.old) → AreTables (state S.Store connection.old).now.schema }
     ensures votes { HasCleanDisk (state S.Store connection.new) → IfOk result (λ r. (rows : List RowTerm) × IsPermutation (map vote_shown ((state S.Store connection.old).now.trees 1)) rows × AreShown members promise rows r.votes) }
     ensures promise { IfOk result (λ r. r.promise ≡ promise) }
     ensures rising { IfOk result IsRising }
+    ensures learnt { IfOk result (λ r. r.learnt ≡ []) }
     ensures not_other { IsErrOf result OpenFault.Other → ⊥ }
     ensures store { HasCleanDisk (state S.Store connection.new) → IsErrOf result OpenFault.Store → StoreFailed (state S.Store connection.old) (state S.Store connection.new) }
     ensures damaged { HasCleanDisk (state S.Store connection.new) → IsErrOf result OpenFault.Damaged → (votes : List EntryTerm) → ¬ AreVotes members promise ((state S.Store connection.old).now.trees 1) votes }

@@ -1,7 +1,7 @@
 //! Calls of an acceptor over a database.
 //!
-//! `begin ROUND MEMBER`, `prepare ROUND MEMBER POSITION` and `accept POSITION ROUND MEMBER`, which votes for the no-op. What
-//! the rules refuse is `silent`.
+//! `begin ROUND MEMBER`, `prepare ROUND MEMBER POSITION`, `accept POSITION ROUND MEMBER`, which votes for the no-op, and `keep`, which
+//! keeps the no-op as learnt at the next position. What the rules refuse is `silent`.
 
 ghost use Rattle.std.specs.Prelude.{◌≡◌, ◌≤◌, true};
 ghost use Rattle.ballots.specs.Ballot.{IsBallot};
@@ -79,6 +79,7 @@ fn play<R: Records + Drop>(
         "begin" => begin(alloc, acceptor, &mut words)?,
         "prepare" => prepare(alloc, acceptor, &mut words)?,
         "accept" => accept(alloc, acceptor, &mut words)?,
+        "keep" => keep(alloc, acceptor)?,
         _ => return Err(RowFault::NotARow),
     };
     answers.push_str(answer.as_str())?;
@@ -177,6 +178,22 @@ fn accept<R: Records + Drop>(
     match acceptor.on_accept(alloc, position, &vote(ballot)) {
         Ok(true) => Ok(String::from_str(alloc, "accepted")?),
         Ok(false) => Ok(String::from_str(alloc, "silent")?),
+        Err(fault) => failed(alloc, fault),
+    }
+}
+
+/// Keeps the no-op as learnt at the next position, and says how many values are kept. Fault: `NotARow` where all positions have one, among
+/// others.
+#[tactic(auto, unfolding(ballots::specs::Values::positions))]
+fn keep<R: Records + Drop>(alloc: Global, acceptor: &mut Acceptor<R>) -> Result<String, RowFault> {
+    if acceptor.kept() >= POSITIONS {
+        return Err(RowFault::NotARow);
+    }
+    match acceptor.on_keep(alloc, &Value::NoOp) {
+        Ok(()) => {
+            let kept = acceptor.kept();
+            Ok(format!(in alloc; "kept {kept}")?)
+        }
         Err(fault) => failed(alloc, fault),
     }
 }

@@ -2,7 +2,7 @@
 
 use super::failing::FailingDisk;
 use super::memory::{Kind, in_empty};
-use super::opening::{first_setup, found};
+use super::opening::{after_statements, first_setup, found};
 use super::results::{both, or_not_a_row};
 use super::using::use_where_connected;
 use ballots::Setup;
@@ -13,6 +13,10 @@ use std::alloc::Global;
 
 /// A promise, and a vote by a ballot above it.
 const PROMISE_AND_VOTE: &str = "begin 1 3\naccept 5 3 2";
+
+/// A record of version 1: 2,2 is promised, and voted for the no-op at position 1.
+const FIRST_VERSION: &str =
+    "CREATE TABLE meta (id INTEGER PRIMARY KEY CHECK (id = 1), version INTEGER NOT NULL, grp INTEGER NOT NULL, member INTEGER NOT NULL, members INTEGER NOT NULL, docs TEXT NOT NULL, round INTEGER NOT NULL, leader INTEGER NOT NULL) STRICT; CREATE TABLE votes (position INTEGER PRIMARY KEY, round INTEGER NOT NULL, leader INTEGER NOT NULL, value BLOB NOT NULL) STRICT; INSERT INTO meta VALUES (1, 1, 7, 1, 3, 'db', 2, 2); INSERT INTO votes VALUES (1, 2, 2, x'00')";
 
 /// The connection to files, or the files again where there is none.
 type Connected<D> = Result<Connection<FileStore<D>>, Files<D>>;
@@ -44,6 +48,7 @@ pub(super) fn in_memory<D: FailingDisk>(
         "kept" => on_new_disks::<D>(alloc, Kind::Kept, words),
         "plays" => on_new_disks::<D>(alloc, Kind::Plays, words),
         "fuse" => fuse::<D>(alloc, words),
+        "first" => first::<D>(alloc, words),
         "cut" => damaged::<D>(alloc, words, Damage::Cut),
         "changed" => damaged::<D>(alloc, words, Damage::Changed),
         _ => Err(RowFault::NotARow),
@@ -63,11 +68,16 @@ fn empty_files<D: FailingDisk>(
     Ok(Files { log, db })
 }
 
-/// Files with these bytes.
-fn files_with<D: FailingDisk>(alloc: Global, written: &Written) -> Result<Files<D>, RowFault> {
+/// Files with these bytes, of which each passes so many calls on.
+fn files_with<D: FailingDisk>(
+    alloc: Global,
+    written: &Written,
+    log: u64,
+    database: u64,
+) -> Result<Files<D>, RowFault> {
     let (log, db) = both(
-        D::failing_after(alloc, u64::MAX, written.log.as_slice()),
-        D::failing_after(alloc, u64::MAX, written.database.as_slice()),
+        D::failing_after(alloc, log, written.log.as_slice()),
+        D::failing_after(alloc, database, written.database.as_slice()),
     )?;
     Ok(Files { log, db })
 }
@@ -102,17 +112,50 @@ fn read_calls(alloc: Global, words: &mut Words) -> Result<String, RowFault> {
 /// What becomes of new records whose log or database fails from a call on, and what is found after: where all that was written is still
 /// there, and where a crash takes what was not synced.
 fn fuse<D: FailingDisk>(alloc: Global, mut words: Words) -> Result<String, RowFault> {
-    let (is_log, last) = read_file(&mut words)?;
+    let (log, database) = read_calls_passed(&mut words)?;
     let calls = read_calls(alloc, &mut words)?;
-    let (log, database) = if is_log {
-        (last, u64::MAX)
+    played_and_found(alloc, empty_files::<D>(alloc, log, database)?, &calls)
+}
+
+/// What becomes so of a record of version 1, and what is found after.
+fn first<D: FailingDisk>(alloc: Global, mut words: Words) -> Result<String, RowFault> {
+    let (log, database) = read_calls_passed(&mut words)?;
+    let calls = words.text(alloc)?;
+    let written = bytes_of(alloc, &of_first_version::<D>(alloc)?)?;
+    let files = files_with::<D>(alloc, &written, log, database)?;
+    played_and_found(alloc, files, &calls)
+}
+
+/// The files of a record of version 1, whose log was copied into the database.
+fn of_first_version<D: FailingDisk>(alloc: Global) -> Result<Files<D>, RowFault> {
+    match connected(alloc, empty_files::<D>(alloc, u64::MAX, u64::MAX)?) {
+        Ok(connection) => {
+            let made = after_statements(connection, FIRST_VERSION)?;
+            or_not_a_row(made.close_files())
+        }
+        Err(_) => Err(RowFault::NotARow),
+    }
+}
+
+/// How many calls the log and the database pass on: one of them as many as a row says, and the other all.
+fn read_calls_passed(words: &mut Words) -> Result<(u64, u64), RowFault> {
+    let (is_log, last) = read_file(words)?;
+    if is_log {
+        Ok((last, u64::MAX))
     } else {
-        (u64::MAX, last)
-    };
+        Ok((u64::MAX, last))
+    }
+}
+
+/// The answers of an acceptor over files, and what is found in them after.
+fn played_and_found<D: FailingDisk>(
+    alloc: Global,
+    files: Files<D>,
+    calls: &str,
+) -> Result<String, RowFault> {
     let setup = first_setup(alloc)?;
     let mut text = String::new(alloc);
-    let files = empty_files::<D>(alloc, log, database)?;
-    let files = used(alloc, files, &calls, &setup, &mut text)?;
+    let files = used(alloc, files, calls, &setup, &mut text)?;
     let after = found_after(alloc, files, &setup)?;
     text.push_str(after.as_str())?;
     Ok(text)
@@ -165,7 +208,11 @@ fn found_with<D: FailingDisk>(
     written: &Written,
     setup: &Setup,
 ) -> Result<String, RowFault> {
-    found_in(alloc, files_with::<D>(alloc, written)?, setup)
+    found_in(
+        alloc,
+        files_with::<D>(alloc, written, u64::MAX, u64::MAX)?,
+        setup,
+    )
 }
 
 /// What becomes of an empty database.

@@ -8,7 +8,7 @@
 //!
 //! `fuse log COUNT` and `fuse database COUNT`: a promise and a vote over files in memory of which one fails after so many calls, and what is
 //! found then, once with all that was written and once without what was not synced; further words are an acceptor's calls in the place of
-//! these two. `cut log BYTES` and `cut database BYTES`, `changed log AT` and `changed database AT`: what is found where a file is cut after
+//! these two. `first log COUNT CALLS` and `first database COUNT CALLS`: the same over a record of version 1. `cut log BYTES` and `cut database BYTES`, `changed log AT` and `changed database AT`: what is found where a file is cut after
 //! so many bytes, or the byte at an offset is another one; the database then has its log copied into it, and no log.
 //!
 //! What is generic here is proved once, over any disk; the two kinds of disk, in memory and of the system, are named by one function each.

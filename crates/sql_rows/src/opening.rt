@@ -93,13 +93,16 @@ fn standing<R: Records>(alloc: Global, records: &mut R) -> Result<String, RowFau
     }
 }
 
-/// The promise of a record, and its first votes.
+/// The promise of a record, its first votes, and how many values it keeps as learnt.
 fn record_text(alloc: Global, record: &Record) -> Result<String, RowFault> {
     let promise = record.promise();
     let (round, member) = (promise.round, promise.member);
     let mut text = format!(in alloc; "opened, promised {round},{member}")?;
     let window = record.window(alloc, promise, 1)?;
     push_votes(alloc, &mut text, &window)?;
+    let learnt = record.learnt_to();
+    let count = format!(in alloc; ", learnt {learnt}")?;
+    text.push_str(count.as_str())?;
     Ok(text)
 }
 

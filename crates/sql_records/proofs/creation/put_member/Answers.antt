@@ -1,6 +1,6 @@
 use Rattle.sqlite.specs.State.{ExecutesInside}
 use Rattle.sqlite.specs.Held.{state}
-use Rattle.sql_records.specs.Texts.{member_text}
+use Rattle.record_tables.specs.Texts.{member_text}
 use Rattle.sql_records.proofs.Creating.{member_params, member_put}
 use Rattle.sql_records.proofs.MemberFaults.{member_failed}
 use Rattle.sql_records.proofs.creation.put_member.Goals as goal

@@ -10,11 +10,12 @@ use Rattle.sqlite.proofs.Callers.{IsPlain, begun_plain, given_begin, unchanged_t
 use Rattle.paxos.specs.Records.{Record}
 use Rattle.std.specs.List.Sorted.{IsPermutation}
 use Rattle.sql_records.specs.Reading.{AreShown, AreVotes, Shows, ShowsNoVote, vote_shown}
-use Rattle.sql_records.specs.Texts.{schema, votes_load_text}
+use Rattle.record_tables.specs.Texts.{votes_load_text}
+use Rattle.record_tables.specs.Versions.{AreTables}
 use Rattle.sql_records.proofs.Means.{votes_plain}
 use Rattle.sql_records.specs.Faults.{StoreFailed}
 use Rattle.sql_records.proofs.StoreFaults.{since, votes_failed}
-use Rattle.sql_records.proofs.Queried.{fails_ended, query_commits_nothing, was_clean, votes_queried}
+use Rattle.sql_records.proofs.Queried.{votes_bare, fails_ended, query_commits_nothing, was_clean, votes_queried}
 use Rattle.sql_records.proofs.Read.{UpTo, last_is, last_of, read_more, still_up_to, too_many}
 use Rattle.sql_records.proofs.Ordered.{refuses}
 use Rattle.ballots.specs.Values.{positions}
@@ -29,7 +30,8 @@ returns-in-Err-clause-ended g c clean =
     let kept : Survives old new (CommitsShowing votes_load_text [] old) = search rules in
     let refused : IfErr c.query.result (FailsToQuery votes_load_text [] old new) = search rules in
     let failed : FailsToQuery votes_load_text [] old new c.in-Err.error = rw c.in-Err.is at refused in
-    fails_ended old new votes_load_text (c.requires (was_clean old new _ kept clean)) votes_plain c.in-Err.error failed
+    let t = c.requires (was_clean old new _ kept clean) in
+    fails_ended old new votes_load_text t.1 (votes_plain t.0) c.in-Err.error failed
 
 pub returns-in-Err-clause-survives : goal.returns-in-Err-clause-survives
 returns-in-Err-clause-survives g c =
@@ -37,7 +39,7 @@ returns-in-Err-clause-survives g c =
     let new = state g.S.Store c.query.follows.lender-at-none in
     let held = c.query.follows.holds-at-none in
     let kept : Survives old new (CommitsShowing votes_load_text [] old) = search rules in
-    query_commits_nothing old new votes_load_text c.requires votes_plain kept
+    query_commits_nothing old new votes_load_text (λ clean. votes_bare old.now.schema (c.requires clean)) kept
 
 pub votes-init : goal.votes-init
 votes-init g c =
@@ -45,15 +47,16 @@ votes-init g c =
     let new = state g.S.Store c.in-Ok.rows.conn.now in
     let made = c.in-Ok.ensures in (
       refl,
-      query_commits_nothing old new votes_load_text c.requires votes_plain made.survives,
+      query_commits_nothing old new votes_load_text (λ clean. votes_bare old.now.schema (c.requires clean)) made.survives,
       subst (λ (r : Record). UpTo 0 r.votes) (sym c.new-record.ensures) tt,
       subst (λ (r : Record). 0 ≡ last_of 0 r.votes) (sym c.new-record.ensures) refl,
       omega arith,
       omega arith,
       λ clean.
-          let plain : IsPlain (understood c.args.connection.now.schema votes_load_text) = subst (λ s. IsPlain (understood s votes_load_text)) (sym (c.requires (was_clean old new _ made.survives clean))) votes_plain in
+          let plain : IsPlain (understood c.args.connection.now.schema votes_load_text) = votes_bare old.now.schema (c.requires (was_clean old new _ made.survives clean)) in
           let begun = begun_plain g.S.Store votes_load_text [] c.args.connection.now c.in-Ok.rows.conn.now plain (made.begun clean) in
           ([], begun.0, begun.1, subst (λ (r : Record). AreShown c.args.members c.args.promise [] r.votes) (sym c.new-record.ensures) tt),
+      subst (λ (r : Record). r.learnt ≡ []) (sym c.new-record.ensures) refl,
     )
 
 pub returns-in_default-get-clause-votes : goal.returns-in_default-get-clause-votes
@@ -69,7 +72,7 @@ returns-in_default-get-clause-votes g c clean =
     let none : row_if c.advance.new.self.has_row after ≡ None = sym c.get.ensures ∙ ap option_copied c.in_default-get.is in
     let shown : Shown votes_load_text [] (state g.S.Store before) (state g.S.Store after) it.0 =
     subst (λ row. Advances g.S.Store before after row) none (c.in_default.ensures.ok late) votes_load_text [] it.0 it.1 in
-    let known : (state g.S.Store before).now.schema ≡ schema = ap (λ (d : Database). d.schema) it.2.0.now_is ∙ c.requires first in
+    let known : AreTables (state g.S.Store before).now.schema = subst (λ (d : Database). AreTables d.schema) (sym it.2.0.now_is) (c.requires first) in
     let moved = votes_queried (state g.S.Store before) (state g.S.Store after) known it.0 shown in
     (it.0, subst (λ (d : Database). IsPermutation (map vote_shown (d.trees 1)) it.0) it.2.0.now_is moved, subst (λ (r : Record). AreShown c.args.members c.args.promise it.0 r.votes) (sym c.set_promise.ensures) it.3)
 
@@ -94,6 +97,7 @@ votes-preserved g c =
           let some : row_if c.advance.new.self.has_row after ≡ Some row = sym c.get.ensures ∙ ap option_copied c.in-Some.is in
           let given = subst (λ row. Advances g.S.Store before after row) some (c.in_default.ensures.ok late) votes_load_text [] it.0 it.1 in
           (it.0 ++ row ∷ [], given, unchanged_then old (state g.S.Store before) (state g.S.Store after) it.2 (c.in_default.ensures.same late), read_more row c.votes.record.votes fs c.votes.last added.0 inv.2 added.2 added.4 c.args.members c.args.promise it.0 it.3 added.1),
+      c.in_ok-add_vote.ensures.learnt ∙ inv.7,
     )
 
 pub returns-in_err-add_vote-clause-damaged : goal.returns-in_err-add_vote-clause-damaged
@@ -112,7 +116,7 @@ returns-in_err-add_vote-clause-damaged g c clean damaged votes are =
     let given = subst (λ row. Advances g.S.Store before after row) some (c.in_default.ensures.ok late) votes_load_text [] it.0 it.1 in
     let kept = unchanged_then old (state g.S.Store before) (state g.S.Store after) it.2 (c.in_default.ensures.same late) in
     let first : HasCleanDisk old = was_clean old (state g.S.Store before) _ inv.1 mid in
-    refuses (state g.S.Store after) (ap (λ (d : Database). d.schema) kept.0.now_is ∙ c.requires first) c.args.members c.args.promise votes (subst (λ (d : Database). AreVotes c.args.members c.args.promise (d.trees 1) votes) (sym kept.0.now_is) are)
+    refuses (state g.S.Store after) (subst (λ (d : Database). AreTables d.schema) (sym kept.0.now_is) (c.requires first)) c.args.members c.args.promise votes (subst (λ (d : Database). AreVotes c.args.members c.args.promise (d.trees 1) votes) (sym kept.0.now_is) are)
     it.0 row c.votes.record.votes (given_begin g.S.Store votes_load_text [] after (it.0 ++ row ∷ []) given) it.3 (subst (λ n. ShowsNoVote c.args.members c.args.promise row ⊎ ((e : Entry) × Shows c.args.members c.args.promise row e × (1 ≤ e.position) × (e.position ≤ n))) inv.3 refused)
 
 pub returns-clause-damaged : goal.returns-clause-damaged
@@ -131,6 +135,7 @@ returns-in-Err-clause-store g c clean is =
 
 pub returns-in-Err-advance-clause-store : goal.returns-in-Err-advance-clause-store
 returns-in-Err-advance-clause-store g c clean is =
+    let other = c.fault_of-in-Err-advance.ensures.store cc in
     let old = state g.S.Store c.args.connection.now in
     let before = c.votes.rows.conn.now in
     let after = c.advance.new.self.conn.now in
@@ -140,6 +145,6 @@ returns-in-Err-advance-clause-store g c clean is =
     let mid : HasCleanDisk (state g.S.Store before) = omega (arith, c.advance.ensures.survives.clean) in
     let it = inv.6 mid in
     let first : HasCleanDisk old = was_clean old (state g.S.Store before) _ inv.1 mid in
-    let known : (state g.S.Store before).now.schema ≡ schema = ap (λ (d : Database). d.schema) it.2.0.now_is ∙ c.requires first in
-    let failed = votes_failed (state g.S.Store before) (state g.S.Store after) known c.in-Err-advance.error (c.in-Err-advance.ensures.err late votes_load_text [] it.0 it.1) (c.fault_of-in-Err-advance.ensures.store cc) in
+    let known : AreTables (state g.S.Store before).now.schema = subst (λ (d : Database). AreTables d.schema) (sym it.2.0.now_is) (c.requires first) in
+    let failed = votes_failed (state g.S.Store before) (state g.S.Store after) known c.in-Err-advance.error (c.in-Err-advance.ensures.err late votes_load_text [] it.0 it.1) other in
     subst (λ h. StoreFailed old (state g.S.Store h)) same (since old (state g.S.Store before) (state g.S.Store after) _ it.2 inv.1 failed)

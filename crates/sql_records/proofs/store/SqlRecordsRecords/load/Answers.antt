@@ -1,19 +1,31 @@
-use Rattle.std.proofs.Common.{refl, arith}
+use Rattle.std.proofs.Common.{Some, refl, sym, subst, ◌∙◌, arith}
+use Rattle.sqlite.specs.Held.{state}
+use Rattle.records.specs.Law.{Grew}
+use Rattle.sql_records.specs.Opened.{IsCurrent, Opened}
+use Rattle.sql_records.proofs.Judged.{one_of}
 use Rattle.sql_records.proofs.store.SqlRecordsRecords.load.Goals as goal
 
-pub returns-in-Ok-clause-crash : goal.returns-in-Ok-clause-crash
-returns-in-Ok-clause-crash g c clean a b h = c.load.ensures.crash clean c.args.self.now.setup a b h
+pub returns-in-Some-clause-found : goal.returns-in-Some-clause-found
+returns-in-Some-clause-found g c = rw (← c.self.view_is) (λ clean.
+    let here = c.self.inside.connection in
+    let o = c.self.inside.setup in
+    let held : IsCurrent g.S.Store here o (Some c.in-Some.record) = subst (λ read. IsCurrent g.S.Store here o read) (sym c.take.ensures.value ∙ c.in-Some.is) c.self.invariant in
+    let it = held clean in
+    (it.1, λ a b h. one_of c.spellings.ensures.no_beginning (state g.S.Store here) o c.in-Some.record a b (λ up. g.met.S.Store.stays here.store up) it.0 it.1 h))
+
+pub returns-in-Ok-clause-found : goal.returns-in-Ok-clause-found
+returns-in-Ok-clause-found g c = rw (← c.self.view_is) c.in-Ok.ensures.found
 
 pub returns-in-Err-Memory-clause-crash : goal.returns-in-Err-Memory-clause-crash
-returns-in-Err-Memory-clause-crash g c clean a b h = c.load.ensures.crash clean c.args.self.now.setup a b h
+returns-in-Err-Memory-clause-crash g c = rw (← c.self.view_is) (λ clean a b h. c.load.ensures.crash clean c.self.inside.setup a b h)
 
 pub returns-in-Err : goal.returns-in-Err
-returns-in-Err g c = record {
+returns-in-Err g c = rw (← c.self.view_is) (record {
   found = λ _. tt;
-  crash = λ clean a b h. c.load.ensures.crash clean c.args.self.now.setup a b h;
+  crash = λ clean a b h. c.load.ensures.crash clean c.self.inside.setup a b h;
   kept = λ clean. omega (arith, c.load.ensures.clean);
-  counts = rw c.count.ensures.fault c.count.ensures.counted;
+  counts = rw c.count.ensures.fault (subst (λ (s : Opened _). Grew s.failures c.count.new.failures) c.self.view_is c.count.ensures.counted);
   fates = λ _. refl;
   passes = refl;
   sure = λ _. refl;
-}
+})

@@ -10,14 +10,14 @@ use Rattle.sql_records.proofs.Judged.{one_stands}
 use Rattle.sql_records.proofs.store.SqlRecordsRecords.put_vote.Goals as goal
 
 pub returns-clause-law : goal.returns-clause-law
-returns-clause-law g c clean last h =
-    let old = state g.S.Store c.args.self.now.connection in
-    let o = c.args.self.now.setup in
+returns-clause-law g c = rw (← c.self.view_is) (λ clean last h.
+    let old = state g.S.Store c.self.inside.connection in
+    let o = c.self.inside.setup in
     let was : HasCleanDisk old = omega (arith, c.put_vote-done.ensures.clean) in
-    let it = c.requires.not_below was in
+    let it = (rw (← c.self.view_is) at c.requires.not_below) was in
     let within : c.args.ballot.member ≤ o.members = c.if-not-has_member.ensures.0 refl in
     let over : IsTrue old.is_open → below c.args.ballot last.promise ≡ false =
-    λ up. subst (λ (r : Record). below c.args.ballot r.promise ≡ false) (one_stands c.spellings.ensures.no_beginning old o it.0 last (λ s. g.met.S.Store.stays c.args.self.now.connection.store s) up it.1 h) it.2 in
+    λ up. subst (λ (r : Record). below c.args.ballot r.promise ≡ false) (one_stands c.spellings.ensures.no_beginning old o it.0 last (λ s. g.met.S.Store.stays c.self.inside.connection.store s) up it.1 h) it.2 in
     let bytes : c.as_slice.result.now ≡ value_spelling c.args.value.now = search rules in
     subst (Puts (Holds (state g.S.Store c.put_vote-done.new.connection) o) last (written (NewVote c.args.position (record { ballot = c.args.ballot; value = c.args.value.now })) last)) (sym c.answer.ensures.result)
-    (c.put_vote-done.ensures.law clean o last within c.args.value.now bytes c.put_value.ensures.spelt over h)
+    (c.put_vote-done.ensures.law clean o last within c.args.value.now bytes c.put_value.ensures.spelt over h))

@@ -10,8 +10,8 @@ use Rattle.sqlite_sql.specs.declared.ops.CompareOp.TheVariants.{Eq}
 use Rattle.sqlite_schema.specs.Code.{op_term, term_to, term_in}
 use Rattle.sqlite_schema.specs.declared.code.Op.{Op}
 use Rattle.sqlite_schema.specs.declared.code.Op.TheVariants.{Literal, Column, Unary, Binary as Operation, Case}
-use Rattle.sql_records.specs.Texts.{id_test}
-use Rattle.sql_records.specs.Reading.{Equal}
+use Rattle.record_tables.specs.Texts.{id_test}
+use Rattle.record_tables.specs.Checks.{Equal}
 
 abbrev pub the_id : Term
 the_id = col 1 0

@@ -1,9 +1,9 @@
 use Rattle.std.proofs.Common.{◌≡◌, ◌≤◌, length, Some, pos, slice_get, sym, subst, ◌∙◌, refl, arith}
 use Rattle.sqlite.specs.declared.types.Value.TheVariants.{Int}
 use Rattle.sqlite_schema.specs.declared.code.Op.TheVariants.{Column as ColumnOf, Literal}
-use Rattle.sql_records.specs.Reading.{Equal}
-use Rattle.sql_records.proofs.OneId.{told, tells}
-use Rattle.sql_records.proofs.layout.is_test.Goals as goal
+use Rattle.record_tables.specs.Checks.{Equal}
+use Rattle.record_tables.proofs.OneId.{told, tells}
+use Rattle.record_tables.proofs.layout.is_test.Goals as goal
 
 pub returns-then-nodes-lt2 : goal.returns-then-nodes-lt2
 returns-then-nodes-lt2 c = (λ no. absurd cc, λ is. absurd (let few : 2 ≤ length c.args.nodes.now = (told c.args.nodes.now c.args.at is).0 in omega arith))

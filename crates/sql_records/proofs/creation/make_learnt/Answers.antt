@@ -1,0 +1,12 @@
+use Rattle.sqlite.specs.Held.{state}
+use Rattle.sql_records.proofs.Creating.{learnt_made}
+use Rattle.sql_records.proofs.CreationFaults.{learnt_failed}
+use Rattle.sql_records.proofs.creation.make_learnt.Goals as goal
+
+pub returns-clause-made : goal.returns-clause-made
+returns-clause-made g c clean member votes m =
+    learnt_made (state g.S.Store c.args.tx.now.conn.now) (state g.S.Store c.execute.new.self.conn.now) c.execute.result member votes m (c.execute.ensures.runs clean m.mode)
+
+pub returns-clause-store : goal.returns-clause-store
+returns-clause-store g c clean member votes m =
+    learnt_failed (state g.S.Store c.args.tx.now.conn.now) (state g.S.Store c.execute.new.self.conn.now) c.execute.result member votes m (c.execute.ensures.runs clean m.mode)
