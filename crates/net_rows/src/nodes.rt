@@ -46,7 +46,7 @@ pub(super) fn opened(
         Err(SetupFault::Numbers) => return Err(RowFault::NotARow),
     };
     match Node::open(alloc, setup, MemRecords::new(alloc)) {
-        Ok(node) => Ok(node),
+        Ok((node, _)) => Ok(node),
         Err(_) => Err(RowFault::Memory),
     }
 }

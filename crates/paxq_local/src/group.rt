@@ -42,7 +42,7 @@ fn server_of<A: Application + Drop, D: Copy + Eq + Drop>(
         Err(SetupFault::Memory | SetupFault::Numbers) => return Err(AllocError),
     };
     match Node::open(alloc, setup, MemRecords::new(alloc)) {
-        Ok(node) => Ok(Server::new(alloc, node, usize::from(member), peers)),
+        Ok((node, _)) => Ok(Server::new(alloc, node, usize::from(member), peers)),
         Err((OpenFault::Memory | OpenFault::Store, _, _)) => Err(AllocError),
     }
 }

@@ -38,7 +38,8 @@ pub fn serve_over<R: Records + Drop, A: Application + Drop, W: Wire>(
         return End::Memory;
     };
     match Node::<R, A>::open(alloc, setup, records) {
-        Ok(node) => {
+        // What no memory was found for at the start, a later call applies.
+        Ok((node, _)) => {
             let server = Server::new(alloc, node, 0, peers);
             serve_to_the_end(alloc, server, wire, leads, turns, &mut buffer)
         }

@@ -103,7 +103,7 @@ impl<R: Records + Drop, A: Application + Drop, D: Copy + Eq + Drop> Server<R, A,
     }
 
     /// Ticks: the node sends again what it waits for where it leads, and asks the others for what it has not learnt. Where another member leads
-    /// now, clients whose requests wait are told so. Where it was told to lead, a ballot may begin.
+    /// now, clients whose requests wait are told so. Where it was told to lead, a ballot may begin. At last what is learnt is kept in its record.
     ///
     /// The fault: the store failed, and the node has stopped. Nothing was sent since.
     pub fn tick<W: Wire<Address = D>>(
@@ -114,10 +114,11 @@ impl<R: Records + Drop, A: Application + Drop, D: Copy + Eq + Drop> Server<R, A,
         ensures went { Went A.has_applied A.meaning R.failed D.eq W.was_given W.has_brought R.stands R.is_kept result (Ticked Tick.Resend ∷ Ticked Tick.CatchUp ∷ []) [] [] self.old self.new wire.old wire.new }
         ensures brought { (ds : List (Carried D)) → W.has_brought wire.old ds → W.has_brought wire.new ds }
     {
-        self.state.tick(alloc, wire)
+        self.state.tick_and_keep(alloc, wire)
     }
 
-    /// Takes a datagram that a wire has brought: the node takes the step of its message, and what it sends is put on the wire.
+    /// Takes a datagram that a wire has brought: the node takes the step of its message, and what it sends is put on the wire. At last what is
+    /// learnt is kept in its record, so that no reply waits for that.
     ///
     /// The fault: the store failed, and the node has stopped. Nothing was sent since.
     pub fn take<W: Wire<Address = D>>(
@@ -130,11 +131,11 @@ impl<R: Records + Drop, A: Application + Drop, D: Copy + Eq + Drop> Server<R, A,
         ensures went { Went A.has_applied A.meaning R.failed D.eq W.was_given W.has_brought R.stands R.is_kept result (Took (record { end = arrival.end; peer = arrival.from; bytes = bytes.now }) ∷ []) (record { end = arrival.end; peer = arrival.from; bytes = bytes.now } ∷ []) [] self.old self.new wire.old wire.new }
         ensures brought { (ds : List (Carried D)) → W.has_brought wire.old ds → W.has_brought wire.new ds }
     {
-        self.state.take(alloc, wire, arrival, bytes)
+        self.state.take_and_keep(alloc, wire, arrival, bytes)
     }
 
     /// Serves for so many turns. In each it takes one datagram, or ticks where the wire brought none for a while; and it ticks too where a while has
-    /// passed since it last did. Says how many turns it took: all of them, unless the wire fails to say what came more often
+    /// passed since it last did; at the end of each what is learnt is kept in its record. Says how many turns it took: all of them, unless the wire fails to say what came more often
     /// than can be.
     ///
     /// The buffer holds one datagram, [`MOST_BYTES`] of it. The fault: the store failed, and the node has stopped.

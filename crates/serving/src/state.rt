@@ -235,7 +235,7 @@ impl<R: Records + Drop, A: Application + Drop, D: Copy + Eq + Drop> State<R, A, 
     }
 
     /// Takes a datagram as it comes, and does what follows.
-    pub(super) fn take<W: Wire<Address = D>>(
+    fn take<W: Wire<Address = D>>(
         &mut self,
         alloc: Global,
         wire: &mut W,
@@ -250,11 +250,7 @@ impl<R: Records + Drop, A: Application + Drop, D: Copy + Eq + Drop> State<R, A, 
     }
 
     /// Sends again what its node waits for where it leads, asks the others for what it has not learnt, and answers what waits where another leads.
-    pub(super) fn tick<W: Wire<Address = D>>(
-        &mut self,
-        alloc: Global,
-        wire: &mut W,
-    ) -> Result<(), ServeFault>
+    fn tick<W: Wire<Address = D>>(&mut self, alloc: Global, wire: &mut W) -> Result<(), ServeFault>
         ensures { Went A.has_applied A.meaning R.failed D.eq W.was_given W.has_brought R.stands R.is_kept result (Ticked Tick.Resend ∷ Ticked Tick.CatchUp ∷ []) [] [] (shown self.old) (shown self.new) wire.old wire.new }
     {
         self.tick_once(alloc, wire, Tick::Resend)?;
@@ -335,6 +331,78 @@ impl<R: Records + Drop, A: Application + Drop, D: Copy + Eq + Drop> State<R, A, 
         self.tick_if_due(alloc, wire)
     }
 
+    /// Writes the next learnt value that the record lacks, if there is one. Says whether it was kept: it is not where memory is refused.
+    fn keep_next<W: Wire<Address = D>>(
+        &mut self,
+        alloc: Global,
+        wire: &mut W,
+    ) -> Result<bool, ServeFault>
+        ensures { Went A.has_applied A.meaning R.failed D.eq W.was_given W.has_brought R.stands R.is_kept result [] [] [] (shown self.old) (shown self.new) wire.old wire.new }
+    {
+        let kept = self.seat.node.kept();
+        if kept >= self.seat.node.prefix() {
+            return Ok(false);
+        }
+        self.tick_once(alloc, wire, Tick::Keep)?;
+        Ok(kept < self.seat.node.kept())
+    }
+
+    /// Writes what is learnt and not kept to the record, one value after the other.
+    fn keep_learnt<W: Wire<Address = D>>(
+        &mut self,
+        alloc: Global,
+        wire: &mut W,
+    ) -> Result<(), ServeFault>
+        ensures { Went A.has_applied A.meaning R.failed D.eq W.was_given W.has_brought R.stands R.is_kept result [] [] [] (shown self.old) (shown self.new) wire.old wire.new }
+    {
+        for _position in 0..POSITIONS {
+            if !self.keep_next(alloc, wire)? {
+                break;
+            }
+        }
+        Ok(())
+    }
+
+    /// Takes a datagram as it comes, does what follows, and keeps what was learnt once all of that is sent.
+    pub(super) fn take_and_keep<W: Wire<Address = D>>(
+        &mut self,
+        alloc: Global,
+        wire: &mut W,
+        arrival: Arrival<D>,
+        bytes: &[u8],
+    ) -> Result<(), ServeFault>
+        ensures { Went A.has_applied A.meaning R.failed D.eq W.was_given W.has_brought R.stands R.is_kept result (Took (record { end = arrival.end; peer = arrival.from; bytes = bytes.now }) ∷ []) (record { end = arrival.end; peer = arrival.from; bytes = bytes.now } ∷ []) [] (shown self.old) (shown self.new) wire.old wire.new }
+    {
+        self.take(alloc, wire, arrival, bytes)?;
+        self.keep_learnt(alloc, wire)
+    }
+
+    /// The turn of a datagram: it is taken as it comes, the node ticks where that is due, and what was learnt is kept once all of that is sent.
+    fn turn_with<W: Wire<Address = D>>(
+        &mut self,
+        alloc: Global,
+        wire: &mut W,
+        arrival: Arrival<D>,
+        bytes: &[u8],
+    ) -> Result<(), ServeFault>
+        ensures { Went A.has_applied A.meaning R.failed D.eq W.was_given W.has_brought R.stands R.is_kept result (Took (record { end = arrival.end; peer = arrival.from; bytes = bytes.now }) ∷ []) (record { end = arrival.end; peer = arrival.from; bytes = bytes.now } ∷ []) [] (shown self.old) (shown self.new) wire.old wire.new }
+    {
+        self.take_in_time(alloc, wire, arrival, bytes)?;
+        self.keep_learnt(alloc, wire)
+    }
+
+    /// Ticks, and keeps what was learnt once all of that is sent.
+    pub(super) fn tick_and_keep<W: Wire<Address = D>>(
+        &mut self,
+        alloc: Global,
+        wire: &mut W,
+    ) -> Result<(), ServeFault>
+        ensures { Went A.has_applied A.meaning R.failed D.eq W.was_given W.has_brought R.stands R.is_kept result (Ticked Tick.Resend ∷ Ticked Tick.CatchUp ∷ []) [] [] (shown self.old) (shown self.new) wire.old wire.new }
+    {
+        self.tick(alloc, wire)?;
+        self.keep_learnt(alloc, wire)
+    }
+
     /// Waits for a datagram and takes it, or ticks where none comes. Says how many turns that are: one, or none where the wire fails to say whether
     /// one has come.
     fn turn<W: Wire<Address = D>>(
@@ -348,11 +416,11 @@ impl<R: Records + Drop, A: Application + Drop, D: Copy + Eq + Drop> State<R, A, 
     {
         match wire.receive(buffer) {
             Ok(Some(arrival)) => {
-                self.take_in_time(alloc, wire, arrival, &buffer[..arrival.length])?;
+                self.turn_with(alloc, wire, arrival, &buffer[..arrival.length])?;
                 Ok(1)
             }
             Ok(None) => {
-                self.tick(alloc, wire)?;
+                self.tick_and_keep(alloc, wire)?;
                 Ok(1)
             }
             Err(Unheard) => Ok(0),
