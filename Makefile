@@ -18,7 +18,7 @@ help:
 	@echo 'make updates   proves update_rows, which applies lists of update primitives for the benchmarks, and leaves it at bin/update_rows'
 	@echo 'make readers   proves reader_rows, whose readers answer while a site takes requests, for the benchmarks, and leaves it at bin/reader_rows'
 	@echo 'make record_file  proves record_file, an acceptor'"'"'s record in a SQLite file, and leaves it at bin/record_file'
-	@echo 'make bench     measures bin/paxq, bin/measure, bin/query_rows, bin/update_rows, bin/reader_rows and bin/record_file (figures for docs/BENCHMARKS.md);'
+	@echo 'make bench     measures bin/paxq, bin/paxq_member, bin/measure, bin/query_rows, bin/update_rows, bin/reader_rows and bin/record_file (figures for docs/BENCHMARKS.md);'
 	@echo '               groups of processes beside etcd, where that is installed'
 	@echo 'make kills     ends bin/record_file in the middle of its writes, again and again: each acknowledged write has to be there;'
 	@echo '               and opens files with it that the program sqlite3 made (needs sqlite3)'
@@ -86,6 +86,7 @@ bench: paxq measure expressions updates readers record_file
 	bench/updates bin/update_rows
 	bench/readers bin/reader_rows
 	bench/records bin/record_file
+	bench/starts bin/paxq_member bin/record_file
 	bench/cluster bin/paxq
 
 kills: record_file
