@@ -12,11 +12,12 @@ use Rattle.query_grammar.specs.declared.ast.Expr.TheViews.{roll-Expr}
 use Rattle.query_grammar.specs.declared.ast.Name.TheVariants.{Written, Computed}
 use Rattle.query_grammar.specs.declared.ast.Operation.{Operation}
 use Rattle.query_grammar.specs.declared.ast.SortKey.{SortKey}
-use Rattle.static_checks.specs.Categories.{Form, Judged, judged, judged_form, form_of, outside, may_not_stand, is_updating, categories, joined}
+use Rattle.static_checks.specs.Categories.{Form, Judged, judged, judged_form, form_of, outside, may_not_stand, is_faulty, is_updating, categories, joined}
 use Rattle.static_checks.specs.Parts.{parts_alone, source_of, sources, operands, keys}
 use Rattle.static_checks.specs.declared.categories.Category.{Category}
 use Rattle.static_checks.specs.declared.categories.Category.TheVariants.{Updating}
 use Rattle.static_checks.proofs.Folds.{parts_under, parts_of_bindings}
+use Rattle.static_checks.proofs.Faults.{faulty_form}
 use Rattle.static_checks.proofs.Forms.{map_form, form_mapped}
 use Rattle.query_meaning.specs.Running.{Run}
 use Rattle.query_meaning.specs.Sequences.{Meaning}
@@ -33,12 +34,12 @@ first_not true c h = absurd (let f : ⊥ = cc in f)
 first_not false c h = refl
 
 -- neither of the two tests finds one
-none_of_both : (js : List Judged) → list_any is_updating (categories js) ≡ false → list_any (λ (j : Judged). j.is_misplaced) js ≡ false → list_any may_not_stand js ≡ false
+none_of_both : (js : List Judged) → list_any is_updating (categories js) ≡ false → list_any is_faulty js ≡ false → list_any may_not_stand js ≡ false
 none_of_both [] h g = refl
 none_of_both (j ∷ js) h g =
     let c = neither (is_updating j.category) (list_any is_updating (categories js)) h in
-    let m = neither j.is_misplaced (list_any (λ (j : Judged). j.is_misplaced) js) g in
-    ap (λ b. (b || j.is_misplaced) || list_any may_not_stand js) c.0 ∙ ap (λ b. b || list_any may_not_stand js) m.0 ∙ none_of_both js c.1 m.1
+    let m = neither (is_faulty j) (list_any is_faulty js) g in
+    ap (λ b. (b || is_faulty j) || list_any may_not_stand js) c.0 ∙ ap (λ b. b || list_any may_not_stand js) m.0 ∙ none_of_both js c.1 m.1
 
 module _ (R : Run → Run → Type 0) (s : IsQuiet R) where
   abbrev Fine : Judged → Type 0
@@ -72,15 +73,15 @@ module _ (R : Run → Run → Type 0) (s : IsQuiet R) where
 
   -- where the whole is made of none of its parts
   good_parts : (ys : List Proved) → Fine (judged_form (form_in (alone ys))) → Each IsGood ys
-  good_parts ys h = all_good ys (neither (list_any may_not_stand (map judged (map expression ys))) _ h).0
+  good_parts ys h = all_good ys (neither (list_any may_not_stand (map judged (map expression ys))) _ (sym (faulty_form (form_in (alone ys))) ∙ h)).0
 
   -- where it is made of the inner ones
   good_results : (before inner : List Proved) → Fine (judged_form (form_in (made_of before inner))) → Each IsGood before × Each IsGood inner
   good_results before inner h =
       let js = map judged (map expression inner) in
       let whole = neither (is_updating (joined (categories js))) _ h in
-      let front = neither (list_any may_not_stand (map judged (map expression before))) _ whole.1 in
-      let middle = neither (list_any (λ (j : Judged). j.is_misplaced) js) _ front.1 in
+      let front = neither (list_any may_not_stand (map judged (map expression before))) _ (sym (faulty_form (form_in (made_of before inner))) ∙ whole.1) in
+      let middle = neither (list_any is_faulty js) _ front.1 in
       (all_good before front.0, all_good inner (none_of_both js (first_not (list_any is_updating (categories js)) _ whole.0) middle.0))
 
   abbrev mapped : Expr-F Proved → Expr-F Meaning
