@@ -11,6 +11,7 @@ use Rattle.values.specs.Printing.{item_text}
 use Rattle.fault_codes.specs.declared.code.Code.{Code}
 use Rattle.query_grammar.specs.declared.ast.Expr.TheOpen.{Expr-F}
 use Rattle.query_grammar.specs.declared.ast.Binary.{Binary}
+use Rattle.query_grammar.specs.declared.ast.Binding.{Binding}
 use Rattle.query_grammar.specs.declared.ast.Clause.TheVariants as clause
 use Rattle.query_grammar.specs.declared.ast.KindTest.{KindTest}
 use Rattle.query_grammar.specs.declared.ast.KindTest.TheVariants.{AnyNode}
@@ -18,6 +19,8 @@ use Rattle.query_grammar.specs.declared.ast.Name.TheVariants.{Written, Computed}
 use Rattle.query_grammar.specs.declared.ast.NodeTest.TheVariants as test
 use Rattle.query_grammar.specs.declared.ast.Place.{Place}
 use Rattle.query_grammar.specs.Functions.{function_of}
+use Rattle.update_meaning.specs.Results.{applied}
+use Rattle.query_meaning.specs.Copies.{copy}
 use Rattle.query_meaning.specs.Environment.{no_environment}
 use Rattle.query_meaning.specs.Meaning.{Outcome, meaning_of, outcome, start}
 use Rattle.query_meaning.specs.Running.{Run, most_nodes}
@@ -188,3 +191,37 @@ with_r m = let_in (codes "r") (elem (codes "r") (list (elem (codes "a") (str (co
 
 abbrev pub below_r : List Meaning → Result (List (List ℕ)) Code
 below_r ms = said (with_r (path (var (codes "r")) ms))
+
+-- `$x := a`
+abbrev pub set : List ℕ → Meaning → Binding Meaning
+set x m = record { variable = x; source = m }
+
+-- `copy $c := a modify b return d`
+abbrev pub copy_c : Meaning → Meaning → Meaning → Meaning
+copy_c a b d = copy (set (codes "c") a ∷ []) b d
+
+abbrev pub c : Meaning
+c = var (codes "c")
+
+-- `$c/n`, and what stands there by a kind test
+abbrev pub below : List ℕ → Meaning → Meaning
+below name m = path m (child name ∷ [])
+
+abbrev pub children_of : KindTest → Meaning → Meaning
+children_of k m = path m (meaning_of (Expr-F.Step axis.Child (test.Kind k) []) ∷ [])
+
+-- the store of the document `db` with an element `a` (3)
+abbrev pub with_a : ForestTerm
+with_a = record {
+  trees = tree (record { identity = 1; kind = kind.Document; name = []; text = [] }) no_trees (leaf (record { identity = 3; kind = kind.Element; name = codes "a"; text = [] })) no_trees;
+  documents = (codes "db", 1) ∷ [];
+  next = 4;
+}
+
+-- the store that a request leaves there, or its code
+abbrev pub left : Result Outcome Code → Result ForestTerm Code
+left (Ok o) = applied o.primitives o.next with_a
+left (Err code) = Err code
+
+abbrev pub submitted : Meaning → Result ForestTerm Code
+submitted m = left (outcome_in with_a m)

@@ -8,5 +8,6 @@ pub mod Functions
 pub mod Content
 pub mod Constructors
 pub mod Updates
+pub mod Copies
 pub mod Meaning
 pub mod Examples

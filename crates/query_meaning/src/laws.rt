@@ -6,7 +6,7 @@ ghost use Rattle.data_model.specs.declared.axis.Axis.TheVariants as axis;
 ghost use Rattle.data_model.specs.declared.node.Kind.TheVariants as kind;
 ghost use Rattle.pending.specs.Primitives.{insert_before, insert_after, insert_into, insert_into_as_first, insert_into_as_last, insert_attributes, replace_node, replace_element_content};
 ghost use Rattle.pending.specs.Primitives.{delete as delete_node, replace_value as replace_text, rename as rename_to};
-ghost use Rattle.fault_codes.specs.declared.code.Code.TheVariants.{XPST0008, XPST0017, XPDY0002, XPTY0004, XPTY0018, XPTY0019, XPTY0020, FOAR0001, FOAR0002, FODC0002, FORG0001, FORG0006, XQTY0024, XQDY0025, XQDY0026, XQDY0041, XQDY0064, XQDY0072, XQDY0074, XUTY0004, XUTY0005, XUTY0006, XUTY0007, XUTY0008, XUTY0010, XUTY0011, XUTY0012, XUTY0022, XUDY0009, XUDY0027, XUDY0029, XUDY0030, PXQ0002, PXQ0003};
+ghost use Rattle.fault_codes.specs.declared.code.Code.TheVariants.{XPST0008, XPST0017, XPDY0002, XPTY0004, XPTY0018, XPTY0019, XPTY0020, FOAR0001, FOAR0002, FODC0002, FORG0001, FORG0006, XQTY0024, XQDY0025, XQDY0026, XQDY0041, XQDY0064, XQDY0072, XQDY0074, XUTY0004, XUTY0005, XUTY0006, XUTY0007, XUTY0008, XUTY0010, XUTY0011, XUTY0012, XUTY0022, XUDY0009, XUDY0027, XUDY0029, XUDY0030, XUTY0013, XUDY0014, XUDY0015, XUDY0021, PXQ0002, PXQ0003};
 ghost use Rattle.values.specs.declared.compare.Comparison.TheVariants.{Equal, Less};
 ghost use Rattle.values.specs.declared.operators.Operator.TheVariants.{Add, IntegerDivide, Modulo};
 ghost use Rattle.query_grammar.specs.declared.ast.Expr.TheOpen.{Expr-F};
@@ -16,8 +16,9 @@ ghost use Rattle.query_grammar.specs.declared.ast.KindTest.TheVariants as test;
 ghost use Rattle.query_grammar.specs.declared.ast.Place.TheVariants.{Into, FirstInto, LastInto, After, Before};
 ghost use Rattle.query_grammar.specs.declared.ast.Quantifier.TheVariants.{Some as AtLeastOne, Every};
 ghost use Rattle.query_grammar.specs.declared.ast.Sign.TheVariants.{Minus, Plus};
+ghost use Rattle.query_meaning.specs.Copies.{copy};
 ghost use Rattle.query_meaning.specs.Meaning.{meaning_of};
-ghost use Rattle.query_meaning.specs.Examples.{int, str, var, list, call, binary, elem, elem_named, attr, txt, comment, instr, instr_named, doc_node, named, any, child, filtered_by, path, every_node, let_in, db, db_a, below_a, attribute_k, inserting, deleting, replacing, replacing_value, renaming, said, said_after, said_of_filled, with_turns, with_nodes, asked, asked_of_filled, alone, one, with_r, below_r};
+ghost use Rattle.query_meaning.specs.Examples.{int, str, var, list, call, binary, elem, elem_named, attr, txt, comment, instr, instr_named, doc_node, named, any, child, filtered_by, path, every_node, let_in, db, db_a, below_a, attribute_k, inserting, deleting, replacing, replacing_value, renaming, said, said_after, said_of_filled, with_turns, with_nodes, asked, asked_of_filled, alone, one, with_r, below_r, set, copy_c, c, below, children_of, submitted};
 
 /// Operators.
 #[tactic(auto, unfolding(crate::proofs::Compute::everything))]
@@ -366,4 +367,58 @@ pub fn limits()
     // element e {element f {}}: the copy is a third node
     ensures nodes { said_after (with_nodes 3) (elem (codes "e") (elem (codes "f") (list []))) ≡ one (codes "element e {element f {}}") }
     ensures no_node { said_after (with_nodes 2) (elem (codes "e") (elem (codes "f") (list []))) ≡ Err PXQ0003 }
+{}
+
+/// Copies that are changed, and what is then answered.
+#[tactic(auto, unfolding(crate::proofs::Compute::everything))]
+pub fn copies()
+    // copy $c := element a {element b {}} modify rename node $c/b as "x" return $c
+    ensures renamed { said (copy_c (elem (codes "a") (elem (codes "b") (list []))) (renaming (below (codes "b") c) (str (codes "x"))) c) ≡ one (codes "element a {element x {}}") }
+    // copy $c := element r {"a", element m {}, "b"} modify delete node $c/m return count($c/text())
+    ensures merged { said (copy_c (elem (codes "r") (list (str (codes "a") ∷ elem (codes "m") (list []) ∷ str (codes "b") ∷ []))) (deleting (below (codes "m") c)) (call (codes "count") (children_of test.Text c ∷ []))) ≡ one (codes "1") }
+    // copy $c := 1 modify () return $c
+    ensures no_node { said (copy_c (int 1) (list []) c) ≡ Err XUTY0013 }
+    // copy $c := doc("db") modify insert node element a {} into doc("db") return $c
+    ensures no_copy { said (copy_c db (inserting Into (elem (codes "a") (list [])) db) c) ≡ Err XUDY0014 }
+    // copy $c := doc("db") modify insert node element a {} into $c return $c
+    ensures document { said (copy_c db (inserting Into (elem (codes "a") (list [])) c) c) ≡ one (codes "document {element a {}}") }
+    // copy $c := text {"x"} modify replace value of node $c with () return $c: a text with no parent may be empty
+    ensures empty_text { said (copy_c (txt (str (codes "x"))) (replacing_value c (list [])) c) ≡ one (codes "text {\"\"}") }
+    // copy $c := text {"x"}, $d := text {"y"} modify () return ($c, $d): trees are no neighbours
+    ensures two_texts { said (copy (set (codes "c") (txt (str (codes "x"))) ∷ set (codes "d") (txt (str (codes "y"))) ∷ []) (list []) (list (c ∷ var (codes "d") ∷ []))) ≡ Ok (codes "text {\"x\"}" ∷ codes "text {\"y\"}" ∷ []) }
+    // copy $c := element a {}, $c := element b {} modify () return $c
+    ensures last_counts { said (copy (set (codes "c") (elem (codes "a") (list [])) ∷ set (codes "c") (elem (codes "b") (list [])) ∷ []) (list []) c) ≡ one (codes "element b {}") }
+    // let $c := element a {} return copy $d := element b {}, $c := $c modify () return $c: sources see what is outside
+    ensures outside { said (let_in (codes "c") (elem (codes "a") (list [])) (copy (set (codes "d") (elem (codes "b") (list [])) ∷ set (codes "c") c ∷ []) (list []) c)) ≡ one (codes "element a {}") }
+    // let $a := element a {} return copy $c := $a modify rename node $c as "x" return ($a, $c): the source stays
+    ensures source_stays { said (let_in (codes "a") (elem (codes "a") (list [])) (copy_c (var (codes "a")) (renaming c (str (codes "x"))) (list (var (codes "a") ∷ c ∷ [])))) ≡ Ok (codes "element a {}" ∷ codes "element x {}" ∷ []) }
+    // copy $c := element a {} modify (rename node $c as "x", rename node $c as "y") return $c
+    ensures incompatible { said (copy_c (elem (codes "a") (list [])) (list (renaming c (str (codes "x")) ∷ renaming c (str (codes "y")) ∷ [])) c) ≡ Err XUDY0015 }
+    // copy $c := element a {attribute p {"1"}, attribute q {"2"}} modify rename node $c/@p as "q" return $c
+    ensures one_name { said (copy_c (elem (codes "a") (list (attr (codes "p") (str (codes "1")) ∷ attr (codes "q") (str (codes "2")) ∷ []))) (renaming (path c (named axis.Attribute (codes "p") [] ∷ [])) (str (codes "q"))) c) ≡ Err XUDY0021 }
+    // copy $c := element a {} modify insert node element b {} after $c return $c
+    ensures beside_root { said (copy_c (elem (codes "a") (list [])) (inserting After (elem (codes "b") (list [])) c) c) ≡ Err XUDY0029 }
+    // copy $c := element a {} modify delete node $c return $c: a node with no parent stays
+    ensures root_stays { said (copy_c (elem (codes "a") (list [])) (deleting c) c) ≡ one (codes "element a {}") }
+    // copy $c := element a {} modify insert node (copy $d := $c modify rename node $d as "x" return $d) into $c return $c
+    ensures nested { said (copy_c (elem (codes "a") (list [])) (inserting Into (copy (set (codes "d") c ∷ []) (renaming (var (codes "d")) (str (codes "x"))) (var (codes "d"))) c) c) ≡ one (codes "element a {element x {}}") }
+    // copy $c := element a {} modify insert node (copy $d := element b {} modify rename node $c as "x" return $d) into $c return $c
+    ensures not_the_inner_copy { said (copy_c (elem (codes "a") (list [])) (inserting Into (copy (set (codes "d") (elem (codes "b") (list [])) ∷ []) (renaming c (str (codes "x"))) (var (codes "d"))) c) c) ≡ Err XUDY0014 }
+    // copy $c := doc("db")/a modify () return count($c/node()), of the filled store: attribute, text, comment and instruction come along
+    ensures whole { said_of_filled (copy_c db_a (list []) c) ≡ one (codes "element a {attribute k {\"1\"}, text {\"x\"}, comment {\"c\"}, processing-instruction p {\"\"}}") }
+    // copy $c := element e {element f {}} modify () return $c: a second pair of nodes is made, and a copy of what is content
+    ensures nodes { said_after (with_nodes 5) (copy_c (elem (codes "e") (elem (codes "f") (list []))) (list []) c) ≡ one (codes "element e {element f {}}") }
+    ensures too_many_nodes { said_after (with_nodes 4) (copy_c (elem (codes "e") (elem (codes "f") (list []))) (list []) c) ≡ Err PXQ0003 }
+{}
+
+/// What a request leaves of the document `db` with an element `a` (3), next 4, where it inserts a changed copy.
+#[tactic(auto, unfolding(crate::proofs::Compute::everything))]
+pub fn stored_copies()
+    // insert node (copy $c := doc("db")/a modify rename node $c as "b" return $c) into doc("db")
+    ensures identities { submitted (inserting Into (copy_c db_a (renaming c (str (codes "b"))) c) db)
+        ≡ Ok (record {
+          trees = tree (record { identity = 1; kind = kind.Document; name = []; text = [] }) no_trees (tree (record { identity = 3; kind = kind.Element; name = codes "a"; text = [] }) no_trees no_trees (alone kind.Element 5 (codes "b") [])) no_trees;
+          documents = (codes "db", 1) ∷ [];
+          next = 6;
+        }) }
 {}
