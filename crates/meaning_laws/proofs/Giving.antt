@@ -66,7 +66,7 @@ use Rattle.meaning_laws.proofs.Sound.{same_value, fault_, both_stand, IsAbove, s
 use Rattle.meaning_laws.proofs.Sound.{bind, loop, turn_, turns_, hold, both_counted, Upto, Given, stands_up, stand_up, upto_up, given_up, no_items, one_item, limit, join, AreThere}
 use Rattle.meaning_laws.proofs.Fresh.{leaf_sound, assembled_sound}
 
-abbrev FocusStands : Run → Option Focus → Type 0
+abbrev pub FocusStands : Run → Option Focus → Type 0
 FocusStands run None = Unit {0}
 FocusStands run (Some f) = Stands (trees_of run) f.item
 

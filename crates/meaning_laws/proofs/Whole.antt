@@ -1,4 +1,6 @@
 -- A whole evaluation.
+use Rattle.std.specs.List.{All}
+use Rattle.std.specs.Option.{ForSome}
 use Rattle.std.proofs.Common.{◌≡◌, ◌≤◌, ◌<◌, ◌+◌, ℕ, List, [], ◌∷◌, length, Option, Some, None, IsSome, Result, Ok, Err, ap, subst, sym, refl, arith}
 use Rattle.trees.specs.Forest.{ForestTerm, IsForest, AreDocuments}
 use Rattle.data_model.specs.Trees.{Trees, no_trees, Place, append, count, find, IsAt}
@@ -8,16 +10,17 @@ use Rattle.data_model.proofs.Weights.{append-none}
 use Rattle.fault_codes.specs.declared.code.Code.{Code}
 use Rattle.values.specs.declared.atom.Item.{Item}
 use Rattle.query_grammar.specs.declared.ast.Expr.{Expr}
-use Rattle.query_meaning.specs.Environment.{no_environment}
+use Rattle.shelves.specs.Shelf.{IsShelf}
+use Rattle.query_meaning.specs.Environment.{Environment, Focus, Bound, no_environment}
 use Rattle.query_meaning.specs.Meaning.{mean, evaluated, start, outcome, Outcome}
-use Rattle.query_meaning.specs.Running.{Run, most_nodes, most_items}
+use Rattle.query_meaning.specs.Running.{Run, trees_of, most_nodes, most_items}
 use Rattle.update_meaning.specs.Brought.{new_trees}
 use Rattle.meaning_laws.proofs.Updating.{every}
-use Rattle.meaning_laws.specs.Given.{AllStand}
-use Rattle.meaning_laws.proofs.Giving.{knows_nothing}
+use Rattle.meaning_laws.specs.Given.{Stands as StandsIn, AllStand, IsKnown}
+use Rattle.meaning_laws.proofs.Giving.{FocusStands, Knows, knows_nothing}
 use Rattle.meaning_laws.proofs.Bringing.{every as given}
 use Rattle.meaning_laws.proofs.Sound.{IsSound, AreThere, Ends, Given, same_run, same_value, both_counted}
-use Rattle.meaning_laws.proofs.Keeps.{no_value}
+use Rattle.meaning_laws.proofs.Keeps.{no_value, Each}
 use Rattle.meaning_laws.proofs.Steady.{Numbers, numbers, same_forest, SameForest}
 
 abbrev next_of : ℕ → Result Outcome Code → ℕ
@@ -124,3 +127,38 @@ own_of_standing lent o s i =
 pub own_trees : (x : Expr) (lent : ForestTerm) (o : Outcome) → IsForest lent → evaluated x lent ≡ Ok o
     → (i : ℕ) → (count i (append lent.trees o.trees) ≤ 1) × (0 < count i o.trees → (lent.next ≤ i) × (i < o.next))
 own_trees x lent o h w = own_of_standing lent o (standing x lent o h w)
+
+-- Over a shelf, with a list of its own.
+
+shelf_sound : (run : Run) → IsShelf run.shelf → run.primitives ≡ [] → IsSound (λ i. 0) run
+shelf_sound run s none = record {
+  once = λ i. omega (arith, nothing i, s.distinct i);
+  below = λ i there. s.below i (omega (arith, nothing i, there));
+  fresh = λ i there. s.after.apart i (omega (arith, nothing i, there));
+  started = s.after.later;
+  documents = all_there run.shelf.lent.trees run.shelf.lent.documents s.lent.standing;
+}
+  where
+    nothing : (i : ℕ) → count i (new_trees run.primitives) ≡ 0
+    nothing i = ap (λ ps. count i (new_trees ps)) none
+
+known : (run : Run) (env : Environment) → IsKnown (trees_of run) env → Knows run env
+known run env k = record { focus = focus env.focus k.focus; variables = variables env.variables k.few k.variables }
+  where
+    focus : (o : Option Focus) → ForSome o (λ f. StandsIn (trees_of run) f.item) → FocusStands run o
+    focus None h = tt
+    focus (Some f) h = h
+
+    variables : (bs : List Bound) → All (λ b. length b.items ≤ most_items) bs → All (λ b. AllStand (trees_of run) b.items) bs → Each (λ (b : Bound). Given run b.items) bs
+    variables [] h g = tt
+    variables (b ∷ bs) h g = (record { few = h.0; stand = g.0 }, variables bs h.1 g.1)
+
+pub brought : (x : Expr) (env : Environment) (run after : Run) (items : List Item) → IsShelf run.shelf → run.primitives ≡ [] → IsKnown (trees_of run) env
+    → mean x env run ≡ Ok (items, after)
+    → (i : ℕ) → (count i (append (trees_of after) (new_trees after.primitives)) ≤ 1)
+    × (0 < count i (append after.shelf.own.trees (new_trees after.primitives)) → (run.shelf.lent.next ≤ i) × (i < after.shelf.own.next))
+brought x env run after items s none k e i =
+    let ends = ((given x run env (known run env k)).holds (λ j. 0)).passes run (shelf_sound run s none) same_run (items, after) e in
+    let same : after.shelf.lent ≡ run.shelf.lent = (every SameForest same_forest x env).kept run (items, after) e in
+    let all = both_counted i (trees_of after) (new_trees after.primitives) in
+    (omega (arith, all, ends.sound.once i), λ there. (let range = in_range after ends.sound i there in (subst (λ (f : ForestTerm). f.next ≤ i) same range.0, range.1)))

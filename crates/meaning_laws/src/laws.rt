@@ -5,6 +5,7 @@ ghost use Rattle.std.specs.List.{range_with_len};
 ghost use Rattle.trees.specs.Forest.{ForestTerm, IsForest};
 ghost use Rattle.data_model.specs.Order.{identities};
 ghost use Rattle.data_model.specs.Trees.{Trees, append, count, size};
+ghost use Rattle.shelves.specs.Shelf.{IsShelf};
 ghost use Rattle.pending.specs.Primitives.{PrimitiveTerm};
 ghost use Rattle.values.specs.declared.atom.Item.{Item};
 ghost use Rattle.query_grammar.specs.declared.ast.Expr.{Expr};
@@ -16,7 +17,7 @@ ghost use Rattle.query_meaning.specs.Paths.{path};
 ghost use Rattle.query_meaning.specs.Running.{Run, trees_of, most_nodes, most_items};
 ghost use Rattle.query_meaning.specs.Sequences.{Meaning, sequence};
 ghost use Rattle.update_meaning.specs.Brought.{new_trees};
-ghost use Rattle.meaning_laws.specs.Given.{AllStand};
+ghost use Rattle.meaning_laws.specs.Given.{AllStand, IsKnown};
 ghost use Rattle.meaning_laws.specs.Order.{IsInOrder, IsAtomic};
 
 /// An expression leaves the forest that was lent, the trees that stood beside it, and the update primitives that there were: it only adds.
@@ -51,6 +52,15 @@ pub fn primitives_bring_new_nodes()
     ensures { (x : Expr) (lent : ForestTerm) (o : Outcome) → IsForest lent → evaluated x lent ≡ Ok o
         → (i : ℕ) → (count i (append lent.trees (append o.trees (new_trees o.primitives))) ≤ 1)
         × (0 < count i (append o.trees (new_trees o.primitives)) → (lent.next ≤ i) × (i < o.next)) }
+{}
+
+/// So it is wherever an expression is evaluated that gives its primitives into a list of their own: they bring nodes of which none stands, and all that was made
+/// since the forest was lent comes after that forest's nodes.
+pub fn own_lists_bring_new_nodes()
+    ensures { (x : Expr) (env : Environment) (run after : Run) (items : List Item) → IsShelf run.shelf → run.primitives ≡ [] → IsKnown (trees_of run) env
+        → mean x env run ≡ Ok (items, after)
+        → (i : ℕ) → (count i (append (trees_of after) (new_trees after.primitives)) ≤ 1)
+        × (0 < count i (append after.shelf.own.trees (new_trees after.primitives)) → (run.shelf.lent.next ≤ i) × (i < after.shelf.own.next)) }
 {}
 
 /// Copied content takes the identities from the next one on, in document order and without a gap.
