@@ -4,11 +4,10 @@ use Rattle.data_model.specs.Trees.{Trees, no_trees}
 use Rattle.trees.specs.Forest.{ForestTerm}
 use Rattle.pending.specs.Primitives.{PrimitiveTerm}
 use Rattle.fault_codes.specs.declared.code.Code.{Code}
-use Rattle.fault_codes.specs.declared.code.Code.TheVariants.{XPST0003}
 use Rattle.values.specs.declared.atom.Item.{Item}
 use Rattle.query_grammar.specs.declared.ast.Expr.{Expr, fold-Expr}
 use Rattle.query_grammar.specs.declared.ast.Expr.TheOpen.{Expr-F}
-use Rattle.query_meaning.specs.Running.{Run, fault, most_turns}
+use Rattle.query_meaning.specs.Running.{Run, most_turns}
 use Rattle.query_meaning.specs.Environment.{no_environment}
 use Rattle.query_meaning.specs.Sequences.{Meaning, number, string, variable, context_item, sequence, conditional, quantified, flwor}
 use Rattle.query_meaning.specs.Operators.{chain, signed}
@@ -16,6 +15,7 @@ use Rattle.query_meaning.specs.Paths.{step, filter_of, path}
 use Rattle.query_meaning.specs.Functions.{call}
 use Rattle.query_meaning.specs.Constructors.{document, element, attribute, text, comment, instruction}
 use Rattle.query_meaning.specs.Updates.{insert, delete, replace_node, replace_value, rename}
+use Rattle.query_meaning.specs.Copies.{copy}
 
 -- an expression, by what its parts mean
 abbrev pub meaning_of : Expr-F Meaning → Meaning
@@ -44,8 +44,7 @@ meaning_of (Expr-F.Delete target) = delete target
 meaning_of (Expr-F.ReplaceNode target source) = replace_node target source
 meaning_of (Expr-F.ReplaceValue target source) = replace_value target source
 meaning_of (Expr-F.Rename target name) = rename target name
--- no text of level 1 has this form
-meaning_of (Expr-F.Copy bs changes m) = λ env. fault XPST0003
+meaning_of (Expr-F.Copy bs changes m) = copy bs changes m
 
 unfoldable pub mean : Expr → Meaning
 mean = fold-Expr Meaning meaning_of
