@@ -19,6 +19,7 @@ use Rattle.query_meaning.specs.Constructors as constructors
 use Rattle.meaning_laws.proofs.Keeps.{no_value}
 use Rattle.meaning_laws.proofs.Nodes.{merged_few, without_empty_few, two_parts}
 use Rattle.update_meaning.specs.Brought.{new_trees}
+use Rattle.meaning_laws.proofs.Steady.{same_beside}
 use Rattle.meaning_laws.proofs.Sound.{uses, both_counted, IsSound, AreThere, Ends, Passes, Holds, hold, Any, Comes, Given, one_item, same_value}
 
 -- trees whose nodes have distinct identities, of those from n on up to m
@@ -52,7 +53,7 @@ both_new n m k us vs h g a b = record { once = once; within = within }
     within i there = on_either_side (count i us) (count i vs) (omega (arith, both_counted i us vs, there))
         (λ t. (let u = a.within i t in (u.0, omega (arith, u.1, g)))) (λ t. (let v = b.within i t in (omega (arith, v.0, h), v.1)))
 
-copy_new : (n : ℕ) (us : Trees) → AreNew n (n + size us) (renumbered n us)
+pub copy_new : (n : ℕ) (us : Trees) → AreNew n (n + size us) (renumbered n us)
 copy_new n us = record { once = λ i. of i (count i (renumbered n us)) refl; within = λ i. renumbered-within n i us }
   where
     of : (i k : ℕ) → count i (renumbered n us) ≡ k → count i (renumbered n us) ≤ 1
@@ -162,7 +163,7 @@ made_sound aside run p s h = record {
     started = subst (λ f. f.next ≤ p.1.shelf.own.next) (sym h.lent) (omega (arith, s.started, h.next));
     documents = subst (λ f. AreThere f.trees f.documents) (sym h.lent) s.documents;
   };
-  above = record { stand = λ i there. omega (arith, same i, there) };
+  above = record { stand = λ i there. omega (arith, same i, there); more = same_beside run.shelf.own.trees p.1.shelf.own.trees h.own };
   value = tt;
 }
   where
@@ -206,13 +207,16 @@ tree_sound aside run t s = record {
 }
 
 -- a tree of new nodes is made and stands
-stands_sound : (aside : ℕ → ℕ) (run after : Run) (t : Trees) (i : ℕ) (p : List Item × Run) → IsSound aside run → Makes run (t, after)
+pub stands_sound : (aside : ℕ → ℕ) (run after : Run) (t : Trees) (i : ℕ) (p : List Item × Run) → IsSound aside run → Makes run (t, after)
     → 0 < count i t → Comes (Ok (item.Node i ∷ [], with_tree after t)) p → Ends (List Item) Given (λ _. aside) run p
 stands_sound aside run after t i p s makes there e =
     let made = made_sound aside run (t, after) s makes in
     subst (Ends (List Item) Given (λ _. aside) run) (same_value (item.Node i ∷ [], with_tree after t) p e) (record {
       sound = tree_sound aside after t made.sound;
-      above = record { stand = λ j h. (let k = made.above.stand j h in omega (arith, more_counted after t j, k)) };
+      above = record {
+        stand = λ j h. (let k = made.above.stand j h in omega (arith, more_counted after t j, k));
+        more = (t, ap (λ us. append us t) makes.own);
+      };
       value = one_item (item.Node i) (omega (arith, more_counted after t i, there));
     })
 

@@ -1,5 +1,5 @@
 -- What every step of an evaluation leaves of a run.
-use Rattle.std.proofs.Common.{◌≡◌, ℕ, suc, ◌+◌, Bool, true, false, nat_le, if◌then◌else◌, ◌==◌, ◌-◌, List, [], ◌∷◌, ◌++◌, length, Result, Ok, Err, refl, ap, subst, sym}
+use Rattle.std.proofs.Common.{◌≡◌, ℕ, suc, ◌+◌, ◌≤◌, Bool, true, false, nat_le, if◌then◌else◌, ◌==◌, ◌-◌, List, [], ◌∷◌, ◌++◌, length, Result, Ok, Err, refl, ap, subst, sym}
 use Rattle.data_model.specs.Trees.{Trees, append}
 use Rattle.pending.specs.Compatible.{most_primitives}
 use Rattle.pending.specs.Primitives.{PrimitiveTerm}
@@ -8,13 +8,23 @@ use Rattle.fault_codes.specs.declared.code.Code.TheVariants.{PXQ0002, PXQ0003}
 use Rattle.values.specs.declared.atom.Atom.{Atom}
 use Rattle.values.specs.declared.atom.Item.{Item}
 use Rattle.values.specs.Atoms.{atomized}
+use Rattle.update_meaning.specs.Changed.{rooted_at, with_changed}
 use Rattle.query_meaning.specs.Running.{Run, M, trees_of, pure, fault, and_then, ◌>>=◌, come_to, seen, atoms, each, turn, turns, adding, new_nodes, standing, joined, within, most_nodes}
+
+-- it holds of each
+abbrev pub Each : {A : Type 0} → (A → Type 0) → List A → Type 0
+Each Q [] = Unit {0}
+Each Q (x ∷ xs) = Q x × Each Q xs
+
+-- numbers from n on
+abbrev pub AreFrom : ℕ → List ℕ → Type 0
+AreFrom n is = Each (λ i. n ≤ i) is
 
 -- where it comes to a value, the run after it stands so to the run before it
 pub record Keeps (R : Run → Run → Type 0) (A : Type 0) (m : M A) : Type 0 where
   pub kept : (run : Run) (p : A × Run) → m run ≡ Ok p → R run p.1
 
--- a relation of runs that each single change keeps, but for those of the update primitives
+-- a relation of runs that each single change keeps, but for those of the update primitives; trees that are changed have later identities
 pub record IsQuiet (R : Run → Run → Type 0) : Type 0 where
   pub same : (run : Run) → R run run
   pub chained : (a b c : Run) → R a b → R b c → R a c
@@ -22,16 +32,14 @@ pub record IsQuiet (R : Run → Run → Type 0) : Type 0 where
   pub numbered : (run : Run) (n : ℕ) → nat_le (run.shelf.own.next + n) (run.shelf.lent.next + most_nodes) ≡ true
       → R run (record run { shelf = record run.shelf { own = record run.shelf.own { next = run.shelf.own.next + n } } })
   pub stood : (run : Run) (ts : Trees) → R run (record run { shelf = record run.shelf { own = record run.shelf.own { trees = append run.shelf.own.trees ts } } })
+  pub changed : (a b : Run) (is : List ℕ) (ps : List PrimitiveTerm) → R a b → AreFrom a.shelf.own.next is
+      → R a (record b { shelf = record b.shelf { own = record b.shelf.own { trees = with_changed (rooted_at is) ps b.shelf.own.trees } } })
 
 -- a relation of runs that each single change keeps
 pub record IsSteady (R : Run → Run → Type 0) : Type 0 where
   pub quiet : IsQuiet R
   pub added : (run : Run) (p : PrimitiveTerm) → R run (record run { primitives = run.primitives ++ p ∷ [] })
-
--- it holds of each
-abbrev pub Each : {A : Type 0} → (A → Type 0) → List A → Type 0
-Each Q [] = Unit {0}
-Each Q (x ∷ xs) = Q x × Each Q xs
+  pub owned : (run a : Run) → R (record run { primitives = [] }) a → R run (record a { primitives = run.primitives })
 
 -- a value's run
 abbrev run_of : {A : Type 0} → Run → Result (A × Run) Code → Run

@@ -13,3 +13,7 @@ pub mod Fresh
 pub mod Giving
 pub mod Bringing
 pub mod Numbering
+pub mod Effects
+pub mod Changing
+pub mod Copying
+pub mod Copied

@@ -2,16 +2,19 @@
 use Rattle.std.proofs.Common.{◌≡◌, ◌⊎◌, inl, inr, ℕ, ◌+◌, ◌<◌, ◌≤◌, eqb, ltb, cond, Bool, true, false, not, ◌||◌, ◌&&◌, if◌then◌else◌, List, [], ◌∷◌, ◌++◌, length, filter, refl, subst, sym, arith}
 use Rattle.data_model.specs.Axes.{is_in}
 use Rattle.data_model.specs.Order.{identities}
-use Rattle.data_model.specs.Trees.{Trees, no_trees, tree, Content, count, is_text}
+use Rattle.data_model.specs.Trees.{Trees, no_trees, tree, Content, append, count, is_text}
 use Rattle.data_model.specs.Walks.{held, root_of}
 use Rattle.data_model.specs.declared.node.Kind.{Kind}
 use Rattle.data_model.proofs.Firsts.{held-identities, eqb-swap}
 use Rattle.data_model.proofs.Climbs.{any-tells, root-front, root-back}
-use Rattle.data_model.proofs.Weights.{eqb-same}
+use Rattle.data_model.proofs.Weights.{eqb-same, weigh-append}
 use Rattle.pending.specs.Texts.{before_merged, merged, without_empty_texts, is_empty_text}
 use Rattle.query_meaning.specs.Content.{those}
 use Rattle.query_meaning.specs.Operators.{nodes}
 use Rattle.meaning_laws.specs.Given.{AllStand}
+
+pub both_counted : (i : ℕ) (ts us : Trees) → count i (append ts us) ≡ count i ts + count i us
+both_counted i ts us = weigh-append (λ j. cond (eqb i j) 1 0) ts us
 
 -- each is in the trees
 abbrev pub AreIn : Trees → List ℕ → Type 0
@@ -87,7 +90,7 @@ root_stands i (tree c bs cs rest) h = of (root_stands i rest) (any-tells (count 
 
 -- Lists of trees that lose some.
 
-before_merged_few : (i : ℕ) (c : Content) (bs cs ts : Trees) → count i (before_merged c bs cs ts) ≤ count i (tree c bs cs ts)
+pub before_merged_few : (i : ℕ) (c : Content) (bs cs ts : Trees) → count i (before_merged c bs cs ts) ≤ count i (tree c bs cs ts)
 before_merged_few i c bs cs no_trees = omega arith
 before_merged_few i c bs cs (tree d ds es rest) = of (is_text c.kind && is_text d.kind)
   where

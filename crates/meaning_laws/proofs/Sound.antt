@@ -1,9 +1,8 @@
 -- What an evaluation gives over trees of distinct nodes, and that it leaves such trees.
-use Rattle.std.proofs.Common.{◌≡◌, ℕ, suc, ◌+◌, ◌-◌, ◌<◌, ◌≤◌, ◌==◌, eqb, cond, Bool, true, false, nat_le, if◌then◌else◌}
+use Rattle.std.proofs.Common.{◌≡◌, ℕ, suc, ◌+◌, ◌-◌, ◌<◌, ◌≤◌, ◌==◌, Bool, true, false, nat_le, if◌then◌else◌}
 use Rattle.std.proofs.Common.{List, [], ◌∷◌, ◌++◌, length, Result, Ok, Err, refl, ap, subst, arith}
 use Rattle.std.proofs.lemmas.Bool.{leb-true}
-use Rattle.data_model.specs.Trees.{Trees, append, count}
-use Rattle.data_model.proofs.Weights.{weigh-append}
+use Rattle.data_model.specs.Trees.{Trees, count}
 use Rattle.update_meaning.specs.Brought.{trees_of as brought_by, new_trees}
 use Rattle.pending.specs.Compatible.{most_primitives}
 use Rattle.pending.specs.Primitives.{PrimitiveTerm}
@@ -14,6 +13,8 @@ use Rattle.values.specs.declared.atom.Item.TheVariants as item
 use Rattle.query_meaning.specs.Running.{Run, M, trees_of, pure, fault, and_then, ◌>>=◌, come_to, seen, each, turn, turns, adding, within, joined, most_items}
 use Rattle.meaning_laws.specs.Given.{Stands, AllStand}
 use Rattle.meaning_laws.proofs.Keeps.{no_value, Each}
+pub use Rattle.meaning_laws.proofs.Nodes.{both_counted}
+use Rattle.meaning_laws.proofs.Steady.{Beside, none_beside, both_beside}
 
 abbrev pub AreThere : Trees → List (List ℕ × ℕ) → Type 0
 AreThere ts [] = Unit {0}
@@ -32,15 +33,19 @@ pub record IsSound (aside : ℕ → ℕ) (run : Run) : Type 0 where
   pub started : run.shelf.lent.next ≤ run.shelf.own.next
   pub documents : AreThere run.shelf.lent.trees run.shelf.lent.documents
 
--- what stands in the one's trees stands in the other's
+-- what stands in the one's trees stands in the other's, which has the one's new trees and more
 pub record IsAbove (a b : Run) : Type 0 where
   pub stand : (i : ℕ) → 0 < count i (trees_of a) → 0 < count i (trees_of b)
+  pub more : Beside a.shelf.own.trees b.shelf.own.trees
 
 pub same_run : {run : Run} → IsAbove run run
-same_run = record { stand = λ i h. h }
+same_run {run} = record { stand = λ i h. h; more = none_beside run.shelf.own.trees }
 
 pub up : {a b c : Run} → IsAbove a b → IsAbove b c → IsAbove a c
-up h g = record { stand = λ i there. g.stand i (h.stand i there) }
+up {a} {b} {c} h g = record {
+  stand = λ i there. g.stand i (h.stand i there);
+  more = both_beside a.shelf.own.trees b.shelf.own.trees c.shelf.own.trees h.more g.more;
+}
 
 pub record Ends (A : Type 0) (Q : Run → A → Type 0) (aside : A → ℕ → ℕ) (run : Run) (p : A × Run) : Type 0 where
   pub sound : IsSound (aside p.0) p.1
@@ -138,8 +143,8 @@ resumed : {A : Type 0} {Q : Run → A → Type 0} {aside : ℕ → ℕ} (r : Run
 resumed {aside = aside} r m run n p h s k e =
     let same : IsSound aside (record run { turns = n }) =
     record { once = s.once; below = s.below; fresh = s.fresh; started = s.started; documents = s.documents } in
-    let z = (h.holds aside).passes (record run { turns = n }) same (record { stand = k.stand }) p e in
-    record { sound = z.sound; above = record { stand = z.above.stand }; value = z.value }
+    let z = (h.holds aside).passes (record run { turns = n }) same (record { stand = k.stand; more = k.more }) p e in
+    record { sound = z.sound; above = record { stand = z.above.stand; more = z.above.more }; value = z.value }
 
 turn_if : {A : Type 0} {Q : Run → A → Type 0} {aside : ℕ → ℕ} (r : Run) (m : M A) (run : Run) (p : A × Run) (b : Bool)
     → Holds r A Q m → IsSound aside run → IsAbove r run
@@ -159,9 +164,6 @@ pub turns_ : {r : Run} (n : ℕ) → Holds r (Unit {0}) Any (turns n)
 turns_ {r = r} n = hold (λ aside run s k p e. spent_if r n run p (nat_le n run.turns) s k e)
 
 -- Update primitives.
-
-pub both_counted : (i : ℕ) (ts us : Trees) → count i (append ts us) ≡ count i ts + count i us
-both_counted i ts us = weigh-append (λ j. cond (eqb i j) 1 0) ts us
 
 -- one primitive more brings its trees
 more_brought : (i : ℕ) (ps : List PrimitiveTerm) (q : PrimitiveTerm)
@@ -201,7 +203,7 @@ added_if : (before after : ℕ → ℕ) (q : PrimitiveTerm) (run : Run) (p : Uni
 added_if before after q run p true less s e = absurd (no_value PXQ0002 p e)
 added_if before after q run p false less s e =
     subst (Ends (Unit {0}) Any (λ _. after) run) (same_value (tt, record run { primitives = run.primitives ++ q ∷ [] }) p e)
-    (record { sound = added_sound before after q run less s; above = record { stand = λ i there. there }; value = tt })
+    (record { sound = added_sound before after q run less s; above = record { stand = λ i there. there; more = none_beside run.shelf.own.trees }; value = tt })
 
 pub add_from : {r : Run} (before after : ℕ → ℕ) (q : PrimitiveTerm) → Brings before after q
     → Passes r (Unit {0}) Any (adding q) before (λ _. after)

@@ -1,9 +1,10 @@
 -- A whole evaluation.
-use Rattle.std.specs.List.{All}
+use Rattle.std.specs.List.{All, AllByRecursion}
 use Rattle.std.specs.Option.{ForSome}
-use Rattle.std.proofs.Common.{◌≡◌, ◌≤◌, ◌<◌, ◌+◌, ℕ, List, [], ◌∷◌, length, Option, Some, None, IsSome, Result, Ok, Err, ap, subst, sym, refl, arith}
+use Rattle.std.proofs.Common.{◌≡◌, inl, inr, ◌≤◌, ◌<◌, ◌+◌, ℕ, List, [], ◌∷◌, length, Option, Some, None, IsSome, Result, Ok, Err, ap, subst, sym, refl, arith}
+use Rattle.std.proofs.lemmas.List.Elements.{recursion_from_All}
 use Rattle.trees.specs.Forest.{ForestTerm, IsForest, AreDocuments}
-use Rattle.data_model.specs.Trees.{Trees, no_trees, Place, append, count, find, IsAt}
+use Rattle.data_model.specs.Trees.{Trees, no_trees, tree, Place, append, count, find, roots, IsAt}
 use Rattle.data_model.specs.declared.node.Kind.TheVariants.{Document}
 use Rattle.data_model.proofs.Climbs.{there-counts}
 use Rattle.data_model.proofs.Weights.{append-none}
@@ -21,7 +22,8 @@ use Rattle.meaning_laws.proofs.Giving.{FocusStands, Knows, knows_nothing}
 use Rattle.meaning_laws.proofs.Bringing.{every as given}
 use Rattle.meaning_laws.proofs.Sound.{IsSound, AreThere, Ends, Given, same_run, same_value, both_counted}
 use Rattle.meaning_laws.proofs.Keeps.{no_value, Each}
-use Rattle.meaning_laws.proofs.Steady.{Numbers, numbers, same_forest, SameForest}
+use Rattle.meaning_laws.proofs.Steady.{Numbers, numbers, same_forest, SameForest, Beside, none_beside, StandFirst, stand_first}
+use Rattle.meaning_laws.proofs.Changing.{IsRoot}
 
 abbrev next_of : ℕ → Result Outcome Code → ℕ
 next_of n (Ok o) = o.next
@@ -42,6 +44,21 @@ of_result x lent o (Err e) is h = absurd (no_value e o h)
 pub limited : (x : Expr) (lent : ForestTerm) (o : Outcome) → evaluated x lent ≡ Ok o → IsLimited lent o.next
 unfolding evaluated
 limited x lent o h = of_result x lent o (mean x no_environment (start lent)) refl h
+
+-- Over trees whose roots come before the next identity.
+
+roots_before : (n : ℕ) (ts : Trees) → AllByRecursion (λ i. i < n) (roots ts) → (k : ℕ) → IsRoot k ts → k < n
+roots_before n no_trees h k root = absurd root
+roots_before n (tree c bs cs rest) h k (inl e) = subst (λ j. j < n) e h.0
+roots_before n (tree c bs cs rest) h k (inr root) = roots_before n rest h.1 k root
+
+pub first_stand : (x : Expr) (env : Environment) (run after : Run) (items : List Item) → All (λ i. i < run.shelf.own.next) (roots run.shelf.own.trees)
+    → mean x env run ≡ Ok (items, after) → Beside run.shelf.own.trees after.shelf.own.trees
+first_stand x env run after items low e =
+    let n = run.shelf.own.next in
+    let ts = run.shelf.own.trees in
+    let before = roots_before n ts (recursion_from_All (λ i. i < n) (roots ts) low) in
+    ((every (StandFirst n ts) (stand_first n ts before) x env).kept run (items, after) e (omega arith, none_beside ts)).1
 
 -- Over a forest of distinct nodes.
 
@@ -143,13 +160,18 @@ shelf_sound run s none = record {
     nothing i = ap (λ ps. count i (new_trees ps)) none
 
 known : (run : Run) (env : Environment) → IsKnown (trees_of run) env → Knows run env
-known run env k = record { focus = focus env.focus k.focus; variables = variables env.variables k.few k.variables }
+known run env k = record {
+  focus = focus env.focus k.focus;
+  variables = variables env.variables (recursion_from_All (λ b. length b.items ≤ most_items) env.variables k.few)
+      (recursion_from_All (λ b. AllStand (trees_of run) b.items) env.variables k.variables);
+}
   where
     focus : (o : Option Focus) → ForSome o (λ f. StandsIn (trees_of run) f.item) → FocusStands run o
     focus None h = tt
-    focus (Some f) h = h
+    focus (Some f) h = h f refl
 
-    variables : (bs : List Bound) → All (λ b. length b.items ≤ most_items) bs → All (λ b. AllStand (trees_of run) b.items) bs → Each (λ (b : Bound). Given run b.items) bs
+    variables : (bs : List Bound) → AllByRecursion (λ b. length b.items ≤ most_items) bs → AllByRecursion (λ b. AllStand (trees_of run) b.items) bs
+        → Each (λ (b : Bound). Given run b.items) bs
     variables [] h g = tt
     variables (b ∷ bs) h g = (record { few = h.0; stand = g.0 }, variables bs h.1 g.1)
 

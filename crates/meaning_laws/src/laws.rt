@@ -1,10 +1,10 @@
 //! Laws of what expressions mean, each the contract of a function that does nothing.
 
 ghost use Rattle.std.specs.Prelude.{◌≡◌, ◌≤◌, ◌+◌, ◌<◌, ◌++◌, ◌↔◌, ◌⊎◌, ℕ, List, [], ◌∷◌, Ok, false, length};
-ghost use Rattle.std.specs.List.{range_with_len};
+ghost use Rattle.std.specs.List.{All, range_with_len};
 ghost use Rattle.trees.specs.Forest.{ForestTerm, IsForest};
 ghost use Rattle.data_model.specs.Order.{identities};
-ghost use Rattle.data_model.specs.Trees.{Trees, append, count, size};
+ghost use Rattle.data_model.specs.Trees.{Trees, append, count, roots, size};
 ghost use Rattle.shelves.specs.Shelf.{IsShelf};
 ghost use Rattle.pending.specs.Primitives.{PrimitiveTerm};
 ghost use Rattle.values.specs.declared.atom.Item.{Item};
@@ -20,11 +20,12 @@ ghost use Rattle.update_meaning.specs.Brought.{new_trees};
 ghost use Rattle.meaning_laws.specs.Given.{AllStand, IsKnown};
 ghost use Rattle.meaning_laws.specs.Order.{IsInOrder, IsAtomic};
 
-/// An expression leaves the forest that was lent, the trees that stood beside it, and the update primitives that there were: it only adds.
+/// An expression leaves the forest that was lent, the trees that stood beside it, and the update primitives that there were: it only adds. Of the trees this is so
+/// where their roots come before the next identity, as in an evaluation they do: what an expression changes is copies that it made itself, which come later.
 pub fn nothing_is_lost()
     ensures forest { (x : Expr) (env : Environment) (run after : Run) (items : List Item) → mean x env run ≡ Ok (items, after) → after.shelf.lent ≡ run.shelf.lent }
-    ensures trees { (x : Expr) (env : Environment) (run after : Run) (items : List Item) → mean x env run ≡ Ok (items, after)
-        → (more : Trees) × (after.shelf.own.trees ≡ append run.shelf.own.trees more) }
+    ensures trees { (x : Expr) (env : Environment) (run after : Run) (items : List Item) → All (λ i. i < run.shelf.own.next) (roots run.shelf.own.trees)
+        → mean x env run ≡ Ok (items, after) → (more : Trees) × (after.shelf.own.trees ≡ append run.shelf.own.trees more) }
     ensures primitives { (x : Expr) (env : Environment) (run after : Run) (items : List Item) → mean x env run ≡ Ok (items, after)
         → (more : List PrimitiveTerm) × (after.primitives ≡ run.primitives ++ more) }
 {}
