@@ -28,11 +28,12 @@ use Rattle.update_meaning.specs.Brought.{trees_of as brought_by}
 use Rattle.meaning_laws.proofs.Expressions.{Forms}
 use Rattle.meaning_laws.proofs.Expressions as expressions
 use Rattle.meaning_laws.proofs.Nodes.{two_parts}
-use Rattle.meaning_laws.proofs.Sound.{Passes, Holds, Any, pure_, fault_, come_any, see, follow, bind, loop, add, add_from, leave, Given, given_up}
+use Rattle.meaning_laws.proofs.Sound.{Passes, Holds, Any, pure_, come_any, see, follow, bind, loop, add, add_from, leave, Given, given_up}
 use Rattle.meaning_laws.proofs.Sound.{no_items, up}
 use Rattle.meaning_laws.proofs.Fresh.{content_made, text_made, none_made, makes_aside}
 use Rattle.meaning_laws.proofs.Giving.{Good, knows_up, any_up, all_any, any_atoms, named}
 use Rattle.meaning_laws.proofs.Giving as giving
+use Rattle.meaning_laws.proofs.Copied as copied
 
 nothing : {r : Run} → Holds r (List Item) Given (pure [])
 nothing = pure_ [] (λ b k. no_items)
@@ -202,7 +203,7 @@ forms = record {
   replace_node = replace_node;
   replace_value = replace_value;
   rename = rename;
-  copy = λ r env h. fault_ code.XPST0003;
+  copy = copied.copy;
 }
 
 pub every : (x : Expr) → Good (mean x)

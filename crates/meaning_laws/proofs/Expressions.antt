@@ -1,6 +1,5 @@
 -- What each form has where its parts have it, every expression has.
 use Rattle.std.proofs.Common.{◌≡◌, ℕ, List, [], ◌∷◌, map, Option, Some, None, refl, subst, sym}
-use Rattle.fault_codes.specs.declared.code.Code.TheVariants.{XPST0003}
 use Rattle.query_grammar.specs.declared.ast.Binding.{Binding}
 use Rattle.query_grammar.specs.declared.ast.Clause.{Clause}
 use Rattle.query_grammar.specs.declared.ast.Clause.TheVariants as clause
@@ -19,13 +18,13 @@ use Rattle.query_grammar.specs.declared.ast.Name.{Name}
 use Rattle.query_grammar.specs.declared.ast.Sign.{Sign}
 use Rattle.static_checks.specs.Parts.{source_of}
 use Rattle.query_grammar.specs.declared.functions.Function.{Function}
-use Rattle.query_meaning.specs.Running.{fault}
 use Rattle.query_meaning.specs.Sequences as sequences
 use Rattle.query_meaning.specs.Operators as operators
 use Rattle.query_meaning.specs.Paths as paths
 use Rattle.query_meaning.specs.Functions as functions
 use Rattle.query_meaning.specs.Constructors as constructors
 use Rattle.query_meaning.specs.Updates as updates
+use Rattle.query_meaning.specs.Copies as copies
 use Rattle.query_meaning.specs.Sequences.{Meaning}
 use Rattle.query_meaning.specs.Meaning.{meaning_of, mean}
 use Rattle.meaning_laws.proofs.Keeps.{Each}
@@ -78,7 +77,7 @@ pub record Forms (G : Meaning → Type 0) : Type 0 where
   pub replace_node : (target source : Meaning) → G target → G source → G (updates.replace_node target source)
   pub replace_value : (target source : Meaning) → G target → G source → G (updates.replace_value target source)
   pub rename : (target name : Meaning) → G target → G name → G (updates.rename target name)
-  pub copy : G (λ env. fault XPST0003)
+  pub copy : (bs : List (Binding Meaning)) (changes result : Meaning) → Each (OfBinding G) bs → G changes → G result → G (copies.copy bs changes result)
 
 module _ (G : Meaning → Type 0) (form : Forms G) where
   abbrev Good : Expr → Type 0
@@ -142,7 +141,7 @@ module _ (G : Meaning → Type 0) (form : Forms G) where
   layer (Expr-F.ReplaceNode target source) = form.replace_node _ _ target.1 source.1
   layer (Expr-F.ReplaceValue target source) = form.replace_value _ _ target.1 source.1
   layer (Expr-F.Rename target name) = form.rename _ _ target.1 name.1
-  layer (Expr-F.Copy bs changes y) = form.copy
+  layer (Expr-F.Copy bs changes y) = form.copy _ _ _ (each_part (OfBinding G) _ _ (λ (b : Binding Proved). b.source.1) bs) changes.1 y.1
 
   pub every : (x : Expr) → Good x
   unfolding mean

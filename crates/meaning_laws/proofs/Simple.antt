@@ -1,7 +1,6 @@
 -- What is neither updating nor misplaced adds no update primitives: it keeps whatever the quiet changes keep.
-use Rattle.std.proofs.Common.{◌≡◌, ℕ, Bool, true, false, ◌||◌, if◌then◌else◌, List, [], ◌∷◌, ◌++◌, map, Some, None, refl, ap, subst, sym, ◌∙◌}
+use Rattle.std.proofs.Common.{◌≡◌, ℕ, ◌≤◌, Bool, true, false, ◌||◌, if◌then◌else◌, List, [], ◌∷◌, ◌++◌, map, Some, None, refl, ap, subst, sym, ◌∙◌}
 use Rattle.std.specs.List.{list_any}
-use Rattle.fault_codes.specs.declared.code.Code.TheVariants.{XPST0003}
 use Rattle.query_grammar.specs.declared.ast.Binding.{Binding}
 use Rattle.query_grammar.specs.declared.ast.Clause.{Clause}
 use Rattle.query_grammar.specs.declared.ast.Clause.TheVariants as clause
@@ -22,8 +21,11 @@ use Rattle.static_checks.proofs.Forms.{map_form, form_mapped}
 use Rattle.query_meaning.specs.Running.{Run}
 use Rattle.query_meaning.specs.Sequences.{Meaning}
 use Rattle.query_meaning.specs.Meaning.{meaning_of, mean}
-use Rattle.meaning_laws.proofs.Keeps.{IsQuiet, Each, fault_keeps}
+use Rattle.meaning_laws.proofs.Copying.{copy_keeps, own_list_quiet}
+use Rattle.meaning_laws.proofs.Keeps.{IsQuiet, Each}
 use Rattle.meaning_laws.proofs.Forms as form
+use Rattle.meaning_laws.proofs.Steady.{Onward, quiet_onward, Whichever, steady_whichever}
+use Rattle.meaning_laws.proofs.Updating.{every as of_any}
 
 neither : (a b : Bool) → a || b ≡ false → (a ≡ false) × (b ≡ false)
 neither true b h = absurd (let f : ⊥ = cc in f)
@@ -41,7 +43,7 @@ none_of_both (j ∷ js) h g =
     let m = neither (is_faulty j) (list_any is_faulty js) g in
     ap (λ b. (b || is_faulty j) || list_any may_not_stand js) c.0 ∙ ap (λ b. b || list_any may_not_stand js) m.0 ∙ none_of_both js c.1 m.1
 
-module _ (R : Run → Run → Type 0) (s : IsQuiet R) where
+module _ (R : Run → Run → Type 0) (s : IsQuiet R) (later : (a b : Run) → R a b → a.shelf.own.next ≤ b.shelf.own.next) where
   abbrev Fine : Judged → Type 0
   Fine j = may_not_stand j ≡ false
 
@@ -68,6 +70,10 @@ module _ (R : Run → Run → Type 0) (s : IsQuiet R) where
   abbrev made_of : (before inner : List Proved) → Form Proved
   made_of before inner = record { own = (form_of {A = Proved} (Expr-F.Sequence [])).own; before = before; inner = inner; after = [] }
 
+  -- as what copies and changes them has them
+  abbrev changed_by : (before inner after : List Proved) → Form Proved
+  changed_by before inner after = record { own = (form_of {A = Proved} Expr-F.Context).own; before = before; inner = inner; after = after }
+
   abbrev form_in : Form Proved → Form Judged
   form_in f = map_form judged (map_form expression f)
 
@@ -83,6 +89,14 @@ module _ (R : Run → Run → Type 0) (s : IsQuiet R) where
       let front = neither (list_any may_not_stand (map judged (map expression before))) _ (sym (faulty_form (form_in (made_of before inner))) ∙ whole.1) in
       let middle = neither (list_any is_faulty js) _ front.1 in
       (all_good before front.0, all_good inner (none_of_both js (first_not (list_any is_updating (categories js)) _ whole.0) middle.0))
+
+  -- where copies are changed by the inner ones, which may update
+  good_around : (before inner after : List Proved) → Fine (judged_form (form_in (changed_by before inner after))) → Each IsGood before × Each IsGood after
+  good_around before inner after h =
+      let front = neither (list_any may_not_stand (map judged (map expression before))) _ (sym (faulty_form (form_in (changed_by before inner after))) ∙ h) in
+      let middle = neither (list_any is_faulty (map judged (map expression inner))) _ front.1 in
+      let back = neither (list_any may_not_stand (map judged (map expression after))) _ middle.1 in
+      (all_good before front.0, all_good after back.0)
 
   abbrev mapped : Expr-F Proved → Expr-F Meaning
   mapped y = map-Expr Expr Meaning mean (map-Expr Proved Expr expression y)
@@ -160,7 +174,10 @@ module _ (R : Run → Run → Type 0) (s : IsQuiet R) where
   layer (Expr-F.ReplaceNode target source) h = absurd (let f : ⊥ = cc in f)
   layer (Expr-F.ReplaceValue target source) h = absurd (let f : ⊥ = cc in f)
   layer (Expr-F.Rename target name) h = absurd (let f : ⊥ = cc in f)
-  layer (Expr-F.Copy bs changes y) h = λ env. fault_keeps R s XPST0003
+  layer (Expr-F.Copy bs changes y) h =
+      let g = good_around (sources bs) (changes ∷ []) (y ∷ []) h in
+      copy_keeps R s later _ (mean changes.0) (mean y.0) (each_part (form.GoodBinding R s) _ _ (λ (b : Binding Proved). b.source) (λ b k. k) bs g.0)
+      (λ env. own_list_quiet R (mean changes.0 env) (of_any (Whichever R) (steady_whichever R s) changes.0 env)) g.1.0
 
   -- what is judged of a form is judged of its parts
   of_form : (y : Expr-F Proved) → Fine (judged (roll-Expr (map-Expr Proved Expr expression y))) → Fine (judged_form (form_in (form_of y)))
@@ -171,7 +188,10 @@ module _ (R : Run → Run → Type 0) (s : IsQuiet R) where
       fold-roll-Expr Judged (λ x. judged_form (form_of x)) z ∙ ap judged_form (form_mapped judged z ∙ ap (map_form judged) (form_mapped expression y)) in
       subst Fine moved h
 
-  pub every : (x : Expr) → Good x
+  every_later : (x : Expr) → Good x
   unfolding mean
-  every = ind-Expr Good (λ x y is. subst (λ z. Good (roll-Expr z)) is
+  every_later = ind-Expr Good (λ x y is. subst (λ z. Good (roll-Expr z)) is
       (λ h. subst (form.Good R s) (sym (fold-roll-Expr Meaning meaning_of (map-Expr Proved Expr expression y))) (layer y (of_form y h))))
+
+pub every : (R : Run → Run → Type 0) (s : IsQuiet R) (x : Expr) → may_not_stand (judged x) ≡ false → form.Good R s (mean x)
+every R s x fine env = record { kept = λ run p h. ((every_later (Onward R) (quiet_onward R s) (λ a b k. k.0) x fine env).kept run p h).1 }

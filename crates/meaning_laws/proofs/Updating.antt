@@ -1,5 +1,5 @@
 -- Each updating expression keeps what its parts keep and what an update primitive more does.
-use Rattle.std.proofs.Common.{ℕ, Bool, true, false, not, ◌||◌, if◌then◌else◌, List, [], ◌∷◌, is_some, Result, Err}
+use Rattle.std.proofs.Common.{ℕ, ◌≤◌, Bool, true, false, not, ◌||◌, if◌then◌else◌, List, [], ◌∷◌, is_some, Result, Err}
 use Rattle.data_model.specs.Tidy.{is_document}
 use Rattle.data_model.specs.Trees.{Trees, no_trees, tree, Place as Standing, Content, find}
 use Rattle.data_model.specs.declared.node.Kind.{Kind}
@@ -12,6 +12,7 @@ use Rattle.values.specs.declared.atom.Atom.{Atom}
 use Rattle.values.specs.declared.atom.Item.{Item}
 use Rattle.values.specs.declared.atom.Item.TheVariants as item
 use Rattle.values.specs.Atoms.{or_fault}
+use Rattle.query_grammar.specs.declared.ast.Binding.{Binding}
 use Rattle.query_grammar.specs.declared.ast.Expr.{Expr}
 use Rattle.query_grammar.specs.declared.ast.Place.{Place}
 use Rattle.query_grammar.specs.declared.ast.Place.TheVariants as place
@@ -20,12 +21,15 @@ use Rattle.query_meaning.specs.Meaning.{mean}
 use Rattle.query_meaning.specs.Sequences.{Meaning}
 use Rattle.query_meaning.specs.Operators as operators
 use Rattle.query_meaning.specs.Content as contents
+use Rattle.query_meaning.specs.Copies as copies
 use Rattle.query_meaning.specs.Updates as updates
 use Rattle.query_meaning.specs.Strings.{spaced}
-use Rattle.meaning_laws.proofs.Keeps.{Keeps, IsSteady, pure_keeps, fault_keeps, come_keeps, seen_keeps, atoms_keep, bind, each_keeps, adding_keeps}
+use Rattle.meaning_laws.proofs.Copying.{own_list_keeps, copy_keeps}
+use Rattle.meaning_laws.proofs.Keeps.{Keeps, Each, IsSteady, pure_keeps, come_keeps, seen_keeps, atoms_keep, bind, each_keeps, adding_keeps}
 use Rattle.meaning_laws.proofs.Expressions.{Forms}
 use Rattle.meaning_laws.proofs.Expressions as expressions
 use Rattle.meaning_laws.proofs.Forms as form
+use Rattle.meaning_laws.proofs.Steady.{Onward, steady_onward}
 
 module _ (R : Run → Run → Type 0) (s : IsSteady R) where
   abbrev K : {A : Type 0} → M A → Type 0
@@ -123,7 +127,13 @@ module _ (R : Run → Run → Type 0) (s : IsSteady R) where
       step (gt env) (λ found. step (target_of updates.has_name code.XUTY0012 found) (λ (x : Standing).
       step (form.named R s.quiet x.content.kind name gn env) (λ given. step (adding_keeps R s (rename_to x.content.identity given)) (λ _. pure_ []))))
 
-  forms : Forms Good
+-- every form, where the next identity is none that was taken before
+module _ (R : Run → Run → Type 0) (s : IsSteady R) (later : (a b : Run) → R a b → a.shelf.own.next ≤ b.shelf.own.next) where
+  copy : (bs : List (Binding Meaning)) (changes result : Meaning) → Each (form.GoodBinding R s.quiet) bs → form.Good R s.quiet changes → form.Good R s.quiet result
+      → form.Good R s.quiet (copies.copy bs changes result)
+  copy bs changes result gs gc gr = copy_keeps R s.quiet later bs changes result gs (λ env. own_list_keeps R s (changes env) (gc env)) gr
+
+  forms : Forms (form.Good R s.quiet)
   forms = record {
     number = form.number R s.quiet;
     string = form.string R s.quiet;
@@ -145,13 +155,16 @@ module _ (R : Run → Run → Type 0) (s : IsSteady R) where
     conditional = form.conditional R s.quiet;
     quantified = form.quantified R s.quiet;
     flwor = form.flwor R s.quiet;
-    insert = insert;
-    delete = delete;
-    replace_node = replace_node;
-    replace_value = replace_value;
-    rename = rename;
-    copy = λ env. fault_keeps R s.quiet code.XPST0003;
+    insert = insert R s;
+    delete = delete R s;
+    replace_node = replace_node R s;
+    replace_value = replace_value R s;
+    rename = rename R s;
+    copy = copy;
   }
 
-  pub every : (x : Expr) → Good (mean x)
-  every = expressions.every Good forms
+  every_later : (x : Expr) → form.Good R s.quiet (mean x)
+  every_later = expressions.every (form.Good R s.quiet) forms
+
+pub every : (R : Run → Run → Type 0) (s : IsSteady R) (x : Expr) → form.Good R s.quiet (mean x)
+every R s x env = record { kept = λ run p h. ((every_later (Onward R) (steady_onward R s) (λ a b k. k.0) x env).kept run p h).1 }
