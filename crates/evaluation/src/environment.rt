@@ -1,8 +1,10 @@
 //! The context of an expression (XQuery 1.0, section 2.1.2).
 
-ghost use Rattle.std.specs.Prelude.{◌≡◌, [], ◌∷◌, None, option_map, IfOk};
+ghost use Rattle.std.specs.Prelude.{◌≡◌, ◌≤◌, [], ◌∷◌, None, length, option_map, IfOk};
+ghost use Rattle.std.specs.List.{All};
 ghost use Rattle.std.specs.Option.{option_copied};
 ghost use Rattle.query_meaning.specs.Environment.{value_in, with_focus};
+ghost use Rattle.query_meaning.specs.Running.{most_items};
 ghost use Rattle.evaluation.specs.Around.{item_in, position_in, size_in};
 
 use crate::sequence::Sequence;
@@ -43,9 +45,11 @@ impl Model for Variables {
 
     ghost coded = { coded_list bound_code };
 
-    ghost use Rattle.evaluation.specs.Linked.{variables_of};
+    ghost use Rattle.evaluation.specs.Linked.{variables_of, HasFew};
 
     ghost view = { λ a. variables_of a.last };
+
+    ghost invariant = { HasFew };
 
     ghost size = { length };
 
@@ -71,6 +75,8 @@ impl Variables {
     ) -> Result<Variables, AllocError>
         ensures { IfOk result (λ v. v ≡ record { variable = name.now; items = items } ∷ others.now) }
     {
+        others.facts();
+        let _few = items.as_slice();
         let binding = Binding {
             name: name.clone()?,
             items,
@@ -79,6 +85,13 @@ impl Variables {
         Ok(Variables {
             last: Link::More(Rc::new(alloc, binding)?),
         })
+    }
+
+    /// No value has more than 10,000 items. It does nothing.
+    pub fn facts(&self)
+        ensures few { All (λ b. length b.items ≤ most_items) self.now }
+    {
+        let _few = &self.last;
     }
 
     /// The value of a variable: the one that was bound last counts. `None` where no variable has that name.
@@ -147,6 +160,13 @@ impl<'f, 'v> Environment<'f, 'v> {
             focus: None,
             variables,
         }
+    }
+
+    /// No value of a variable has more than 10,000 items. It does nothing.
+    pub fn facts(&self)
+        ensures few { All (λ b. length b.items ≤ most_items) self.now.variables }
+    {
+        self.variables.facts();
     }
 
     /// The variables.
