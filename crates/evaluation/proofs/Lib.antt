@@ -1,3 +1,4 @@
+pub mod Copies
 pub mod Each
 pub mod Limits
 pub mod Unfolded

@@ -1,5 +1,5 @@
 -- What there may be of items.
-use Rattle.std.proofs.Common.{◌≡◌, List, length, Result, Ok, Err, Bool, true, false, nat_le, cond}
+use Rattle.std.proofs.Common.{◌≡◌, List, length, Ok, Err, Bool, true, false, nat_le, cond}
 use Rattle.fault_codes.specs.declared.code.Code.TheVariants.{PXQ0002}
 use Rattle.values.specs.declared.atom.Item.{Item}
 use Rattle.query_meaning.specs.Running.{within, most_items}

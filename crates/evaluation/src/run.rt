@@ -1,14 +1,16 @@
 //! What an evaluation has come to.
 
-ghost use Rattle.std.specs.Prelude.{◌≡◌, ◌≤◌, ◌<◌, ◌^◌, ◌-◌, ℕ, [], Ok, Err, IfOk, IfErr, OnOk, OnErr, map};
+ghost use Rattle.std.specs.Prelude.{◌≡◌, ◌≤◌, ◌<◌, ◌^◌, ◌-◌, ℕ, [], Ok, Err, IfOk, IfErr, IsSome, IsTrue, OnOk, OnErr, ◌+◌, ◌↔◌, map};
 ghost use Rattle.data_model.specs.Tree.{trees_of_tree};
-ghost use Rattle.data_model.specs.Trees.{count, no_trees};
+ghost use Rattle.data_model.specs.Changes.{pick};
+ghost use Rattle.data_model.specs.Trees.{count, find, no_trees, size};
 ghost use Rattle.pending.specs.Primitives.{primitive_term};
 ghost use Rattle.shelves.specs.Shelf.{ComesAfter};
 ghost use Rattle.values.specs.Atoms.{atomized};
 ghost use Rattle.values.specs.Comparisons.{general_compared, pairs_compared, tried};
+ghost use Rattle.query_meaning.specs.Copies.{copy_of};
 ghost use Rattle.query_meaning.specs.Meaning.{start};
-ghost use Rattle.query_meaning.specs.Running.{trees_of, adding, new_nodes, standing};
+ghost use Rattle.query_meaning.specs.Running.{trees_of, adding, most_nodes, new_nodes, standing};
 ghost use Rattle.evaluation.specs.Gives.{Any, Fails, GivesIn, Says, Stand, Turns};
 
 use crate::sequence::Sequence;
@@ -194,5 +196,34 @@ impl<'a> Evaluation<'a> {
         ensures refused { OnErr result (self.new ≡ self.old) }
     {
         self.shelf.plant(self.alloc, tree)
+    }
+
+    /// Makes a copy of the tree of a node, with no parent, which stands after all trees: its nodes take the next identities, in document
+    /// order, of which it gives the first, the root's. Faults: `Memory`; `Code` with PXQ0003 where the evaluation would have made more
+    /// than 100,000 nodes. Nothing changes then.
+    pub fn copy(&mut self, node: NodeId) -> Result<NodeId, ValueFault>
+        requires there { IsSome (find node (trees_of self.old)) }
+        ensures made { GivesIn Any (copy_of node) self.old result self.new }
+        ensures refused { OnErr result (self.new ≡ self.old) }
+    {
+        if !self.has_room(node) {
+            return Err(ValueFault::Code(Code::PXQ0003));
+        }
+        let Ok(root) = self.shelf.copy(self.alloc, node) else {
+            return Err(ValueFault::Memory);
+        };
+        Ok(root)
+    }
+
+    /// Whether as many nodes may be made as the tree of a node has.
+    fn has_room(&self, node: NodeId) -> bool
+        requires there { IsSome (find node (trees_of self.now)) }
+        ensures { IsTrue result
+            ↔ (self.now.shelf.own.next + size (pick node (trees_of self.now)) ≤ self.now.shelf.lent.next + most_nodes) }
+    {
+        match self.most_next.checked_sub(self.shelf.next().number()) {
+            Some(room) => self.shelf.is_within(node, room),
+            None => false,
+        }
     }
 }
