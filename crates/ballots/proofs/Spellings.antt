@@ -6,7 +6,7 @@ use Rattle.std.proofs.Math.Nat.{mod-eq_of_lt}
 use Rattle.std.specs.Str.{is_utf8}
 use Rattle.byteorder.specs.Endian.{big_bytes, big_number}
 use Rattle.byteorder.specs.Numbers.{length-bytes_high_first, big_number-reads_back, big_from-lt}
-use Rattle.ballots.specs.Terms.{Request, most_text}
+use Rattle.ballots.specs.Terms.{Request, is_level, most_text}
 use Rattle.ballots.specs.declared.value.Value.{Value}
 use Rattle.ballots.specs.declared.value.Value.TheVariants.{NoOp, Request as Of}
 use Rattle.ballots.specs.declared.spelling.ValueFault.{ValueFault}
@@ -41,13 +41,10 @@ byte-read b rest =
     let number : big_number 1 (b ∷ rest) ≡ b = omega arith in
     rw (le-true 1 (length (b ∷ rest)) (omega arith), number) refl
 
-is-one : (n : ℕ) → n ≡ 1 → (n == 1) ≡ true
-is-one n e = rw e refl
-
 request-spelt : (r : Request) (rest : List ℕ) → IsRequest r → request_read (request_spelling r ++ rest) ≡ Gives r rest
 request-spelt r rest is =
     let text = big_bytes 2 (length r.text) ++ (r.text ++ rest) in
-    rw (number-spelt 4 r.client (big_bytes 8 r.number ++ (r.level ∷ text)) is.client, number-spelt 8 r.number (r.level ∷ text) is.number, byte-read r.level text, is-one r.level is.level, text-spelt r.text rest is.text is.utf8) refl
+    rw (number-spelt 4 r.client (big_bytes 8 r.number ++ (r.level ∷ text)) is.client, number-spelt 8 r.number (r.level ∷ text) is.number, byte-read r.level text, is.level, text-spelt r.text rest is.text is.utf8) refl
 
 pub round-trip : (v : Value) (rest : List ℕ) → IsValue v → value_read (value_spelling v ++ rest) ≡ Gives v rest
 round-trip NoOp rest is = rw (byte-read 0 rest) refl
@@ -139,14 +136,14 @@ request-field bytes r rest small e =
     let number = number-field 8 b.value a.rest b.rest client.0.small b.first in
     let c = parts (number_read 1 b.rest) _ r rest b.second in
     let level = byte-field c.value b.rest c.rest number.0.small c.first in
-    let d = parts (check (c.value == 1) c.rest) _ r rest c.second in
-    let known = given (c.value == 1) tt d.value c.rest d.rest Number d.first in
+    let d = parts (check (is_level c.value) c.rest) _ r rest c.second in
+    let known = given (is_level c.value) tt d.value c.rest d.rest Number d.first in
     let t = parts (text_read d.rest) _ r rest d.second in
     let text = text-field d.rest t.value t.rest (subst AreBytes known.1.1 level.small) t.first in
     let end = same (record { client = a.value; number = b.value; level = c.value; text = t.value }) r t.rest rest t.second in
     let spelt : bytes ≡ request_spelling (record { client = a.value; number = b.value; level = c.value; text = t.value }) ++ t.rest =
     client.0.are ∙ ap (λ (xs : List ℕ). big_bytes 4 a.value ++ xs) (number.0.are ∙ ap (λ (xs : List ℕ). big_bytes 8 b.value ++ xs) (level.are ∙ ap (λ (xs : List ℕ). c.value ∷ xs) (known.1.1 ∙ text.0.are))) in
-    let is : IsRequest (record { client = a.value; number = b.value; level = c.value; text = t.value }) = record { client = client.1; number = number.1; level = is-equal c.value 1 known.0; text = text.1.0; utf8 = text.1.1 } in
+    let is : IsRequest (record { client = a.value; number = b.value; level = c.value; text = t.value }) = record { client = client.1; number = number.1; level = known.0; text = text.1.0; utf8 = text.1.1 } in
     (record { are = spelt ∙ ap₂ (λ (q : Request) (xs : List ℕ). request_spelling q ++ xs) end.0 end.1; small = subst AreBytes end.1 text.0.small }, subst IsRequest end.0 is)
 
 after-tag : (tag : ℕ) (is_no_op is_request : Bool) (bytes : List ℕ) (v : Value) (rest : List ℕ) → (tag == 0) ≡ is_no_op → (tag == 1) ≡ is_request → AreBytes bytes

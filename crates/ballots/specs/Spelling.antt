@@ -2,7 +2,7 @@
 use Rattle.std.specs.Prelude.{◌≡◌, ℕ, ◌<◌, ◌≤◌, ◌^◌, Bool, true, nat_le, ◌==◌, if◌then◌else◌, List, [], ◌∷◌, ◌++◌, length, take, drop, slice_index, ◌-◌}
 use Rattle.std.specs.Str.{is_utf8}
 use Rattle.byteorder.specs.Endian.{big_bytes, big_number}
-use Rattle.ballots.specs.Terms.{Request, most_text}
+use Rattle.ballots.specs.Terms.{Request, is_level, most_text}
 use Rattle.ballots.specs.declared.value.Value.{Value}
 use Rattle.ballots.specs.declared.value.Value.TheVariants.{NoOp, Request as Of}
 use Rattle.ballots.specs.declared.spelling.ValueFault.{ValueFault}
@@ -63,13 +63,12 @@ text_read = do
   _ ← check_utf8 text
   pure text
 
--- the one level that is known is 1
 abbrev pub request_read : List ℕ → Read Request
 request_read = do
   client ← number_read 4
   number ← number_read 8
   level ← number_read 1
-  _ ← check (level == 1)
+  _ ← check (is_level level)
   text ← text_read
   pure (record { client = client; number = number; level = level; text = text })
 
@@ -86,7 +85,7 @@ value_read = number_read 1 >>= value_after
 pub record IsRequest (r : Request) : Type 0 where
   pub client : r.client < 2 ^ 32
   pub number : r.number < 2 ^ 64
-  pub level : r.level ≡ 1
+  pub level : is_level r.level ≡ true
   pub text : length r.text ≤ most_text
   pub utf8 : is_utf8 r.text ≡ true
 

@@ -1,5 +1,5 @@
 -- What requests, questions and setups are to contracts.
-use Rattle.std.specs.Prelude.{ℕ, ◌≤◌, Bool, ◌&&◌, ◌==◌, nat_eq, List, refl}
+use Rattle.std.specs.Prelude.{ℕ, ◌≤◌, Bool, ◌&&◌, ◌==◌, nat_eq, nat_le, List, refl}
 use Rattle.std.specs.Cmp.Lexicographic.{pointwise}
 use Rattle.std.specs.Coded.{Coded, code_by, coded×, coded_ℕ, coded_list}
 use Rattle.ballots.specs.Ballot.{most_members}
@@ -26,6 +26,14 @@ pub record Question : Type 0 where
 abbrev pub question_code : Coded Question
 question_code =
     code_by (ℕ × (ℕ × (ℕ × (ℕ × List ℕ)))) (coded× coded_ℕ (coded× coded_ℕ (coded× coded_ℕ (coded× coded_ℕ (coded_list coded_ℕ))))) (λ q. (q.client, (q.number, (q.floor, (q.level, q.text))))) (λ p. record { client = p.0; number = p.1.0; floor = p.1.1.0; level = p.1.1.1.0; text = p.1.1.1.1 }) (λ _. refl)
+
+-- The levels of the language are 1 to this (our own choice): at 2 there is `copy .. modify .. return` beside all that there is at 1.
+abbrev pub most_level : ℕ
+most_level = 2
+
+-- a level that there is
+abbrev pub is_level : ℕ → Bool
+is_level level = nat_le 1 level && nat_le level most_level
 
 -- the bytes that a request's or a question's text has at most (our own choice)
 abbrev pub most_text : ℕ

@@ -1,8 +1,9 @@
 //! Questions of clients.
 
-ghost use Rattle.std.specs.Prelude.{◌≡◌, ◌≢◌, ◌<◌, ◌≤◌, ◌↔◌, IfOk, IsErrOf, length};
+ghost use Rattle.std.specs.Prelude.{◌≡◌, false, true, ◌<◌, ◌≤◌, ◌↔◌, IfOk, IsErrOf, length};
+ghost use Rattle.ballots.specs.Terms.{is_level};
 
-use super::limits::{MOST_BYTES, POSITIONS};
+use super::limits::{MOST_BYTES, POSITIONS, is_level};
 use super::request::RequestId;
 use std::alloc::Global;
 use std::marker::Model;
@@ -30,8 +31,8 @@ pub struct Ask {
 }
 
 impl Model for Ask {
-    ghost use Rattle.std.specs.Prelude.{◌≡◌, ◌≤◌, length, string_bytes};
-    ghost use Rattle.ballots.specs.Terms.{Question, question_code, most_text};
+    ghost use Rattle.std.specs.Prelude.{◌≡◌, ◌≤◌, true, length, string_bytes};
+    ghost use Rattle.ballots.specs.Terms.{Question, question_code, is_level, most_text};
 
     ghost Value = { Question };
 
@@ -46,7 +47,7 @@ impl Model for Ask {
           text = string_bytes a.text;
         } };
 
-    ghost invariant = { λ a. (a.level ≡ 1) × (a.floor ≤ 1000000) × (length (string_bytes a.text) ≤ most_text) };
+    ghost invariant = { λ a. (is_level a.level ≡ true) × (a.floor ≤ 1000000) × (length (string_bytes a.text) ≤ most_text) };
 }
 
 impl Ask {
@@ -62,12 +63,12 @@ impl Ask {
         text: &str,
     ) -> Result<Ask, AskFault>
         ensures made { IfOk result (λ q. q ≡ record { client = client; number = number; floor = floor; level = level; text = text.now }) }
-        ensures level { IsErrOf result AskFault.Level ↔ (level ≢ 1) }
-        ensures length { IsErrOf result AskFault.TextTooLong ↔ ((level ≡ 1) × (4096 < length text.now)) }
+        ensures level { IsErrOf result AskFault.Level ↔ (is_level level ≡ false) }
+        ensures length { IsErrOf result AskFault.TextTooLong ↔ ((is_level level ≡ true) × (4096 < length text.now)) }
         ensures floor { IsErrOf result AskFault.Floor
-            ↔ ((level ≡ 1) × (length text.now ≤ 4096) × (1000000 < floor)) }
+            ↔ ((is_level level ≡ true) × (length text.now ≤ 4096) × (1000000 < floor)) }
     {
-        if level != 1 {
+        if !is_level(level) {
             return Err(AskFault::Level);
         }
         if text.len() > MOST_BYTES {
@@ -105,7 +106,7 @@ impl Ask {
     /// The language level of the text.
     pub fn level(&self) -> u8
         ensures level { result ≡ self.now.level }
-        ensures known { self.now.level ≡ 1 }
+        ensures known { is_level self.now.level ≡ true }
     {
         self.level
     }

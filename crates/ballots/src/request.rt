@@ -1,9 +1,9 @@
 //! Requests of clients.
 
-ghost use Rattle.std.specs.Prelude.{◌≡◌, ◌≢◌, ◌<◌, ◌≤◌, ◌↔◌, IfOk, IsErrOf, length};
-ghost use Rattle.ballots.specs.Terms.{same_request};
+ghost use Rattle.std.specs.Prelude.{◌≡◌, false, true, ◌<◌, ◌≤◌, ◌↔◌, IfOk, IsErrOf, length};
+ghost use Rattle.ballots.specs.Terms.{is_level, same_request};
 
-use super::limits::MOST_BYTES;
+use super::limits::{MOST_BYTES, is_level};
 use std::alloc::{AllocError, Global};
 use std::marker::Model;
 
@@ -36,8 +36,8 @@ pub struct Request {
 }
 
 impl Model for Request {
-    ghost use Rattle.std.specs.Prelude.{◌≡◌, ◌≤◌, length, string_bytes};
-    ghost use Rattle.ballots.specs.Terms.{Request as RequestTerm, request_code, most_text};
+    ghost use Rattle.std.specs.Prelude.{◌≡◌, ◌≤◌, true, length, string_bytes};
+    ghost use Rattle.ballots.specs.Terms.{Request as RequestTerm, request_code, is_level, most_text};
 
     ghost Value = { RequestTerm };
 
@@ -51,7 +51,7 @@ impl Model for Request {
           text = string_bytes a.text;
         } };
 
-    ghost invariant = { λ a. (a.level ≡ 1) × (length (string_bytes a.text) ≤ most_text) };
+    ghost invariant = { λ a. (is_level a.level ≡ true) × (length (string_bytes a.text) ≤ most_text) };
 }
 
 impl Request {
@@ -66,10 +66,10 @@ impl Request {
         text: &str,
     ) -> Result<Request, RequestFault>
         ensures made { IfOk result (λ r. r ≡ record { client = client; number = number; level = level; text = text.now }) }
-        ensures level { IsErrOf result RequestFault.Level ↔ (level ≢ 1) }
-        ensures length { IsErrOf result RequestFault.TextTooLong ↔ ((level ≡ 1) × (4096 < length text.now)) }
+        ensures level { IsErrOf result RequestFault.Level ↔ (is_level level ≡ false) }
+        ensures length { IsErrOf result RequestFault.TextTooLong ↔ ((is_level level ≡ true) × (4096 < length text.now)) }
     {
-        if level != 1 {
+        if !is_level(level) {
             return Err(RequestFault::Level);
         }
         if text.len() > MOST_BYTES {
@@ -95,7 +95,7 @@ impl Request {
     /// The language level of the text.
     pub fn level(&self) -> u8
         ensures level { result ≡ self.now.level }
-        ensures known { self.now.level ≡ 1 }
+        ensures known { is_level self.now.level ≡ true }
     {
         self.level
     }

@@ -4,7 +4,7 @@ ghost use Rattle.std.specs.Prelude.{◌≡◌, ◌≤◌, ◌++◌, [], ◌∷�
 ghost use Rattle.byteorder.specs.Endian.{big_bytes};
 ghost use Rattle.ballots.specs.Spelling.{Gives, Fails, IsAfter, IsRequest, IsValue, bytes_read, number_read, text_read, request_read, request_spelling, value_read, value_spelling};
 
-use super::limits::MOST_BYTES;
+use super::limits::{MOST_BYTES, is_level};
 use super::request::{Request, RequestFault, RequestId};
 use super::value::Value;
 use byteorder::{BigEndian, ByteOrder};
@@ -120,7 +120,7 @@ fn split_request(alloc: Global, bytes: &[u8]) -> Result<(Request, &[u8]), ValueF
     let (client, rest) = split_u32(bytes)?;
     let (number, rest) = split_u64(rest)?;
     let (level, rest) = split_u8(rest)?;
-    if level != 1 {
+    if !is_level(level) {
         return Err(ValueFault::Number);
     }
     let (text, rest) = split_text(rest)?;

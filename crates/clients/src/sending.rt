@@ -1,15 +1,13 @@
 //! What a client sends.
 
-ghost use Rattle.std.specs.Prelude.{◌≡◌, ◌≤◌, ◌<◌, ◌⊎◌, IfOk, MatchOption, length};
+ghost use Rattle.std.specs.Prelude.{◌≡◌, false, ◌≤◌, ◌<◌, ◌⊎◌, IfOk, MatchOption, length};
 ghost use Rattle.ballots.specs.Messages.{Submit, Ask as AskBody};
+ghost use Rattle.ballots.specs.Terms.{is_level};
 ghost use Rattle.messages.specs.Spelling.{spelling};
 
 use ballots::{Ask, AskFault, Message, Request, RequestId};
 use messages::encode;
 use std::alloc::{AllocError, Global};
-
-/// The language level of a client's questions.
-const LEVEL: u8 = 1;
 
 /// Whom a client's datagrams come from: no member.
 const CLIENT: u8 = 0;
@@ -23,21 +21,22 @@ pub fn request(alloc: Global, group: u32, request: Request) -> Result<Vec<u8>, A
     Ok(bytes)
 }
 
-/// The datagram that asks a question at the language level 1, of that client and number, to be answered where `floor` positions are applied.
+/// The datagram that asks a question at a level of the language, of that client and number, to be answered where `floor` positions are applied.
 ///
-/// There is none where the text is longer than 4,096 bytes or the floor is above 1,000,000. It fails where memory is refused.
+/// There is none where there is no such level, the text is longer than 4,096 bytes or the floor is above 1,000,000. It fails where memory is refused.
 pub fn question(
     alloc: Global,
     group: u32,
     id: RequestId,
     floor: u32,
+    level: u8,
     text: &str,
 ) -> Result<Option<Vec<u8>>, AllocError>
-    ensures spelt { IfOk result (λ asked. MatchOption asked ((4096 < length text.now) ⊎ (1000000 < floor))
+    ensures spelt { IfOk result (λ asked. MatchOption asked ((is_level level ≡ false) ⊎ (4096 < length text.now) ⊎ (1000000 < floor))
         (λ bytes. (length text.now ≤ 4096) × (floor ≤ 1000000)
-        × (bytes.items ≡ spelling (record { group = group; sender = 0; body = AskBody (record { client = id.client; number = id.number; floor = floor; level = 1; text = text.now }) })))) }
+        × (bytes.items ≡ spelling (record { group = group; sender = 0; body = AskBody (record { client = id.client; number = id.number; floor = floor; level = level; text = text.now }) })))) }
 {
-    let ask = match Ask::new(alloc, id.client, id.number, floor, LEVEL, text) {
+    let ask = match Ask::new(alloc, id.client, id.number, floor, level, text) {
         Ok(ask) => ask,
         Err(AskFault::Memory) => return Err(AllocError),
         Err(AskFault::Level | AskFault::TextTooLong | AskFault::Floor) => return Ok(None),

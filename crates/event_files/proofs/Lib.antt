@@ -1,3 +1,2 @@
 pub mod FirstLines
-pub mod Forms
 pub mod Written

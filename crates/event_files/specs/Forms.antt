@@ -3,9 +3,8 @@ use Rattle.std.specs.Prelude.{ℕ, ◌-◌, ◌^◌, Bool, true, false, ◌&&◌
 use Rattle.std.specs.List.{before_first, after_first, slice_split}
 use Rattle.std.specs.Option.{option_map}
 use Rattle.std.specs.Str.{bytes_eq, is_utf8}
-use Rattle.ballots.specs.Terms.{Request as RequestTerm}
 use Rattle.document_names.specs.Names.{are_document_names}
-use Rattle.line_parts.specs.Parts.{has_text_length, is_space, number_below, ◌>>=◌}
+use Rattle.line_parts.specs.Parts.{is_space, number_below, request_of, ◌>>=◌}
 use Rattle.events.specs.declared.event.Event.TheVariants as event
 use Rattle.events.specs.declared.event.Step.{Step}
 use Rattle.events.specs.declared.event.Step.TheVariants as step
@@ -74,22 +73,11 @@ failure_of members line = do
 abbrev pub tick_of : (members : ℕ) → Tick → List ℕ → Option Command
 tick_of members t parts = option_map (λ member. Happens (event.Tick member t)) (number_to members parts)
 
--- a request at level 1, if its text has 1 to 4,096 bytes
-abbrev pub request_with : (client number : ℕ) → List ℕ → Option RequestTerm
-request_with client number text = if has_text_length text then Some (record { client = client; number = number; level = 1; text = text }) else None
-
--- `CLIENT NUMBER TEXT`
-unfoldable pub request_of : List ℕ → Option RequestTerm
-request_of parts = do
-  client ← number_below (2 ^ 32) (part parts)
-  number ← number_of (part (after_part parts))
-  request_with client number (after_part (after_part parts))
-
--- `M CLIENT NUMBER TEXT`: a client sends the request to the member
-abbrev pub submit_of : (members : ℕ) → List ℕ → Option Command
-submit_of members parts = do
+-- `M CLIENT NUMBER TEXT`: a client sends the request, of that level, to the member
+abbrev pub submit_of : (members level : ℕ) → List ℕ → Option Command
+submit_of members level parts = do
   member ← number_to members (part parts)
-  option_map (λ request. Happens (event.Submit member request)) (request_of (after_part parts))
+  option_map (λ request. Happens (event.Submit member request)) (request_of level (after_part parts))
 
 -- `all`, or the number of a message: it is delivered
 abbrev pub deliver_of : List ℕ → Option Command
@@ -116,7 +104,8 @@ command_with members word parts =
     else if bytes_eq word (codes "resend") then tick_of members tick.Resend parts
     else if bytes_eq word (codes "catchup") then tick_of members tick.CatchUp parts
     else if bytes_eq word (codes "keep") then tick_of members tick.Keep parts
-    else if bytes_eq word (codes "submit") then submit_of members parts
+    else if bytes_eq word (codes "submit") then submit_of members 1 parts
+    else if bytes_eq word (codes "submit2") then submit_of members 2 parts
     else if bytes_eq word (codes "deliver") then deliver_of parts
     else if bytes_eq word (codes "stopin") then stop_in_of members parts
     else if bytes_eq word (codes "stop") then option_map (λ member. Happens (event.Stop member)) (number_to members parts)

@@ -1,14 +1,15 @@
 //! What the lines of an event file ask for.
 
-ghost use Rattle.std.specs.Prelude.{◌≡◌, IfOk, IfSome, option_map};
-ghost use Rattle.event_files.specs.Forms.{command_of, command_with, deliver_of, request_of, request_with, step_of, stop_in_of, submit_of, number_to, tick_of};
+ghost use Rattle.std.specs.Prelude.{◌≡◌, true, IfOk, IfSome, option_map};
+ghost use Rattle.ballots.specs.Terms.{is_level};
+ghost use Rattle.event_files.specs.Forms.{command_of, command_with, deliver_of, step_of, stop_in_of, submit_of, number_to, tick_of};
 ghost use Rattle.event_files.specs.Within.{IsCommandOf, IsStepOf};
 
 use super::lines::utf8_of;
 use super::parts::{read_kept, read_member};
-use ballots::{Members, Request};
+use ballots::Members;
 use events::{Event, Step, Tick};
-use line_parts::{cut_at, has_text_length, new_request, read_client, read_number};
+use line_parts::{cut_at, read_number, read_request};
 use std::alloc::{AllocError, Global};
 
 /// What a line asks for.
@@ -53,7 +54,8 @@ fn command_with(
         "resend" => Ok(read_tick(members, Tick::Resend, parts)),
         "catchup" => Ok(read_tick(members, Tick::CatchUp, parts)),
         "keep" => Ok(read_tick(members, Tick::Keep, parts)),
-        "submit" => read_submit(alloc, members, parts),
+        "submit" => read_submit(alloc, members, 1, parts),
+        "submit2" => read_submit(alloc, members, 2, parts),
         "deliver" => Ok(read_deliver(parts)),
         "stopin" => Ok(read_stop_in(members, parts)),
         "stop" => Ok(read_stop(members, parts)),
@@ -128,48 +130,23 @@ fn read_step(members: Members, word: &str, parts: &str) -> Option<Step>
     }
 }
 
-// Reads `M CLIENT NUMBER TEXT`.
-fn read_submit(alloc: Global, members: Members, parts: &str) -> Result<Option<Command>, AllocError>
-    ensures value { IfOk result (λ command. command ≡ submit_of members parts.now) }
+// Reads `M CLIENT NUMBER TEXT`, a request of that language level.
+fn read_submit(
+    alloc: Global,
+    members: Members,
+    level: u8,
+    parts: &str,
+) -> Result<Option<Command>, AllocError>
+    requires { is_level level ≡ true }
+    ensures value { IfOk result (λ command. command ≡ submit_of members level parts.now) }
     ensures within { IfOk result (λ command. IfSome command (IsCommandOf members)) }
 {
     let (member, rest) = cut_at(' ', parts);
     let Some(member) = read_member(members, member) else {
         return Ok(None);
     };
-    match read_request(alloc, rest)? {
+    match read_request(alloc, level, rest)? {
         Some(request) => Ok(Some(Command::Happens(Event::Submit(member, request)))),
         None => Ok(None),
     }
-}
-
-// Reads `CLIENT NUMBER TEXT`.
-#[tactic(auto, unfolding(crate::specs::Forms::request_of))]
-fn read_request(alloc: Global, parts: &str) -> Result<Option<Request>, AllocError>
-    ensures { IfOk result (λ request. request ≡ request_of parts.now) }
-{
-    let (client, rest) = cut_at(' ', parts);
-    let (number, text) = cut_at(' ', rest);
-    let Some(client) = read_client(client) else {
-        return Ok(None);
-    };
-    let Some(number) = read_number(number) else {
-        return Ok(None);
-    };
-    request_with(alloc, client, number, text)
-}
-
-// A request of that client and number, if its text has a right length.
-fn request_with(
-    alloc: Global,
-    client: u32,
-    number: u64,
-    text: &str,
-) -> Result<Option<Request>, AllocError>
-    ensures { IfOk result (λ request. request ≡ request_with client number text.now) }
-{
-    if !has_text_length(text) {
-        return Ok(None);
-    }
-    Ok(Some(new_request(alloc, client, number, text)?))
 }

@@ -4,6 +4,6 @@
 mod parts;
 
 pub use parts::{
-    cut_at, has_text_length, new_request, read_client, read_floor, read_names, read_number,
+    cut_at, has_text_length, read_client, read_floor, read_names, read_number, read_request,
     text_after,
 };

@@ -5,15 +5,13 @@ ghost use Rattle.std.specs.List.{after_first, before_first, list_all, slice_spli
 ghost use Rattle.std.specs.Option.{option_copied};
 ghost use Rattle.document_names.specs.Characters.{is_digit};
 ghost use Rattle.document_names.specs.Names.{are_document_names};
-ghost use Rattle.line_parts.specs.Parts.{has_text_length, is_space, number_below, text_after};
+ghost use Rattle.ballots.specs.Terms.{is_level};
+ghost use Rattle.line_parts.specs.Parts.{has_text_length, is_space, number_below, request_of, request_with, text_after};
 
 use ballots::limits::{MOST_BYTES, POSITIONS};
 use ballots::{Request, RequestFault};
 use document_names::{Names, NamesFault};
 use std::alloc::{AllocError, Global};
-
-/// The language level of every request of a line.
-const LEVEL: u8 = 1;
 
 /// What stands before the first `mark`, an ASCII character, and what stands after it: the whole
 /// text and nothing where there is none.
@@ -35,18 +33,41 @@ pub fn text_after<'a>(beginning: &str, text: &'a str) -> Option<&'a str>
     text.strip_prefix(beginning)
 }
 
-/// A request of a text that is not too long, at the language level 1. It fails where memory is refused.
-pub fn new_request(
+/// Reads `CLIENT NUMBER TEXT`, a request at a language level that there is: CLIENT is up to 2^32 - 1 and NUMBER up to 2^64 - 1, in decimal and
+/// without a sign, single spaces stand between the parts, and TEXT, the rest of the line, has 1 to 4,096 bytes. Any other line gives `None`.
+/// It fails where memory is refused.
+#[tactic(auto, unfolding(crate::specs::Parts::request_of))]
+pub fn read_request(alloc: Global, level: u8, parts: &str) -> Result<Option<Request>, AllocError>
+    requires { is_level level ≡ true }
+    ensures { IfOk result (λ request. request ≡ request_of level parts.now) }
+{
+    let (client, rest) = cut_at(' ', parts);
+    let (number, text) = cut_at(' ', rest);
+    let Some(client) = read_client(client) else {
+        return Ok(None);
+    };
+    let Some(number) = read_number(number) else {
+        return Ok(None);
+    };
+    request_with(alloc, level, client, number, text)
+}
+
+// A request of that level, client and number, if its text has a right length.
+fn request_with(
     alloc: Global,
+    level: u8,
     client: u32,
     number: u64,
     text: &str,
-) -> Result<Request, AllocError>
-    requires { length text.now ≤ 4096 }
-    ensures { IfOk result (λ r. r ≡ record { client = client; number = number; level = 1; text = text.now }) }
+) -> Result<Option<Request>, AllocError>
+    requires { is_level level ≡ true }
+    ensures { IfOk result (λ request. request ≡ request_with level client number text.now) }
 {
-    match Request::new(alloc, client, number, LEVEL, text) {
-        Ok(request) => Ok(request),
+    if !has_text_length(text) {
+        return Ok(None);
+    }
+    match Request::new(alloc, client, number, level, text) {
+        Ok(request) => Ok(Some(request)),
         Err(RequestFault::Memory) => Err(AllocError),
         Err(RequestFault::Level | RequestFault::TextTooLong) => unreachable!(),
     }

@@ -4,7 +4,7 @@ use Rattle.byteorder.specs.Endian.{big_bytes}
 use Rattle.fault_codes.specs.Codes.{code_number}
 use Rattle.fault_codes.specs.declared.code.Code.{Code}
 use Rattle.ballots.specs.Ballot.{most_members}
-use Rattle.ballots.specs.Terms.{most_answer, most_text}
+use Rattle.ballots.specs.Terms.{is_level, most_answer, most_level, most_text}
 use Rattle.ballots.specs.Values.{positions}
 use Rattle.ballots.specs.Replies.{Answered, text, fault}
 use Rattle.ballots.specs.Messages.{Body, Prepare, Promise, Accept, Accepted, Chosen, CatchUp, Submit, Reply, Ask, Answer, Behind, Elsewhere}
@@ -155,18 +155,18 @@ catch-up-exact sender bytes rest b small e =
     finish body_spelling (λ c. MayBe sender 6 c) bytes rest p.mid (CatchUp p.first) b p.next p.are
     (record { of_kind = refl; said = from-member sender; body = p.good; fields = tt })
 
-one : (n : ℕ) → Between 1 1 n → n ≡ 1
-one n h = let least : 1 ≤ n = h.0 in let most : n ≤ 1 = h.1 in omega arith
+known : (n : ℕ) → Between 1 most_level n → is_level n ≡ true
+known n h = let least : 1 ≤ n = h.0 in let most : n ≤ 2 = h.1 in grind arith
 
 submit-exact : (sender : ℕ) → Exact submit_read body_spelling (λ b. MayBe sender 7 b)
 submit-exact sender bytes rest b small e =
     let c = step (number-exact 4) small e in
     let n = step (number-exact 8) c.small c.next in
-    let l = step (small-exact 1 1) n.small n.next in
+    let l = step (small-exact 1 most_level) n.small n.next in
     let t = step (text-exact most_text) l.small l.next in
     finish body_spelling (λ x. MayBe sender 7 x) bytes rest t.mid (Submit (record { client = c.first; number = n.first; level = l.first; text = t.first })) b t.next
     (link (big_bytes 4 c.first) c.are (link (big_bytes 8 n.first) n.are (link (l.first ∷ []) l.are t.are)))
-    (record { of_kind = refl; said = is-equal sender 0; body = tt; fields = record { client = c.good; number = n.good; level = one l.first l.good; text = t.good.0; utf8 = t.good.1 } })
+    (record { of_kind = refl; said = is-equal sender 0; body = tt; fields = record { client = c.good; number = n.good; level = known l.first l.good; text = t.good.0; utf8 = t.good.1 } })
 
 replied-spelt : (o : Option Code) (p : ℕ) → outcome_byte o ++ position_spelling p ≡ reply_spelling (replied o p)
 replied-spelt None p = refl
@@ -193,11 +193,11 @@ ask-exact sender bytes rest b small e =
     let c = step (number-exact 4) small e in
     let n = step (number-exact 8) c.small c.next in
     let f = step (between-exact 4 0 positions) n.small n.next in
-    let l = step (small-exact 1 1) f.small f.next in
+    let l = step (small-exact 1 most_level) f.small f.next in
     let t = step (text-exact most_text) l.small l.next in
     finish body_spelling (λ x. MayBe sender 9 x) bytes rest t.mid (Ask (record { client = c.first; number = n.first; floor = f.first; level = l.first; text = t.first })) b t.next
     (link (big_bytes 4 c.first) c.are (link (big_bytes 8 n.first) n.are (link (big_bytes 4 f.first) f.are (link (l.first ∷ []) l.are t.are))))
-    (record { of_kind = refl; said = is-equal sender 0; body = tt; fields = ((c.good, n.good), f.good.1, one l.first l.good, t.good) })
+    (record { of_kind = refl; said = is-equal sender 0; body = tt; fields = ((c.good, n.good), f.good.1, known l.first l.good, t.good) })
 
 -- after the outcome
 abbrev after_outcome : Answered → List ℕ

@@ -6,7 +6,7 @@ use Rattle.fault_codes.specs.Codes.{code_number}
 use Rattle.fault_codes.specs.declared.code.Code.{Code}
 use Rattle.fault_codes.specs.declared.code.Code.TheVariants.{XPST0003, XPST0008, XPST0017, XQST0090, XUST0001, XPDY0002, XPTY0004, XPTY0018, XPTY0019, XPTY0020, FOAR0001, FOAR0002, FODC0002, FORG0001, FORG0006, XQTY0024, XQDY0025, XQDY0026, XQDY0041, XQDY0064, XQDY0072, XQDY0074, XUTY0004, XUTY0005, XUTY0006, XUTY0007, XUTY0008, XUTY0010, XUTY0011, XUTY0012, XUTY0022, XUDY0009, XUDY0015, XUDY0016, XUDY0017, XUDY0021, XUDY0027, XUDY0029, XUDY0030, PXQ0001, PXQ0002, PXQ0003, PXQ0004, PXQ0005, XQST0089, XUTY0013, XUDY0014, XUST0002}
 use Rattle.ballots.specs.Ballot.{most_members}
-use Rattle.ballots.specs.Terms.{most_answer, most_text}
+use Rattle.ballots.specs.Terms.{is_level, most_answer, most_level, most_text}
 use Rattle.ballots.specs.Values.{positions}
 use Rattle.ballots.specs.Replies.{text, fault}
 use Rattle.ballots.specs.Messages.{Body, Prepare, Promise, Accept, Accepted, Chosen, CatchUp, Submit, Reply, Ask, Answer, Behind, Elsewhere}
@@ -28,11 +28,11 @@ same n = omega arith
 le-trans : {a b c : ℕ} → a ≤ b → b ≤ c → a ≤ c
 le-trans h g = omega arith
 
-from-one : (n : ℕ) → n ≡ 1 → 1 ≤ n
-from-one n e = omega arith
+from-one : (n : ℕ) → is_level n ≡ true → 1 ≤ n
+from-one n e = grind arith
 
-to-one : (n : ℕ) → n ≡ 1 → n ≤ 1
-to-one n e = omega arith
+to-most : (n : ℕ) → is_level n ≡ true → n ≤ most_level
+to-most n e = grind arith
 
 or-true : (b : Bool) → (b || true) ≡ true
 or-true true = refl
@@ -143,7 +143,7 @@ body-back sender (Chosen es) rest s b f =
 body-back sender (CatchUp from) rest s b f = rw (position-back 1 positions from rest b.0 b.1 (same positions)) refl
 body-back sender (Submit q) rest s b f =
     let t = text_spelling q.text ++ rest in
-    rw (number-back 4 q.client (big_bytes 8 q.number ++ (q.level ∷ t)) f.client, number-back 8 q.number (q.level ∷ t) f.number, small-back 1 1 q.level t (from-one q.level f.level) (to-one q.level f.level), text-back most_text q.text rest (omega arith) (f.text, f.utf8)) refl
+    rw (number-back 4 q.client (big_bytes 8 q.number ++ (q.level ∷ t)) f.client, number-back 8 q.number (q.level ∷ t) f.number, small-back 1 most_level q.level t (from-one q.level f.level) (to-most q.level f.level), text-back most_text q.text rest (omega arith) (f.text, f.utf8)) refl
 body-back sender (Reply client number (Done position)) rest s b f =
     let o = 0 ∷ (position_spelling position ++ rest) in
     rw (number-back 4 client (big_bytes 8 number ++ o) f.0.0, number-back 8 number o f.0.1, done-read (position_spelling position ++ rest), position-back 1 positions position rest f.1.0 f.1.1 (same positions)) refl
@@ -153,7 +153,7 @@ body-back sender (Reply client number (Fault code position)) rest s b f =
 body-back sender (Ask q) rest s b f =
     let t = text_spelling q.text ++ rest in
     let l = q.level ∷ t in
-    rw (number-back 4 q.client (big_bytes 8 q.number ++ (big_bytes 4 q.floor ++ l)) f.0.0, number-back 8 q.number (big_bytes 4 q.floor ++ l) f.0.1, position-back 0 positions q.floor l (omega arith) f.1 (same positions), small-back 1 1 q.level t (from-one q.level f.2) (to-one q.level f.2), text-back most_text q.text rest (omega arith) f.3) refl
+    rw (number-back 4 q.client (big_bytes 8 q.number ++ (big_bytes 4 q.floor ++ l)) f.0.0, number-back 8 q.number (big_bytes 4 q.floor ++ l) f.0.1, position-back 0 positions q.floor l (omega arith) f.1 (same positions), small-back 1 most_level q.level t (from-one q.level f.2) (to-most q.level f.2), text-back most_text q.text rest (omega arith) f.3) refl
 body-back sender (Answer client number applied (text t)) rest s b f =
     let x = text_spelling t ++ rest in
     rw (number-back 4 client (big_bytes 8 number ++ (big_bytes 4 applied ++ (0 ∷ x))) f.0.0, number-back 8 number (big_bytes 4 applied ++ (0 ∷ x)) f.0.1, position-back 0 positions applied (0 ∷ x) (omega arith) f.1 (same positions), done-read x, text-back most_answer t rest (omega arith) f.2) refl

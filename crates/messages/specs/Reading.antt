@@ -5,7 +5,7 @@ use Rattle.byteorder.specs.Endian.{big_number}
 use Rattle.fault_codes.specs.declared.code.Code.{Code}
 use Rattle.fault_codes.specs.declared.code.Code.TheVariants.{XPST0003, XPST0008, XPST0017, XQST0090, XUST0001, XPDY0002, XPTY0004, XPTY0018, XPTY0019, XPTY0020, FOAR0001, FOAR0002, FODC0002, FORG0001, FORG0006, XQTY0024, XQDY0025, XQDY0026, XQDY0041, XQDY0064, XQDY0072, XQDY0074, XUTY0004, XUTY0005, XUTY0006, XUTY0007, XUTY0008, XUTY0010, XUTY0011, XUTY0012, XUTY0022, XUDY0009, XUDY0015, XUDY0016, XUDY0017, XUDY0021, XUDY0027, XUDY0029, XUDY0030, PXQ0001, PXQ0002, PXQ0003, PXQ0004, PXQ0005, XQST0089, XUTY0013, XUDY0014, XUST0002}
 use Rattle.ballots.specs.Ballot.{below, last_round, most_members}
-use Rattle.ballots.specs.Terms.{most_answer, most_text}
+use Rattle.ballots.specs.Terms.{most_answer, most_level, most_text}
 use Rattle.ballots.specs.Values.{positions, most_entries}
 use Rattle.ballots.specs.Replies.{Answered, text, fault}
 use Rattle.ballots.specs.Messages.{Body, Prepare, Promise, Accept, Accepted, Chosen, CatchUp, Submit, Reply, Ask, Answer, Behind, Elsewhere}
@@ -197,12 +197,11 @@ catch_up_read = do
   from ← position_read 1 positions
   pure (CatchUp from)
 
--- the one level that is known is 1
 abbrev pub submit_read : List ℕ → Read Body
 submit_read = do
   client ← number_read 4
   number ← number_read 8
-  level ← between_read 1 1 1
+  level ← between_read 1 1 most_level
   t ← text_read most_text
   pure (Submit (record { client = client; number = number; level = level; text = t }))
 
@@ -223,7 +222,7 @@ ask_read = do
   client ← number_read 4
   number ← number_read 8
   floor ← position_read 0 positions
-  level ← between_read 1 1 1
+  level ← between_read 1 1 most_level
   t ← text_read most_text
   pure (Ask (record { client = client; number = number; floor = floor; level = level; text = t }))
 

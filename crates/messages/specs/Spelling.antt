@@ -4,7 +4,7 @@ use Rattle.std.specs.Str.{is_utf8}
 use Rattle.byteorder.specs.Endian.{big_bytes}
 use Rattle.fault_codes.specs.Codes.{code_number}
 use Rattle.ballots.specs.Ballot.{most_members}
-use Rattle.ballots.specs.Terms.{most_answer, most_text}
+use Rattle.ballots.specs.Terms.{is_level, most_answer, most_text}
 use Rattle.ballots.specs.Values.{positions, most_entries}
 use Rattle.ballots.specs.Replies.{Answered, text, fault}
 use Rattle.ballots.specs.Messages.{Body, Prepare, Promise, Accept, Accepted, Chosen, CatchUp, Submit, Reply, Ask, Answer, Behind, Elsewhere}
@@ -122,7 +122,7 @@ HasFields (Accepted position v) = IsValue v.value
 HasFields (Chosen pairs) = All (λ (e : Pair). IsValue e.value) pairs
 HasFields (Submit request) = IsRequest request
 HasFields (Reply client number reply) = IsId client number × IsReply reply
-HasFields (Ask q) = IsId q.client q.number × IsApplied q.floor × (q.level ≡ 1) × IsText most_text q.text
+HasFields (Ask q) = IsId q.client q.number × IsApplied q.floor × (is_level q.level ≡ true) × IsText most_text q.text
 HasFields (Answer client number applied answer) = IsId client number × IsApplied applied × IsAnswer answer
 HasFields (Behind client number applied) = IsId client number × IsApplied applied
 HasFields (Elsewhere client number member) = IsId client number

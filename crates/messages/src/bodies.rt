@@ -12,7 +12,7 @@ use super::fields::{
     split_u32, split_u64, split_value,
 };
 use super::lists::{split_entries, split_pairs};
-use ballots::limits::{MOST_ANSWER, MOST_BYTES, MOST_ENTRIES, MOST_MEMBERS, POSITIONS};
+use ballots::limits::{MOST_ANSWER, MOST_BYTES, MOST_ENTRIES, MOST_LEVEL, MOST_MEMBERS, POSITIONS};
 use ballots::{Answer, Ask, AskFault, Entry, Message, Reply, Request, RequestFault, Vote, Window};
 use fault_codes::Code;
 use std::alloc::Global;
@@ -79,7 +79,7 @@ fn split_submit(alloc: Global, bytes: &[u8]) -> Result<(Message, &[u8]), WireFau
 {
     let (client, rest) = split_u32(bytes)?;
     let (number, rest) = split_u64(rest)?;
-    let (level, rest) = split_small(rest, 1, 1)?;
+    let (level, rest) = split_small(rest, 1, MOST_LEVEL)?;
     let (text, rest) = split_text(rest, MOST_BYTES)?;
     match Request::new(alloc, client, number, level, text) {
         Ok(request) => Ok((Message::Submit(request), rest)),
@@ -115,7 +115,7 @@ fn split_ask(alloc: Global, bytes: &[u8]) -> Result<(Message, &[u8]), WireFault>
     let (client, rest) = split_u32(bytes)?;
     let (number, rest) = split_u64(rest)?;
     let (floor, rest) = split_position(rest, 0, POSITIONS)?;
-    let (level, rest) = split_small(rest, 1, 1)?;
+    let (level, rest) = split_small(rest, 1, MOST_LEVEL)?;
     let (text, rest) = split_text(rest, MOST_BYTES)?;
     match Ask::new(alloc, client, number, floor, level, text) {
         Ok(ask) => Ok((Message::Ask(ask), rest)),

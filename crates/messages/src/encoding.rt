@@ -6,6 +6,7 @@ ghost use Rattle.byteorder.specs.Endian.{big_bytes};
 ghost use Rattle.ballots.specs.Replies.{answered};
 ghost use Rattle.ballots.specs.Messages.{body_of, window_of, Promise, Chosen, Submit, Ask as OfAsk, Answer as OfAnswer};
 ghost use Rattle.ballots.specs.Spelling.{value_spelling, IsValue};
+ghost use Rattle.ballots.specs.Terms.{is_level};
 ghost use Rattle.messages.specs.Spelling.{mark, ballot_spelling, position_spelling, entry_spelling, pair_spelling, text_spelling, id_spelling, reply_spelling, answer_spelling, kind, body_spelling, spelling, Fits, IsWithin, IsId, IsApplied, IsAnswer, AreInRange, HasFields};
 ghost use Rattle.messages.specs.Appending.{Extends};
 
@@ -214,7 +215,7 @@ fn put_chosen(out: &mut Vec<u8>, pairs: &[Pair]) -> Result<(), AllocError>
 fn request_head(request: &Request) -> [u8; 13]
     ensures spelt { result ≡ big_bytes 4 request.now.client ++ big_bytes 8 request.now.number ++ request.now.level ∷ [] }
     ensures id { IsId request.now.client request.now.number }
-    ensures level { request.now.level ≡ 1 }
+    ensures level { is_level request.now.level ≡ true }
 {
     let mut bytes = [0; 13];
     BigEndian::write_u32(&mut bytes, request.id().client);
@@ -242,7 +243,7 @@ fn ask_head(ask: &Ask) -> [u8; 17]
     ensures spelt { result ≡ id_spelling ask.now.client ask.now.number ++ big_bytes 4 ask.now.floor ++ ask.now.level ∷ [] }
     ensures id { IsId ask.now.client ask.now.number }
     ensures floor { IsApplied ask.now.floor }
-    ensures level { ask.now.level ≡ 1 }
+    ensures level { is_level ask.now.level ≡ true }
 {
     let mut bytes = [0; 17];
     BigEndian::write_u32(&mut bytes, ask.id().client);

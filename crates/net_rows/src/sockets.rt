@@ -93,8 +93,10 @@ fn datagram_of(alloc: Global, group: u32, line: &str) -> Result<Vec<u8>, RowFaul
     };
     let asked = match read_command(alloc, line)? {
         Some(Command::Submit(asked)) => Some(request(alloc, group, asked)?),
-        Some(Command::Ask(text)) => question(alloc, group, id, 0, text.as_str())?,
-        Some(Command::AskAt(floor, text)) => question(alloc, group, id, floor, text.as_str())?,
+        Some(Command::Ask(level, text)) => question(alloc, group, id, 0, level, text.as_str())?,
+        Some(Command::AskAt(level, floor, text)) => {
+            question(alloc, group, id, floor, level, text.as_str())?
+        }
         None => None,
     };
     asked.ok_or(RowFault::NotARow)

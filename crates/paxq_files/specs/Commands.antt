@@ -9,8 +9,8 @@ use Rattle.paxq_files.specs.declared.script.ScriptFault.TheVariants.{Memory, Lin
 -- what a command of the code asks for
 abbrev pub command_term : declared.Command → Command
 command_term (variant.Submit request) = submit request
-command_term (variant.Ask text) = ask (string_bytes text)
-command_term (variant.AskAt floor text) = ask_at floor (string_bytes text)
+command_term (variant.Ask level text) = ask level (string_bytes text)
+command_term (variant.AskAt level floor text) = ask_at level floor (string_bytes text)
 
 -- the fault is the first wrong line, or says nothing of the text
 abbrev pub IsFaultOf : ScriptRead → ScriptFault → Type 0

@@ -1,16 +1,16 @@
 -- The script that a text is: lines that end with line feeds, each a command.
-use Rattle.std.specs.Prelude.{ℕ, ◌^◌, Bool, ◌&&◌, not, nat_lt, ◌==◌, if◌then◌else◌, List, [], ◌∷◌, ◌++◌, length, filter, codes, Option, Some, None}
+use Rattle.std.specs.Prelude.{ℕ, Bool, ◌&&◌, not, nat_lt, ◌==◌, if◌then◌else◌, List, [], ◌∷◌, ◌++◌, length, filter, codes, Option, Some, None}
 use Rattle.std.specs.Option.{option_map, option_map_or}
 use Rattle.std.specs.List.{list_any, slice_split, before_first, after_first, enumerate_from, starts_with}
 use Rattle.document_names.specs.Names.{are_document_names}
-use Rattle.line_parts.specs.Parts.{number_below, is_space, has_text_length, text_after, ◌>>=◌}
+use Rattle.line_parts.specs.Parts.{number_below, is_space, has_text_length, request_of, text_after, ◌>>=◌}
 use Rattle.ballots.specs.Terms.{Request as RequestTerm}
 
--- what a line asks for
+-- what a line asks for, a question at which level of the language
 pub data Command : Type 0 where
   submit : RequestTerm → Command
-  ask : List ℕ → Command
-  ask_at : (floor : ℕ) → List ℕ → Command
+  ask : (level : ℕ) → List ℕ → Command
+  ask_at : (level floor : ℕ) → List ℕ → Command
 
 -- the names of the documents, and the commands in order
 pub record ScriptTerm : Type 0 where
@@ -22,32 +22,29 @@ pub data ScriptRead : Type 0 where
   script : ScriptTerm → ScriptRead
   wrong : ℕ → ScriptRead
 
--- a request at level 1
-abbrev pub submit_with : ℕ → ℕ → List ℕ → Option Command
-submit_with client number text =
-    if has_text_length text then Some (submit (record { client = client; number = number; level = 1; text = text })) else None
+-- `CLIENT NUMBER TEXT`, at a level
+abbrev pub submit_of : (level : ℕ) → List ℕ → Option Command
+submit_of level parts = option_map submit (request_of level parts)
 
--- `CLIENT NUMBER TEXT`
-abbrev pub submit_of : List ℕ → Option Command
-submit_of parts = do
-  client ← number_below (2 ^ 32) (before_first is_space parts)
-  number ← number_below (2 ^ 64) (before_first is_space (after_first is_space parts))
-  submit_with client number (after_first is_space (after_first is_space parts))
-
--- a question at level 1
-abbrev pub ask_of : List ℕ → Option Command
-ask_of text = if has_text_length text then Some (ask text) else None
+-- `TEXT`
+abbrev pub ask_of : (level : ℕ) → List ℕ → Option Command
+ask_of level text = if has_text_length text then Some (ask level text) else None
 
 -- `FLOOR TEXT`: the same, to be answered where so many positions are applied
-abbrev pub ask_at_with : ℕ → List ℕ → Option Command
-ask_at_with floor text = if has_text_length text then Some (ask_at floor text) else None
+abbrev pub ask_at_with : (level floor : ℕ) → List ℕ → Option Command
+ask_at_with level floor text = if has_text_length text then Some (ask_at level floor text) else None
 
-abbrev pub ask_at_of : List ℕ → Option Command
-ask_at_of parts = number_below 1000001 (before_first is_space parts) >>= λ floor. ask_at_with floor (after_first is_space parts)
+abbrev pub ask_at_of : (level : ℕ) → List ℕ → Option Command
+ask_at_of level parts = number_below 1000001 (before_first is_space parts) >>= λ floor. ask_at_with level floor (after_first is_space parts)
 
--- `submit CLIENT NUMBER TEXT`, `askat FLOOR TEXT` or `ask TEXT`
+-- `submit CLIENT NUMBER TEXT`, `askat FLOOR TEXT` or `ask TEXT` at level 1
+unfoldable pub command_at_1 : List ℕ → Option Command
+command_at_1 line = option_map_or (submit_of 1) (text_after (codes "submit ") line) (option_map_or (ask_at_of 1) (text_after (codes "askat ") line) (text_after (codes "ask ") line >>= ask_of 1))
+
+-- the same words with a 2 at level 2
 unfoldable pub command_of : List ℕ → Option Command
-command_of line = option_map_or submit_of (text_after (codes "submit ") line) (option_map_or ask_at_of (text_after (codes "askat ") line) (text_after (codes "ask ") line >>= ask_of))
+command_of line =
+    option_map_or (submit_of 2) (text_after (codes "submit2 ") line) (option_map_or (ask_at_of 2) (text_after (codes "askat2 ") line) (option_map_or (ask_of 2) (text_after (codes "ask2 ") line) (command_at_1 line)))
 
 -- what a text asks for that is one line, without its line feed
 abbrev pub command_alone : List ℕ → Option Command

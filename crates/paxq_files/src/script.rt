@@ -19,12 +19,12 @@ use std::marker::Model;
 /// What a line of a script asks for.
 #[derive(Drop)]
 pub enum Command {
-    /// `submit CLIENT NUMBER TEXT`: a request, at the language level 1.
+    /// `submit CLIENT NUMBER TEXT`, or `submit2` at level 2 of the language: a request.
     Submit(Request),
-    /// `ask TEXT`: a question, at the language level 1.
-    Ask(String),
-    /// `askat FLOOR TEXT`: the same, to be answered where so many positions are applied.
-    AskAt(u32, String),
+    /// `ask TEXT`, or `ask2`: a question, with the level of its text.
+    Ask(u8, String),
+    /// `askat FLOOR TEXT`, or `askat2`: the same, to be answered where so many positions are applied.
+    AskAt(u8, u32, String),
 }
 
 /// The documents' names, and the commands in order.
@@ -90,7 +90,8 @@ impl Script {
 ///
 /// Empty lines and lines that begin with `#` are skipped. The first other line may be
 /// `docs NAME ..`, which gives the names of the documents as [`Names`] takes them; without it there
-/// is the one document `db`. Each further line is `submit CLIENT NUMBER TEXT`, `ask TEXT` or `askat FLOOR TEXT`.
+/// is the one document `db`. Each further line is `submit CLIENT NUMBER TEXT`, `ask TEXT` or `askat FLOOR TEXT`,
+/// whose texts are of level 1 of the language; `submit2`, `ask2` and `askat2` are the same at level 2.
 /// Single spaces stand between the parts. CLIENT (up to 2^32 - 1), NUMBER (up to 2^64 - 1) and FLOOR (up to 1,000,000)
 /// are decimal numbers without a sign, and TEXT, the rest of the line, is 1 to 4,096 bytes.
 ///

@@ -35,8 +35,8 @@ pub(super) struct Asked {
 
 /// What a command asks of members of a group; a question goes by `id`, and one without a floor has `floor`.
 ///
-/// There is nothing where a question's text is longer than 4,096 bytes or its floor above 1,000,000, which no script has. It fails where memory
-/// is refused.
+/// There is nothing where a question has no level that there is, its text is longer than 4,096 bytes or its floor above 1,000,000, which no script
+/// has. It fails where memory is refused.
 pub(super) fn asked_of(
     alloc: Global,
     group: u32,
@@ -56,12 +56,12 @@ pub(super) fn asked_of(
                 bytes,
             }))
         }
-        Command::Ask(text) => {
-            let bytes = question(alloc, group, id, floor, text.as_str())?;
+        Command::Ask(level, text) => {
+            let bytes = question(alloc, group, id, floor, level, text.as_str())?;
             Ok(with_bytes(id, Form::Ask, bytes))
         }
-        Command::AskAt(floor, text) => {
-            let bytes = question(alloc, group, id, floor, text.as_str())?;
+        Command::AskAt(level, floor, text) => {
+            let bytes = question(alloc, group, id, floor, level, text.as_str())?;
             Ok(with_bytes(id, Form::AskAt, bytes))
         }
     }

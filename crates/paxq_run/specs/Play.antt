@@ -31,15 +31,15 @@ new_turn names values r =
     (record { printed = reply_text (reply_for (request_ran (store_of names values) r).ending (length values + 1)); values = values ++ Request r ∷ []; goes_on = true })
     (record { printed = codes "no answer" ++ line_feed; values = values; goes_on = false })
 
--- a question is answered from the store, at the level 1
-abbrev pub asked_turn : List (List ℕ) → List Value → List ℕ → Turn
-asked_turn names values question = record { printed = answer_text (length values) (answer (store_of names values) 1 question); values = values; goes_on = true }
+-- a question is answered from the store, at its level
+abbrev pub asked_turn : List (List ℕ) → List Value → (level : ℕ) → List ℕ → Turn
+asked_turn names values level question = record { printed = answer_text (length values) (answer (store_of names values) level question); values = values; goes_on = true }
 
 -- a request that has a reply gets it and no position; a question is answered, unless fewer values are applied than its floor
 abbrev pub turn_of : List (List ℕ) → List Value → Command → Turn
 turn_of names values (submit r) = option_map_or (λ reply. record { printed = reply_text reply; values = values; goes_on = true }) (kept_reply names values (id_of r)) (new_turn names values r)
-turn_of names values (ask question) = asked_turn names values question
-turn_of names values (ask_at floor question) = cond (nat_lt (length values) floor) (record { printed = behind_text (length values); values = values; goes_on = true }) (asked_turn names values question)
+turn_of names values (ask level question) = asked_turn names values level question
+turn_of names values (ask_at level floor question) = cond (nat_lt (length values) floor) (record { printed = behind_text (length values); values = values; goes_on = true }) (asked_turn names values level question)
 
 -- ---- a run
 abbrev pub after : List ℕ → Run → Run

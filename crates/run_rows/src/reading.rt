@@ -38,12 +38,12 @@ fn push_next(text: &mut String, script: &mut Script) -> Result<bool, AllocError>
             push_request(text, &request)?;
             Ok(true)
         }
-        Some(Command::Ask(question)) => {
-            write!(text, " | ask {question:?}")?;
+        Some(Command::Ask(level, question)) => {
+            write!(text, " | ask {level} {question:?}")?;
             Ok(true)
         }
-        Some(Command::AskAt(floor, question)) => {
-            write!(text, " | askat {floor} {question:?}")?;
+        Some(Command::AskAt(level, floor, question)) => {
+            write!(text, " | askat {floor} {level} {question:?}")?;
             Ok(true)
         }
         None => Ok(false),

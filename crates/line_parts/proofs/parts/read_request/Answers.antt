@@ -1,8 +1,8 @@
 use Rattle.std.proofs.Common.{◌≡◌, ◌^◌, Some}
 use Rattle.std.specs.List.{after_first, before_first}
 use Rattle.line_parts.specs.Parts.{is_space, number_below}
-use Rattle.paxq_files.proofs.Numbers.{submit_of-numbers}
-use Rattle.paxq_files.proofs.line.read_submit.Goals as goal
+use Rattle.line_parts.proofs.Requests.{request_of-numbers}
+use Rattle.line_parts.proofs.parts.read_request.Goals as goal
 
 pub returns : goal.returns
 returns c =
@@ -10,4 +10,4 @@ returns c =
     let client : number_below (2 ^ 32) (before_first is_space parts) ≡ Some c.in-Some.client = cc in
     let number : number_below (2 ^ 64) (before_first is_space (after_first is_space parts)) ≡ Some c.in-Some-read_number.number = cc in
     let text : c.cut_at-2.result.1.now ≡ after_first is_space (after_first is_space parts) = cc in
-    rw (← submit_of-numbers parts c.in-Some.client c.in-Some-read_number.number client number, ← text) c.submit_with.ensures
+    rw (← request_of-numbers c.args.level parts c.in-Some.client c.in-Some-read_number.number client number, ← text) c.request_with.ensures
