@@ -22,9 +22,6 @@ use std::alloc::{AllocError, Global};
 use std::io;
 use std::io::{Read, Write};
 
-/// The language level of a script's questions.
-const LEVEL: u8 = 1;
-
 /// Runs the script in a file, and answers the exit status.
 ///
 /// `file` is the file's name, and `reader` gives its bytes. What is written to `output` and `errors`
@@ -78,8 +75,8 @@ fn take_turn(alloc: Global, state: &mut State, command: Command) -> Result<Turn,
 {
     match command {
         Command::Submit(request) => submit(alloc, state, request),
-        Command::Ask(question) => ask(alloc, state, &question),
-        Command::AskAt(floor, question) => ask_at(alloc, state, floor, &question),
+        Command::Ask(level, question) => ask(alloc, state, level, &question),
+        Command::AskAt(level, floor, question) => ask_at(alloc, state, level, floor, &question),
     }
 }
 
@@ -98,23 +95,29 @@ fn submit(alloc: Global, state: &mut State, request: Request) -> Result<Turn, No
     printed(reply_text(alloc, reply))
 }
 
-/// Asks a question.
-fn ask(alloc: Global, state: &State, question: &String) -> Result<Turn, NoMemory>
-    ensures { IfOk result (λ turn. (names : List (List ℕ)) (values : List ValueTerm) → Means names values state.now → IsTurn names (turn_of names values (ask (string_bytes question.now))) (string_bytes turn.text) turn.goes_on state.now) }
+/// Asks a question at a level of the language.
+fn ask(alloc: Global, state: &State, level: u8, question: &String) -> Result<Turn, NoMemory>
+    ensures { IfOk result (λ turn. (names : List (List ℕ)) (values : List ValueTerm) → Means names values state.now → IsTurn names (turn_of names values (ask level (string_bytes question.now))) (string_bytes turn.text) turn.goes_on state.now) }
 {
-    let answer = state.answer(alloc, LEVEL, question.as_str())?;
+    let answer = state.answer(alloc, level, question.as_str())?;
     printed(answer_text(alloc, state.applied(), &answer))
 }
 
 /// Asks a question that is to be answered where so many positions are applied.
-fn ask_at(alloc: Global, state: &State, floor: u32, question: &String) -> Result<Turn, NoMemory>
-    ensures { IfOk result (λ turn. (names : List (List ℕ)) (values : List ValueTerm) → Means names values state.now → IsTurn names (turn_of names values (ask_at floor (string_bytes question.now))) (string_bytes turn.text) turn.goes_on state.now) }
+fn ask_at(
+    alloc: Global,
+    state: &State,
+    level: u8,
+    floor: u32,
+    question: &String,
+) -> Result<Turn, NoMemory>
+    ensures { IfOk result (λ turn. (names : List (List ℕ)) (values : List ValueTerm) → Means names values state.now → IsTurn names (turn_of names values (ask_at level floor (string_bytes question.now))) (string_bytes turn.text) turn.goes_on state.now) }
 {
     let applied = state.applied();
     if applied < floor {
         return printed(behind_text(alloc, applied));
     }
-    ask(alloc, state, question)
+    ask(alloc, state, level, question)
 }
 
 /// A turn after which the run goes on.
