@@ -21,14 +21,14 @@ parted f i (tree c bs cs rest) = of (f c) (chosen f rest) (chosen (λ d. not (f 
     of true us vs h = omega (arith, h)
     of false us vs h = omega (arith, h)
 
-pub chosen_append : (f : Choice) (ts us : Trees) → chosen f (append ts us) ≡ append (chosen f ts) (chosen f us)
-chosen_append f no_trees us = refl
-chosen_append f (tree c bs cs rest) us = of (f c) (chosen_append f rest us)
+pub chosen_counted : (f : Choice) (i : ℕ) (ts us : Trees) → count i (chosen f (append ts us)) ≡ count i (chosen f ts) + count i (chosen f us)
+chosen_counted f i no_trees us = omega arith
+chosen_counted f i (tree c bs cs rest) us = of (f c) (chosen f (append rest us)) (chosen f rest) (chosen_counted f i rest us)
   where
-    of : (b : Bool) → chosen f (append rest us) ≡ append (chosen f rest) (chosen f us)
-        → (if b then tree c bs cs (chosen f (append rest us)) else chosen f (append rest us)) ≡ append (if b then tree c bs cs (chosen f rest) else chosen f rest) (chosen f us)
-    of true h = ap (tree c bs cs) h
-    of false h = h
+    of : (b : Bool) (vs ws : Trees) → count i vs ≡ count i ws + count i (chosen f us)
+        → count i (if b then tree c bs cs vs else vs) ≡ count i (if b then tree c bs cs ws else ws) + count i (chosen f us)
+    of true vs ws h = omega (arith, h)
+    of false vs ws h = h
 
 pub chosen_few : (f : Choice) (i : ℕ) (ts : Trees) → count i (chosen f ts) ≤ count i ts
 chosen_few f i ts = omega (arith, parted f i ts)

@@ -19,7 +19,7 @@ use Rattle.query_meaning.specs.Sequences.{Meaning}
 use Rattle.update_meaning.specs.Brought.{new_trees}
 use Rattle.update_meaning.specs.Changed.{chosen, rooted_at, with_changed}
 use Rattle.meaning_laws.specs.Given.{AllStand}
-use Rattle.meaning_laws.proofs.Changing.{IsRoot, AreOthers, root_there, root_before, root_after, root_stays, others_of, none_chosen, chosen_append, chosen_few, same_chosen, with_changed_few, others_stand, first_stay}
+use Rattle.meaning_laws.proofs.Changing.{IsRoot, AreOthers, root_there, root_before, root_after, root_stays, others_of, none_chosen, chosen_counted, chosen_few, same_chosen, with_changed_few, others_stand, first_stay}
 use Rattle.meaning_laws.proofs.Copying.{with_copy, with_changes, then_from, makes_copy, has_own_list, copies_of}
 use Rattle.meaning_laws.proofs.Fresh.{copy_new, stands_sound}
 use Rattle.meaning_laws.proofs.Giving.{Good, GoodBinding, Knows, knows_up}
@@ -59,7 +59,7 @@ more_copies : (aside : ℕ → ℕ) (r a b : Run) (cs : List Copy) → AreCopies
 more_copies aside r a b cs h k s = record {
   roots = subst (λ vs. Each (λ j. IsRoot j vs) is) (sym k.more.1) (roots_before ts us is h.roots);
   new = h.new;
-  apart = λ i there. omega (arith, whole i, h.apart i there, ap (count i) (none_chosen is us others));
+  apart = λ i there. omega (arith, ap (λ vs. count i (chosen (rooted_at is) vs)) k.more.1, chosen_counted (rooted_at is) i ts us, h.apart i there, ap (count i) (none_chosen is us others));
 }
   where
     is : List ℕ
@@ -71,23 +71,15 @@ more_copies aside r a b cs h k s = record {
     us : Trees
     us = k.more.0
 
-    twice : (j : ℕ) → count j (trees_of b) ≡ count j b.shelf.lent.trees + count j a.shelf.own.trees + count j k.more.0
-    twice j = omega (arith, both_counted j b.shelf.lent.trees b.shelf.own.trees, ap (count j) k.more.1, both_counted j a.shelf.own.trees k.more.0)
+    whole : (j : ℕ) → count j (trees_of b) ≡ count j b.shelf.lent.trees + count j ts + count j us
+    whole j = omega (arith, both_counted j b.shelf.lent.trees b.shelf.own.trees, ap (count j) k.more.1, both_counted j ts us)
 
-    other : (j : ℕ) → IsRoot j k.more.0 → (t : Bool) → is_among (roots_of cs) j ≡ t → is_among (roots_of cs) j ≡ false
+    other : (j : ℕ) → IsRoot j us → (t : Bool) → is_among is j ≡ t → is_among is j ≡ false
     other j root false e = e
-    other j root true e =
-        let first = among_roots (roots_of cs) a.shelf.own.trees h.roots j e in
-        absurd (omega (arith, first, root_there j k.more.0 root, twice j, s.once j))
+    other j root true e = absurd (omega (arith, among_roots is ts h.roots j e, root_there j us root, whole j, s.once j))
 
-    others : AreOthers (roots_of cs) k.more.0
-    others = others_of (roots_of cs) k.more.0 (λ j root. other j root (is_among (roots_of cs) j) refl)
-
-    whole : (i : ℕ) → count i (chosen (rooted_at (roots_of cs)) b.shelf.own.trees)
-        ≡ count i (chosen (rooted_at (roots_of cs)) a.shelf.own.trees) + count i (chosen (rooted_at (roots_of cs)) k.more.0)
-    whole i =
-        ap (λ vs. count i (chosen (rooted_at (roots_of cs)) vs)) k.more.1 ∙ ap (count i) (chosen_append (rooted_at (roots_of cs)) a.shelf.own.trees k.more.0)
-        ∙ both_counted i (chosen (rooted_at (roots_of cs)) a.shelf.own.trees) (chosen (rooted_at (roots_of cs)) k.more.0)
+    others : AreOthers is us
+    others = others_of is us (λ j root. other j root (is_among is j) refl)
 
 -- One copy more.
 
@@ -106,8 +98,16 @@ one_copy : (aside : ℕ → ℕ) (r a : Run) (cs : List Copy) (variable : List �
     → AreCopies r (with_copy i a) (record { variable = variable; root = a.shelf.own.next } ∷ cs)
 one_copy aside r a cs variable i h k s there = record {
   roots = (root_after n ts us (copy_root n i (trees_of a) there), roots_before ts us is h.roots);
-  new = λ j stood. ⊎_elim (λ t. absurd (let low = before j stood in let same = t.1 in omega (arith, low, same))) (λ t. ap (λ b. b || is_among is j) t.0 ∙ h.new j stood) (eqb_tells j n);
-  apart = λ j stood. omega (arith, whole j, ap (count j) (same_chosen n is ts none), h.apart j stood, chosen_few (rooted_at (n ∷ is)) j us, below-renumbered n j (pick i (trees_of a)) (before j stood));
+  new = λ j stood. ⊎_elim (λ t. absurd (let low = before j stood in let same = t.1 in omega (arith, low, same)))
+      (λ t. ap (λ b. b || is_among is j) t.0 ∙ h.new j stood) (eqb_tells j n);
+  apart = λ j stood. omega (
+    arith,
+    chosen_counted (rooted_at (n ∷ is)) j ts us,
+    ap (count j) (same_chosen n is ts none),
+    h.apart j stood,
+    chosen_few (rooted_at (n ∷ is)) j us,
+    below-renumbered n j (pick i (trees_of a)) (before j stood),
+  );
 }
   where
     n : ℕ
@@ -120,16 +120,13 @@ one_copy aside r a cs variable i h k s there = record {
     ts = a.shelf.own.trees
 
     us : Trees
-    us = renumbered a.shelf.own.next (pick i (trees_of a))
+    us = renumbered n (pick i (trees_of a))
 
-    before : (j : ℕ) → 0 < count j (trees_of r) → j < a.shelf.own.next
+    before : (j : ℕ) → 0 < count j (trees_of r) → j < n
     before j stood = s.below j (let above = k.stand j stood in omega (arith, above))
 
-    none : count a.shelf.own.next a.shelf.own.trees ≡ 0
+    none : count n ts ≡ 0
     none = not_there (count n ts) (λ t. (let low = s.below n (omega (arith, both_counted n a.shelf.lent.trees ts, t)) in omega (arith, low)))
-
-    whole : (j : ℕ) → count j (chosen (rooted_at (n ∷ is)) (append ts us)) ≡ count j (chosen (rooted_at (n ∷ is)) ts) + count j (chosen (rooted_at (n ∷ is)) us)
-    whole j = ap (count j) (chosen_append (rooted_at (n ∷ is)) ts us) ∙ both_counted j (chosen (rooted_at (n ∷ is)) ts) (chosen (rooted_at (n ∷ is)) us)
 
 copy_stands : (aside : ℕ → ℕ) (run : Run) (i : ℕ) → IsSound aside run → 0 < count i (trees_of run)
     → Ends (List Item) Given (λ _. aside) run (item.Node run.shelf.own.next ∷ [], with_copy i run)
@@ -139,6 +136,7 @@ copy_stands aside run i s there =
     stands_sound aside run (record run { shelf = record run.shelf { own = record run.shelf.own { next = n + size us } } }) (renumbered n us) n _ s
     (record { lent = refl; own = refl; primitives = refl; next = omega arith; made = copy_new n us }) (root_there n (renumbered n us) (copy_root n i (trees_of run) there)) refl
 
+-- sound, above r and with copies made since then
 abbrev Copied : (ℕ → ℕ) → Run → List Copy × Run → Type 0
 Copied aside r = Ends (List Copy) (AreCopies r) (λ _. aside) r
 
@@ -164,7 +162,7 @@ copies_sound aside r env n (b ∷ bs) a cs h gs z q e =
     then_from _ q _ (and_copy env cs b a) (λ p is k.
     copies_sound aside r env (suc n) bs p.1 p.0 h gs.1 (and_copy_sound aside r env b a cs h gs.0 z p is) q k) e
 
--- A list of its own: what the one before brings is aside meanwhile, and what it brings is so afterwards.
+-- A list of its own: what the list before it brings is aside meanwhile, and what it brings itself is so afterwards.
 
 abbrev With : (ℕ → ℕ) → List PrimitiveTerm → ℕ → ℕ
 With aside ps i = aside i + count i (new_trees ps)
