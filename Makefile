@@ -79,6 +79,7 @@ bench: paxq measure expressions updates readers record_file
 	bench/run bin/paxq
 	bench/limits bin/paxq
 	bench/requests bin/paxq
+	bench/copies bin/paxq
 	bench/parts bin/measure
 	bench/nodes bin/paxq bin/measure
 	bench/expressions bin/query_rows
