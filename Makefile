@@ -4,10 +4,11 @@
 CLUSTER_ENDS ?= 24
 CLUSTER_DATAGRAMS ?= 100000
 
-.PHONY: help demo test edits refusals paxq measure expressions updates readers record_file examples bench kills cluster sweep clean
+.PHONY: help demo try test edits refusals paxq measure expressions updates readers record_file examples bench kills cluster sweep clean
 
 help:
-	@echo 'make demo      builds paxq without waiting for its proof, and runs examples/first.pxq'
+	@echo 'make demo      builds paxq without waiting for its proof, and runs examples/first.pxq: each command, and under it what it printed'
+	@echo 'make try SCRIPT=FILE  the same with a script of your own'
 	@echo 'make test      the gate: proves everything from nothing, runs every test, tries wrong bodies; last line "N passed, M failed"'
 	@echo 'make edits     tries every wrong body of CRATES (all, if none is named), also those that the gate leaves out for time'
 	@echo 'make refusals  runs the tests of CRATES (all that have any, if none is named) with each allocation refused in turn'
@@ -29,7 +30,10 @@ help:
 
 demo:
 	@echo 'This is the unproved build: the same code, not yet proved. `make paxq` builds the proved program.'
-	@cd crates/paxq && rt try -- run "$(CURDIR)/examples/first.pxq"
+	@$(MAKE) --no-print-directory try SCRIPT=examples/first.pxq
+
+try:
+	@said=$$(mktemp) && { (cd crates/paxq && rt try -- run "$(abspath $(SCRIPT))" 2> $$said) | examples/beside "$(SCRIPT)" || { cat $$said; rm $$said; false; }; } && rm $$said
 
 test:
 	.ci/gate

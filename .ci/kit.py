@@ -1,6 +1,7 @@
 """The toolchain's command `rt` and the library that it loads, as modules: they know how a crate is checked and built."""
 
 import importlib.machinery
+import itertools
 import os
 import shutil
 import sys
@@ -44,12 +45,13 @@ def in_lanes(tasks):
 def build(wanted):
     """Proves and builds these libraries, lowest first, those side by side that don't stand on each other, and returns whether all are proved."""
     names = {crate.name for crate in wanted}
+    count, numbers = sum(not crate.is_built() for crate in wanted), itertools.count(1)
 
     def library_of(crate):
         def made(given, processors):
             if not all(given[it.name] for it in crate.below() if it.name in names):
                 return False
-            return crate.is_built() or build_one(crate, processors)
+            return crate.is_built() or build_one(crate, processors, lambda: f"{next(numbers)} of {count}, ")
 
         return made
 
@@ -57,8 +59,8 @@ def build(wanted):
     return all(in_lanes(tasks).values())
 
 
-def build_one(crate, processors):
-    """Proves and builds a library over those below it, and leaves it where `rt` looks for it."""
+def build_one(crate, processors, which=lambda: ""):
+    """Proves and builds a library over those below it, and leaves it where `rt` looks for it. `which` says which of many it is, once it is done."""
     folder, stamp, began = os.path.dirname(crate.rlib), crate.stamp(), time.time()
     shutil.rmtree(folder, ignore_errors=True)
     os.makedirs(folder)
@@ -70,5 +72,5 @@ def build_one(crate, processors):
     if status == 0 and stamp == crate.stamp():
         with open(f"{folder}/stamp", "w", encoding="utf-8") as it:
             it.write(stamp)
-    print(f"{crate.name}: {'proved' if status == 0 else 'NOT PROVED'} in {time.time() - began:.0f} s\n{said if status else ''}", end="", flush=True)
+    print(f"{which()}{crate.name}: {'proved' if status == 0 else 'NOT PROVED'} in {time.time() - began:.0f} s\n{said if status else ''}", end="", flush=True)
     return status == 0
