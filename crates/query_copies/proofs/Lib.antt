@@ -1,0 +1,12 @@
+pub mod Adding
+pub mod Copied
+pub mod Rooted
+pub mod Absent
+pub mod Changed
+pub mod Ready
+pub mod Forms
+pub mod InOrder
+pub mod Judged
+pub mod Sets
+pub mod Listed
+pub mod Wholes

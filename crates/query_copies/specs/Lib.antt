@@ -1,0 +1,4 @@
+pub mod Bindings
+pub mod Kept
+pub mod Made
+pub mod Steps
