@@ -1,7 +1,6 @@
 -- The meaning of an expression, by its form.
 use Rattle.std.proofs.Common.{◌≡◌, refl, sym, ◌∙◌, ap, ap₂, subst, rules, ℕ, List, [], ◌∷◌, map, Option, Some, None, option_map, Result, Err}
 use Rattle.data_model.specs.declared.axis.Axis.{Axis}
-use Rattle.fault_codes.specs.declared.code.Code.TheVariants.{XPST0003}
 use Rattle.query_grammar.specs.declared.ast.Binding.{Binding}
 use Rattle.query_grammar.specs.declared.ast.Clause.{Clause}
 use Rattle.query_grammar.specs.declared.ast.Clause.TheVariants as clause
@@ -20,8 +19,9 @@ use Rattle.values.specs.declared.fault.ValueFault.{ValueFault}
 use Rattle.query_grammar.specs.declared.ast.Name.{Name}
 use Rattle.query_grammar.specs.declared.ast.Name.TheVariants as name
 use Rattle.query_grammar.specs.declared.functions.Function.{Function}
-use Rattle.query_meaning.specs.Running.{Run, fault}
+use Rattle.query_meaning.specs.Running.{Run}
 use Rattle.query_meaning.specs.Environment.{Environment}
+use Rattle.query_meaning.specs.Copies.{copy}
 use Rattle.query_meaning.specs.Constructors.{attribute, document, element, text, comment, instruction}
 use Rattle.query_meaning.specs.Functions.{call}
 use Rattle.query_meaning.specs.Meaning.{mean}
@@ -132,8 +132,5 @@ of_replace_value target source = by_form (e.ReplaceValue target source) (Expr-F.
 pub of_rename : (target new : Expr) → mean (e.Rename target new) ≡ rename (mean target) (mean new)
 of_rename target new = by_form (e.Rename target new) (Expr-F.Rename target new) (search (rules, the_lemmas))
 
-of_copy : (bs : List (Binding Expr)) (changes x : Expr) → mean (e.Copy bs changes x) ≡ (λ env. fault XPST0003)
+pub of_copy : (bs : List (Binding Expr)) (changes x : Expr) → mean (e.Copy bs changes x) ≡ copy (map (binding_of mean) bs) (mean changes) (mean x)
 of_copy bs changes x = by_form (e.Copy bs changes x) (Expr-F.Copy bs changes x) (search (rules, the_lemmas))
-
-pub copy_fails : (x : Expr) (bs : List (Binding Expr)) (changes y : Expr) (env : Environment) (run : Run) → x ≡ e.Copy bs changes y → mean x env run ≡ Err XPST0003
-copy_fails x bs changes y env run is = ap (λ m. m env run) (ap mean is ∙ of_copy bs changes y)

@@ -8,12 +8,13 @@ use evaluation::{Environment, Evaluation, Sequence};
 use query_calls::Calls;
 use query_constructors::Constructors;
 use query_control::{Forms, SetOperator, context_item, number, string, variable};
+use query_copies::Copies;
 use query_elements::Elements;
 use query_grammar::Expr;
 use query_paths::Paths;
 use query_steps::{except, intersect, union};
 use query_updates::Updates;
-use values::{Code, ValueFault};
+use values::ValueFault;
 
 /// The items of an expression, in an environment whose nodes stand among the trees.
 ///
@@ -28,6 +29,7 @@ pub fn value_of(run: &mut Evaluation, x: &Expr, env: &Environment) -> Result<Seq
     let constructors = Constructors { value_of };
     let elements = Elements { constructors };
     let updates = Updates { value_of };
+    let copies = Copies { value_of };
     match x {
         Expr::Integer(literal) => number(run, *literal, env),
         Expr::String(text) => string(run, text, env),
@@ -58,8 +60,7 @@ pub fn value_of(run: &mut Evaluation, x: &Expr, env: &Environment) -> Result<Seq
         Expr::ReplaceNode(target, source) => updates.replace_node(run, target, source, env),
         Expr::ReplaceValue(target, source) => updates.replace_value(run, target, source, env),
         Expr::Rename(target, name) => updates.rename(run, target, name, env),
-        // the language of level 1 has no such form
-        Expr::Copy(_, _, _) => Err(ValueFault::Code(Code::XPST0003)),
+        Expr::Copy(bindings, changes, result) => copies.copy(run, bindings, changes, result, env),
     }
 }
 

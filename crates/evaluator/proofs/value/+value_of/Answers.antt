@@ -1,5 +1,5 @@
 use Rattle.query_control.proofs.Unfolded.{of_variable}
-use Rattle.evaluator.proofs.Forms.{as_meant, of_number, of_string, of_context, of_sequence, of_signed, of_chain, of_if, of_quantified, of_flwor, of_step, of_filter, of_call, of_attribute, of_text, of_comment, of_instruction, of_path, of_document, of_element, of_insert, of_delete, of_replace_node, of_replace_value, of_rename, copy_fails}
+use Rattle.evaluator.proofs.Forms.{as_meant, of_number, of_string, of_context, of_sequence, of_signed, of_chain, of_if, of_quantified, of_flwor, of_step, of_filter, of_call, of_attribute, of_text, of_comment, of_instruction, of_path, of_document, of_element, of_insert, of_delete, of_replace_node, of_replace_value, of_rename, of_copy}
 use Rattle.evaluator.proofs.value.+value_of.Goals as goal
 
 pub returns-in-Integer : goal.returns-in-Integer
@@ -78,4 +78,4 @@ pub returns-in-Rename : goal.returns-in-Rename
 returns-in-Rename t c = as_meant _ _ _ _ _ _ _ c.in-Rename.is (of_rename _ _) c.rename.ensures
 
 pub returns-in-Copy : goal.returns-in-Copy
-returns-in-Copy t c = copy_fails _ _ _ _ _ _ c.in-Copy.is
+returns-in-Copy t c = as_meant _ _ _ _ _ _ _ c.in-Copy.is (of_copy _ _ _) c.copy.ensures
