@@ -93,6 +93,7 @@ bench: paxq measure expressions updates readers record_file
 	bench/records bin/record_file
 	bench/starts bin/paxq_member bin/record_file
 	bench/random bin/paxq
+	bench/worst bin/paxq
 	bench/cluster bin/paxq
 
 kills: record_file
