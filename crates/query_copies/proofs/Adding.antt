@@ -10,7 +10,6 @@ use Rattle.data_model.proofs.Weights.{weigh-append, append-none, append-append, 
 use Rattle.trees.proofs.CallerLemmas.{find-append}
 use Rattle.pending.specs.Compatible.{is_among, has_repeat}
 use Rattle.query_meaning.specs.Running.{Run, trees_of}
-use Rattle.evaluation.specs.Gives.{Grows}
 use Rattle.query_copies.specs.Kept.{Adds, AreCopies, IsCopy}
 
 pub counts_both : (i : ℕ) (ts us : Trees) → count i (append ts us) ≡ count i ts + count i us
@@ -31,9 +30,6 @@ trees_more old new a = (λ j. append (a.lent j).trees (a.own j)) ∙ sym (append
 
 pub found_still : (old new : Run) (i : ℕ) → Adds old new → IsSome (find i (trees_of old)) → find i (trees_of new) ≡ find i (trees_of old)
 found_still old new i a there = ap (find i) (trees_more old new a) ∙ find-append None i (trees_of old) a.more ∙ first-some (find i (trees_of old)) (find i a.more) there
-
-pub adds_grows : (old new : Run) → Adds old new → Grows old new
-adds_grows old new a = record { kept = λ i there. subst IsSome (sym (found_still old new i a there)) there }
 
 counted_more : (i : ℕ) (old new : Run) → Adds old new → count i (trees_of old) ≤ count i (trees_of new)
 counted_more i old new a = omega (arith, ap (count i) (trees_more old new a) ∙ counts_both i (trees_of old) a.more)

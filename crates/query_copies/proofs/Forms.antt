@@ -1,5 +1,5 @@
 -- Steps of the form, one after the other.
-use Rattle.std.proofs.Common.{◌≡◌, ℕ, true, false, List, [], ◌∷◌, Option, Some, None, Result, Ok, Err, Bool, refl, sym, ap, ◌∙◌, subst}
+use Rattle.std.proofs.Common.{◌≡◌, ℕ, true, false, List, ◌∷◌, Option, Some, None, Result, Ok, Err, Bool, refl, ap, ◌∙◌, subst}
 use Rattle.std.specs.Prelude.{IfOk, IsSome, OnOk}
 use Rattle.data_model.specs.Trees.{find}
 use Rattle.shelves.specs.Shelf.{IsShelf}
@@ -13,15 +13,15 @@ use Rattle.values.specs.declared.fault.ValueFault.{ValueFault}
 use Rattle.values.specs.declared.fault.ValueFault.TheVariants as fault
 use Rattle.query_grammar.specs.declared.ast.Binding.{Binding}
 use Rattle.update_meaning.specs.Changed.{applied_to_copies, chosen, rooted_at}
-use Rattle.query_meaning.specs.Copies.{Copy, and_copy, becoming, compatible, copies, copy, copy_of, modified, one_node, own_list, roots_of, target_these, with_copies}
+use Rattle.query_meaning.specs.Copies.{Copy, becoming, compatible, copies, copy, copy_of, modified, own_list, roots_of, target_these, with_copies}
 use Rattle.query_meaning.specs.Environment.{Environment}
-use Rattle.query_meaning.specs.Running.{M, Run, and_then, pure, trees_of, ◌>>=◌}
+use Rattle.query_meaning.specs.Running.{M, Run, and_then, trees_of, ◌>>=◌}
 use Rattle.query_meaning.specs.Sequences.{Meaning}
 use Rattle.query_meaning.specs.Updates.{must}
 use Rattle.evaluation.specs.Gives.{Any, Fails, Gives, GivesIn, Grows}
 use Rattle.evaluation.proofs.Each.{grows_then}
 use Rattle.query_copies.specs.Kept.{Adds, AreCopies, Comes, IsCopy, Survive}
-use Rattle.query_copies.specs.Steps.{changed_by, copied, updated}
+use Rattle.query_copies.specs.Steps.{changed_by, updated}
 use Rattle.query_copies.proofs.Adding.{copies_still, one_more}
 use Rattle.query_copies.proofs.Changed.{survive}
 use Rattle.query_copies.proofs.Copied.{copy_stands}
@@ -31,67 +31,16 @@ pub on_given : (m : M (List Item)) (old new : Run) (r : Result (List Item) Value
 on_given m old new (Ok items) f g = f items g.0
 on_given m old new (Err e) f g = tt
 
--- a fault of the first is one of both
-pub first_fails : {A B : Type 0} (m : M A) (f : A → M B) (old : Run) (found : ValueFault) → Fails (m old) found → Fails ((m >>= f) old) found
-first_fails m f old fault.Memory h = tt
-first_fails m f old (fault.Code code) h = ap (λ o. and_then o f) h
-
--- and so is one of what comes after it
-pub second_fails : {A B : Type 0} (m : M A) (f : A → M B) (old mid : Run) (a : A) (found : ValueFault) → m old ≡ Ok (a, mid) → Fails (f a mid) found → Fails ((m >>= f) old) found
-second_fails m f old mid a fault.Memory e h = tt
-second_fails m f old mid a (fault.Code code) e h = ap (λ o. and_then o f) e ∙ h
-
-pub comes_then : {A B : Type 0} (m : M A) (f : A → M B) (old mid new : Run) (a : A) (r : Result B ValueFault) → m old ≡ Ok (a, mid) → Comes (f a) mid r new → Comes (m >>= f) old r new
-comes_then m f old mid new a (Ok b) e h = ap (λ o. and_then o f) e ∙ h
-comes_then m f old mid new a (Err found) e h = second_fails m f old mid a found e h
-
+-- what comes to the same
 pub comes_same : {A : Type 0} (m n : M A) (old new : Run) (r : Result A ValueFault) → m old ≡ n old → Comes n old r new → Comes m old r new
 comes_same m n old new (Ok a) e h = e ∙ h
 comes_same m n old new (Err fault.Memory) e h = tt
 comes_same m n old new (Err (fault.Code code)) e h = e ∙ h
 
--- ---- one copy more
-module _ (env : Environment) (cs : List Copy) (b : Binding Meaning) where
-  abbrev with_root : ℕ → M (List Copy)
-  with_root k = pure (record { variable = b.variable; root = k } ∷ cs)
-
-  source_first : (run : Run) → and_copy env cs b run ≡ (copied (b.source env) >>= with_root) run
-  source_first run = by (b.source env run)
-    where
-      one : (o : Result (ℕ × Run) Code) → and_then o (λ i. copy_of i >>= with_root) ≡ and_then (and_then o copy_of) with_root
-      one (Ok p) = refl
-      one (Err code) = refl
-
-      by : (o : Result (List Item × Run) Code) → and_then o (λ items. one_node items >>= (λ i. copy_of i >>= with_root)) ≡ and_then (and_then o (λ items. one_node items >>= copy_of)) with_root
-      by (Ok p) = one (one_node p.0 p.1)
-      by (Err code) = refl
-
-  pub copy_fails : (old : Run) (found : ValueFault) → Fails (copied (b.source env) old) found → Fails (and_copy env cs b old) found
-  copy_fails old fault.Memory h = tt
-  copy_fails old (fault.Code code) h = source_first old ∙ ap (λ o. and_then o with_root) h
-
-  pub copy_added : (old new : Run) (k : ℕ) (ds : List Copy) → GivesIn Any (copied (b.source env)) old (Ok k) new → ds ≡ record { variable = b.variable; root = k } ∷ cs → GivesIn Any (and_copy env cs b) old (Ok ds) new
-  copy_added old new k ds g is = (source_first old ∙ ap (λ o. and_then o with_root) g.0 ∙ (λ j. Ok (sym is j, new)), (g.1.0, tt))
-
--- ---- a list of its own
-module _ (m : M (List Item)) (old : Run) where
-  pub listed : (items : List Item) (after : Run) → m (record old { primitives = [] }) ≡ Ok (items, after) → own_list m old ≡ Ok (after.primitives, record after { primitives = old.primitives })
-  listed items after e = ap (λ o. and_then o (λ _ (now : Run). Ok (now.primitives, record now { primitives = old.primitives }))) e
-
-  pub list_fails : (found : ValueFault) → Fails (m (record old { primitives = [] })) found → Fails (own_list m old) found
-  list_fails fault.Memory h = tt
-  list_fails (fault.Code code) h = ap (λ o. and_then o (λ _ (now : Run). Ok (now.primitives, record now { primitives = old.primitives }))) h
-
 -- ---- targets, then the rules of one list, then the update
 module _ (is : List ℕ) (ps : List PrimitiveTerm) (run : Run) where
-  abbrev judged_first : M (Unit {0})
-  judged_first = must (target_these (chosen (rooted_at is) run.shelf.own.trees) ps) XUDY0014
-
   abbrev rest : M (Unit {0})
   rest = compatible (conflict ps) >>= (λ _. becoming (applied_to_copies is ps run.shelf.own.next run.shelf.own))
-
-  pub outside : target_these (chosen (rooted_at is) run.shelf.own.trees) ps ≡ false → modified is ps run ≡ Err XUDY0014
-  outside e = ap (λ b. and_then (must b XUDY0014 run) (λ _. rest)) e
 
   inside : target_these (chosen (rooted_at is) run.shelf.own.trees) ps ≡ true → modified is ps run ≡ rest run
   inside e = ap (λ b. and_then (must b XUDY0014 run) (λ _. rest)) e
@@ -139,9 +88,6 @@ module _ (bs : List (Binding Meaning)) (changes result : Meaning) (env : Environ
           → and_then o (λ ps. modified (roots_of cs) ps >>= (λ _. result (with_copies cs env))) ≡ and_then (and_then o (modified (roots_of cs))) (λ _. result (with_copies cs env))
       by (Ok p) = refl
       by (Err code) = refl
-
-  pub sources_fail : (start : Run) (found : ValueFault) → Fails (copies bs env start) found → Fails (copy bs changes result env start) found
-  sources_fail start found h = first_fails (copies bs env) after start found h
 
   module _ (start mid : Run) (cs : List Copy) (e : copies bs env start ≡ Ok (cs, mid)) where
     copied_first : copy bs changes result env start ≡ after cs mid

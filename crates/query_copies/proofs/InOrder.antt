@@ -1,8 +1,7 @@
 -- Copies, their variables and their roots, in the order in which they were made.
-use Rattle.std.proofs.Common.{◌≡◌, ◌≤◌, ◌<◌, ℕ, suc, List, [], ◌∷◌, ◌++◌, ◌+◌, add-one, drop, length, map, reverse, slice_index_or, Result, Ok, Err, refl, sym, ap, ◌∙◌}
+use Rattle.std.proofs.Common.{◌≡◌, List, [], ◌∷◌, ◌++◌, map, reverse, Result, Ok, Err, refl}
 use Rattle.std.specs.Prelude.{IfOk}
 use mathlib.Core.List.{reverse_aux}
-use Rattle.evaluation.proofs.Each.{drop_all, drop_item}
 use Rattle.query_meaning.specs.Copies.{Copy, bound_to, roots_of}
 use Rattle.query_meaning.specs.Environment.{Bound}
 use Rattle.query_copies.specs.Made.{copies_after, copy_in, variables_after}
@@ -16,15 +15,6 @@ pushed cs (y ∷ xs) x = pushed (copy_in y ∷ cs) xs x
 pub all_bound : (cs : List Copy) (bs : List Bound) (xs : List MadeCopy) → variables_after (map bound_to cs ++ bs) xs ≡ map bound_to (copies_after cs xs) ++ bs
 all_bound cs bs [] = refl
 all_bound cs bs (x ∷ xs) = all_bound (copy_in x ∷ cs) bs xs
-
--- one variable more
-pub next_bound : (others vs ws : List Bound) (xs : List MadeCopy) (k : ℕ) (x : MadeCopy) → variables_after vs (drop k xs) ≡ variables_after others xs → k < length xs → x ≡ slice_index_or xs k x → ws ≡ bound_to (copy_in x) ∷ vs
-    → variables_after ws (drop (k + 1) xs) ≡ variables_after others xs
-next_bound others vs ws xs k x left below here is =
-    ap (λ n. variables_after ws (drop n xs)) (add-one k) ∙ ap (λ us. variables_after us (drop (suc k) xs)) is ∙ sym (ap (variables_after vs) (drop_item xs k x below here)) ∙ left
-
-pub last_bound : (others vs : List Bound) (xs : List MadeCopy) (k : ℕ) → variables_after vs (drop k xs) ≡ variables_after others xs → length xs ≤ k → vs ≡ variables_after others xs
-last_bound others vs xs k left past = ap (variables_after vs) (sym (drop_all xs k past)) ∙ left
 
 -- the roots
 turned : (cs : List Copy) (xs : List MadeCopy) → reverse_aux (map (λ (c : MadeCopy). c.root) xs) (roots_of cs) ≡ roots_of (copies_after cs xs)

@@ -6,7 +6,5 @@ pub mod Changed
 pub mod Ready
 pub mod Forms
 pub mod InOrder
-pub mod Judged
-pub mod Sets
 pub mod Listed
 pub mod Wholes

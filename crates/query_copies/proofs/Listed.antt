@@ -1,21 +1,17 @@
 -- Primitives in a list of their own.
-use Rattle.std.proofs.Common.{◌≡◌, ◌≤◌, ◌<◌, ℕ, List, [], Ok, sym, ap, ◌∙◌, subst}
+use Rattle.std.proofs.Common.{◌≡◌, ◌≤◌, ◌<◌, ℕ, List, [], sym, ap, ◌∙◌, subst}
 use Rattle.std.specs.List.{All}
 use Rattle.std.specs.Prelude.{length}
 use Rattle.data_model.specs.Trees.{append, count}
 use Rattle.trees.specs.Forest.{ForestTerm}
 use Rattle.shelves.specs.Shelf.{IsShelf}
 use Rattle.pending.specs.Primitives.{PrimitiveTerm}
-use Rattle.values.specs.declared.atom.Item.{Item}
-use Rattle.values.specs.declared.fault.ValueFault.{ValueFault}
 use Rattle.update_meaning.specs.Brought.{new_trees}
-use Rattle.query_meaning.specs.Copies.{own_list}
 use Rattle.query_meaning.specs.Environment.{Bound, Environment}
-use Rattle.query_meaning.specs.Running.{M, Run, most_items, trees_of}
+use Rattle.query_meaning.specs.Running.{Run, most_items, trees_of}
 use Rattle.meaning_laws.specs.Given.{IsKnown}
-use Rattle.evaluation.specs.Gives.{Fails, IsReady}
-use Rattle.query_copies.specs.Kept.{Adds, Bring}
-use Rattle.query_copies.proofs.Forms.{list_fails, listed}
+use Rattle.evaluation.specs.Gives.{IsReady}
+use Rattle.query_copies.specs.Kept.{Bring}
 use Rattle.query_copies.proofs.Ready.{known}
 
 -- what a law says of a run and the one after it, of which only the second has primitives
@@ -37,24 +33,10 @@ module _ (old bare : Run) (without : bare ≡ record old { primitives = [] }) wh
   pub bare_list : bare.primitives ≡ []
   bare_list = ap (λ run. run.primitives) without
 
-  pub bare_fails : (m : M (List Item)) (found : ValueFault) → Fails (m bare) found → Fails (own_list m old) found
-  bare_fails m found h = list_fails m old found (let P : Run → Type 0 = λ run. Fails (m run) found in subst P without h)
-
   -- the primitives are taken out, and the others put back
   module _ (full left new : Run) (own outer : List PrimitiveTerm) (taken : outer ≡ old.primitives) (given : own ≡ full.primitives) (none : left ≡ record full { primitives = [] }) (put : new ≡ record left { primitives = outer }) where
     last : new ≡ record full { primitives = old.primitives }
     last = put ∙ ap (λ (run : Run). record run { primitives = outer }) none ∙ ap (λ (ps : List PrimitiveTerm). record full { primitives = ps }) taken
-
-    pub own_listed : (m : M (List Item)) (items : List Item) → m bare ≡ Ok (items, full) → own_list m old ≡ Ok (own, new)
-    own_listed m items e =
-        let P : Run → Type 0 = λ run. m run ≡ Ok (items, full) in
-        listed m old items full (subst P without e) ∙ (λ j. Ok (sym given j, sym last j))
-
-    pub own_adds : Adds bare full → Adds old new
-    own_adds h =
-        let P : Run → Type 0 = λ run. Adds run full in
-        let a = subst P without h in
-        subst (Adds old) (sym last) (record { lent = a.lent; more = a.more; own = a.own })
 
     pub own_brings : full.shelf.lent ≡ bare.shelf.lent → BringsNew bare full → Bring own new
     own_brings lent law =
