@@ -1,5 +1,5 @@
 -- The meaning of an expression, by its form.
-use Rattle.std.proofs.Common.{◌≡◌, refl, sym, ◌∙◌, ap, ap₂, subst, rules, ℕ, List, [], ◌∷◌, map, Option, Some, None, option_map, Result, Err}
+use Rattle.std.proofs.Common.{◌≡◌, refl, sym, ◌∙◌, ap, ap₂, subst, rules, ℕ, List, [], ◌∷◌, map, Option, Some, None, option_map, Result}
 use Rattle.data_model.specs.declared.axis.Axis.{Axis}
 use Rattle.query_grammar.specs.declared.ast.Binding.{Binding}
 use Rattle.query_grammar.specs.declared.ast.Clause.{Clause}
@@ -21,12 +21,12 @@ use Rattle.query_grammar.specs.declared.ast.Name.TheVariants as name
 use Rattle.query_grammar.specs.declared.functions.Function.{Function}
 use Rattle.query_meaning.specs.Running.{Run}
 use Rattle.query_meaning.specs.Environment.{Environment}
-use Rattle.query_meaning.specs.Copies.{copy}
 use Rattle.query_meaning.specs.Constructors.{attribute, document, element, text, comment, instruction}
 use Rattle.query_meaning.specs.Functions.{call}
 use Rattle.query_meaning.specs.Meaning.{mean}
 use Rattle.query_meaning.specs.Operators.{chain, signed}
 use Rattle.query_meaning.specs.Paths.{step, filter_of, path}
+use Rattle.query_meaning.specs.Copies.{copy}
 use Rattle.query_meaning.specs.Updates.{insert, delete, replace_node, replace_value, rename}
 use Rattle.query_meaning.specs.Sequences.{Meaning, number, string, context_item, sequence, conditional, quantified, flwor}
 use Rattle.evaluation.specs.Gives.{Gives}

@@ -60,7 +60,9 @@ pub fn value_of(run: &mut Evaluation, x: &Expr, env: &Environment) -> Result<Seq
         Expr::ReplaceNode(target, source) => updates.replace_node(run, target, source, env),
         Expr::ReplaceValue(target, source) => updates.replace_value(run, target, source, env),
         Expr::Rename(target, name) => updates.rename(run, target, name, env),
-        Expr::Copy(bindings, changes, result) => copies.copy(run, bindings, changes, result, env),
+        Expr::Copy(bindings, changes, returned) => {
+            copies.copy(run, bindings, changes, returned, env)
+        }
     }
 }
 
