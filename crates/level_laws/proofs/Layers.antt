@@ -48,6 +48,28 @@ module _ {A B : Type 0} (f g : A → B) where
   same_each u v part same [] all = refl
   same_each u v part same (s ∷ ss) all = ap₂ (λ y ys. y ∷ ys) (same s (head (part s) (map part ss) all)) (same_each u v part same ss (tail (part s) (map part ss) all))
 
+  -- a binding, a clause and a key of such an expression
+  abbrev bound_to : Binding A → B → Binding B
+  bound_to b x = record { variable = b.variable; source = x }
+
+  same_binding : (b : Binding A) → Same b.source → bound_to b (f b.source) ≡ bound_to b (g b.source)
+  same_binding b is = ap (bound_to b) is
+
+  same_for : (b : Binding A) → Same b.source → clause.For (bound_to b (f b.source)) ≡ clause.For (bound_to b (g b.source))
+  same_for b is = ap (λ x. clause.For (bound_to b x)) is
+
+  same_at : (b : Binding A) (at : List ℕ) → Same b.source → clause.ForAt (bound_to b (f b.source)) at ≡ clause.ForAt (bound_to b (g b.source)) at
+  same_at b at is = ap (λ x. clause.ForAt (bound_to b x) at) is
+
+  same_let : (b : Binding A) → Same b.source → clause.Let (bound_to b (f b.source)) ≡ clause.Let (bound_to b (g b.source))
+  same_let b is = ap (λ x. clause.Let (bound_to b x)) is
+
+  abbrev sorted_by : SortKey A → B → SortKey B
+  sorted_by s x = record { key = x; is_descending = s.is_descending }
+
+  same_key : (s : SortKey A) → Same s.key → sorted_by s (f s.key) ≡ sorted_by s (g s.key)
+  same_key s is = ap (sorted_by s) is
+
   -- the same of clauses, by their bindings
   same_clauses : (u v : Clause A → Clause B) → ((b : Binding A) → Same b.source → u (clause.For b) ≡ v (clause.For b)) → ((b : Binding A) (at : List ℕ) → Same b.source → u (clause.ForAt b at) ≡ v (clause.ForAt b at))
       → ((b : Binding A) → Same b.source → u (clause.Let b) ≡ v (clause.Let b)) → (cs : List (Clause A)) → AreSame (map source_of cs) → map u cs ≡ map v cs
@@ -111,15 +133,14 @@ module _ {A B : Type 0} (f g : A → B) where
       ap₂ (λ k z. k z) (ap₂ Expr-F.If (head c (x ∷ y ∷ []) all) both.0) both.1
   layer (Expr-F.Quantified q bs x) all =
       let both = bindings_and bs (x ∷ []) (subst AreSame (parts_of_bindings [] bs (x ∷ [])) all) in
-      ap₂ (Expr-F.Quantified q) (same_each _ _ (λ (b : Binding A). b.source) (λ b is. ap (λ z. record { variable = b.variable; source = z }) is) bs both.0) (one x both.1)
+      ap₂ (Expr-F.Quantified q) (same_each _ _ (λ (b : Binding A). b.source) same_binding bs both.0) (one x both.1)
   layer (Expr-F.Flwor cs None ks x) all =
       let others = subst AreSame (parts_of_clauses [] cs (keys ks ++ x ∷ [])) all in
       let more = rest_of (map source_of cs) (keys ks ++ x ∷ []) others in
       ap₂ (λ k z. k z)
       (ap₂ (λ us ws. Expr-F.Flwor us None ws)
-      (same_clauses _ _ (λ b is. ap (λ z. clause.For (record { variable = b.variable; source = z })) is) (λ b at is. ap (λ z. clause.ForAt (record { variable = b.variable; source = z }) at) is)
-      (λ b is. ap (λ z. clause.Let (record { variable = b.variable; source = z })) is) cs (first_of (map source_of cs) (keys ks ++ x ∷ []) others))
-      (same_each _ _ (λ (s : SortKey A). s.key) (λ s is. ap (λ z. record { key = z; is_descending = s.is_descending }) is) ks (first_of (keys ks) (x ∷ []) more)))
+      (same_clauses _ _ same_for same_at same_let cs (first_of (map source_of cs) (keys ks ++ x ∷ []) others))
+      (same_each _ _ (λ (s : SortKey A). s.key) same_key ks (first_of (keys ks) (x ∷ []) more)))
       (one x (rest_of (keys ks) (x ∷ []) more))
   layer (Expr-F.Flwor cs (Some t) ks x) all =
       let others = subst AreSame (parts_of_clauses [] cs (t ∷ (keys ks ++ x ∷ []))) all in
@@ -128,10 +149,9 @@ module _ {A B : Type 0} (f g : A → B) where
       ap₂ (λ k z. k z)
       (ap₂ (λ k z. k z)
       (ap₂ (λ us w. Expr-F.Flwor us (Some w))
-      (same_clauses _ _ (λ b is. ap (λ z. clause.For (record { variable = b.variable; source = z })) is) (λ b at is. ap (λ z. clause.ForAt (record { variable = b.variable; source = z }) at) is)
-      (λ b is. ap (λ z. clause.Let (record { variable = b.variable; source = z })) is) cs (first_of (map source_of cs) (t ∷ (keys ks ++ x ∷ [])) others))
+      (same_clauses _ _ same_for same_at same_let cs (first_of (map source_of cs) (t ∷ (keys ks ++ x ∷ [])) others))
       (head t (keys ks ++ x ∷ []) after))
-      (same_each _ _ (λ (s : SortKey A). s.key) (λ s is. ap (λ z. record { key = z; is_descending = s.is_descending }) is) ks (first_of (keys ks) (x ∷ []) more)))
+      (same_each _ _ (λ (s : SortKey A). s.key) same_key ks (first_of (keys ks) (x ∷ []) more)))
       (one x (rest_of (keys ks) (x ∷ []) more))
   layer (Expr-F.Insert x place y) all = let both = two x y all in ap₂ (λ u v. Expr-F.Insert u place v) both.0 both.1
   layer (Expr-F.Delete x) all = ap Expr-F.Delete (one x all)
@@ -142,7 +162,7 @@ module _ {A B : Type 0} (f g : A → B) where
       let both = bindings_and bs (x ∷ y ∷ []) (copied bs x y all) in
       let last = two x y both.1 in
       ap₂ (λ k z. k z)
-      (ap₂ Expr-F.Copy (same_each _ _ (λ (b : Binding A). b.source) (λ b is. ap (λ z. record { variable = b.variable; source = z }) is) bs both.0) last.0)
+      (ap₂ Expr-F.Copy (same_each _ _ (λ (b : Binding A). b.source) same_binding bs both.0) last.0)
       last.1
 
 -- two rules
