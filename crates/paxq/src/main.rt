@@ -13,6 +13,7 @@ use program_reports::cannot_read;
 use sessions::State;
 use std::io::{BufWriter, Write};
 use std::process::ExitCode;
+use std::sync::Wait;
 use std::{fs, io};
 
 /// Runs the form that the command line asks for, and ends with its exit status: 0 done, 1 a file that
@@ -20,14 +21,14 @@ use std::{fs, io};
 ///
 /// Where standard output or standard error cannot be written, the status is 1 too.
 fn main(rt: HostRuntime) -> ExitCode {
-    match run_words(&rt) {
+    match run_words(&rt, &rt) {
         Ok(status) => ExitCode::from(status),
         Err(error) => ExitCode::from(failed(&rt, &error)),
     }
 }
 
-/// Reads the words and runs their form.
-fn run_words(rt: &HostRuntime) -> io::Result<u8> {
+/// Reads the words and runs their form. `waits` is the leave to wait for readers.
+fn run_words<T: Wait>(rt: &HostRuntime, waits: &T) -> io::Result<u8> {
     let args = match std::env::args(rt) {
         Ok(args) => args,
         // A word that is not UTF-8 is none of a form.
@@ -42,7 +43,7 @@ fn run_words(rt: &HostRuntime) -> io::Result<u8> {
         [] => &[],
     };
     match read_words(rt.alloc(), words) {
-        Ok(form) => run_form(rt, &form),
+        Ok(form) => run_form(rt, waits, &form),
         Err(fault) => refuse(rt, fault),
     }
 }
@@ -54,9 +55,9 @@ fn refuse(rt: &HostRuntime, fault: WordsFault) -> io::Result<u8> {
 }
 
 /// Runs a form.
-fn run_form(rt: &HostRuntime, form: &Form) -> io::Result<u8> {
+fn run_form<T: Wait>(rt: &HostRuntime, waits: &T, form: &Form) -> io::Result<u8> {
     match form {
-        Form::Run { script } => run_file(rt, script.as_str()),
+        Form::Run { script } => run_file(rt, waits, script.as_str()),
         Form::Sim { events } => sim_file(rt, events.as_str()),
         Form::Local { members, script } => local_file(rt, *members, script.as_str()),
         Form::Node { .. } => {
@@ -72,11 +73,18 @@ fn run_form(rt: &HostRuntime, form: &Form) -> io::Result<u8> {
 }
 
 /// Runs the script in a file.
-fn run_file(rt: &HostRuntime, script: &str) -> io::Result<u8> {
+fn run_file<T: Wait>(rt: &HostRuntime, waits: &T, script: &str) -> io::Result<u8> {
     let mut output = BufWriter::new(rt.alloc(), io::writer(rt))?;
     let mut errors = rt.stderr();
     let status = match fs::open(rt, script) {
-        Ok(mut file) => run_script(rt.alloc(), script, &mut file, &mut output, &mut errors)?,
+        Ok(mut file) => run_script(
+            waits,
+            rt.alloc(),
+            script,
+            &mut file,
+            &mut output,
+            &mut errors,
+        )?,
         Err(error) if error.kind() == io::ErrorKind::OutOfMemory => return Err(error),
         Err(_) => cannot_read(rt.alloc(), script, &mut errors)?,
     };

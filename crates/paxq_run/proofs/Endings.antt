@@ -1,12 +1,15 @@
 -- How a run ends.
-use Rattle.std.proofs.Common.{◌≡◌, ℕ, Bool, true, false, List, [], ◌∷◌, ◌++◌, cond, codes, Option, refl, ap, sym, subst, inl, inr, ◌⊎◌}
+use Rattle.std.proofs.Common.{◌≡◌, ℕ, Bool, true, false, Result, Ok, Err, List, [], ◌∷◌, ◌++◌, cond, codes, Option, refl, ap, sym, subst, inl, inr, ◌⊎◌}
 use Rattle.std.specs.Fmt.{decimal}
 use Rattle.std.specs.Io.KnownBytes.{Appends}
 use Rattle.ballots.specs.declared.value.Value.{Value}
 use Rattle.paxq_files.specs.Script.{Command, ScriptRead, script_of, wrong}
 use Rattle.program_reports.specs.Reports.{Run, line_feed, Ran}
 use Rattle.program_reports.proofs.Reported.{Appends-none, ran-nothing}
-use Rattle.paxq_run.specs.Play.{turn_of, after, commands_run, read_run, text_run, IsPlayed, IsCut}
+use Rattle.std.specs.Prelude.{IfErr}
+use Rattle.paxq_run.specs.Play.{turn_of, after, commands_run, read_run, text_run, IsPlayed, IsCut, IfMemory}
+use Rattle.paxq_run.specs.declared.run.Stop.{Stop}
+use Rattle.paxq_run.specs.declared.run.Stop.TheVariants.{Memory, Output}
 
 -- commands report nothing
 errors-none : (names : List (List ℕ)) (values : List Value) (commands : List Command) → (commands_run names values commands).errors ≡ []
@@ -40,3 +43,9 @@ pub ran-wrong : (text : List ℕ) (number : ℕ) (out err err' : Option (List �
 ran-wrong text number out err err' status e (inl h) =
     (let P : Run → Type 0 = λ r. Ran (out, out) (err, err') r status in subst P (sym (text_run-read text (wrong number) e)) (inl (record { ended = h.0; printed = Appends-none out; reported = h.1 })))
 ran-wrong text number out err err' status e (inr h) = ran-nothing out err err' (text_run text) status h.0 h.1
+
+-- what holds where memory was refused, by what does
+pub cut_by : {P Q : Type 0} (r : Result ℕ Stop) → (P → Q) → IfErr r (λ stop. IfMemory stop P) → IfErr r (λ stop. IfMemory stop Q)
+cut_by (Ok status) f h = tt
+cut_by (Err Memory) f h = f h
+cut_by (Err (Output error)) f h = tt

@@ -1,2 +1,2 @@
--- The crate's definitions.
 pub mod Play
+pub mod Sites

@@ -1,8 +1,10 @@
-//! What the program does with a script: it runs its requests on one member in memory, answers its questions, and prints.
+//! What the program does with a script: it has the only member of a group take its requests, has a reader answer its questions, and prints.
 //!
 //! It stands apart from the program so that its proofs know nothing of a command line.
 #![tactic(auto)]
 
+mod lone;
 mod run;
+mod turn;
 
 pub use run::run_script;
