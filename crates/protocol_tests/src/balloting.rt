@@ -48,20 +48,20 @@ fn counts_majorities(rt: HostRuntime) {
 #[test]
 fn judges_requests(rt: HostRuntime) -> Result<(), Fail> {
     let alloc = rt.alloc();
-    for level in [0, 2, 255] {
+    for level in [0, 3, 255] {
         let fault = Request::new(alloc, 1, 1, level, "1").err();
         assert_eq!(rt; fault, Some(RequestFault::Level), "at level {level}");
     }
     let longest = "x".repeat(alloc, 4_096)?;
-    let request = Request::new(alloc, 1, 2, 1, &longest)?;
+    let request = Request::new(alloc, 1, 2, 2, &longest)?;
     assert_eq!(rt; request.text().len(), 4_096);
-    assert_eq!(rt; request.level(), 1);
+    assert_eq!(rt; request.level(), 2);
     assert_eq!(rt; request.id().client, 1);
     assert_eq!(rt; request.id().number, 2);
     let longer = "x".repeat(alloc, 4_097)?;
     let fault = Request::new(alloc, 1, 1, 1, &longer).err();
     assert_eq!(rt; fault, Some(RequestFault::TextTooLong));
-    let fault = Request::new(alloc, 1, 1, 2, &longer).err();
+    let fault = Request::new(alloc, 1, 1, 3, &longer).err();
     assert_eq!(rt; fault, Some(RequestFault::Level));
     Ok(())
 }
@@ -75,7 +75,7 @@ fn judges_questions(rt: HostRuntime) -> Result<(), Fail> {
     assert_eq!(rt; (ask.floor(), ask.level()), (1_000_000, 1));
     assert_eq!(rt; ask.text(), "1");
     for (floor, level, text, want) in [
-        (1_000_001, 2, longer.as_str(), AskFault::Level),
+        (1_000_001, 3, longer.as_str(), AskFault::Level),
         (1_000_001, 1, longer.as_str(), AskFault::TextTooLong),
         (1_000_001, 1, "1", AskFault::Floor),
     ] {
