@@ -55,9 +55,11 @@ fn called(alloc: Global, pair: &mut Pair, words: &mut Words<'_>) -> Result<Strin
     match ahead.plain()? {
         "submit" => {
             *words = ahead;
-            let request = states::request_at(alloc, words)?;
-            pair.numbers.push(request.id().number)?;
-            apply(alloc, pair, &Value::Request(request))
+            submit(alloc, pair, 1, words)
+        }
+        "submit2" => {
+            *words = ahead;
+            submit(alloc, pair, 2, words)
         }
         "noop" => {
             *words = ahead;
@@ -66,6 +68,18 @@ fn called(alloc: Global, pair: &mut Pair, words: &mut Words<'_>) -> Result<Strin
         "to" => Err(RowFault::NotARow),
         _ => states::called(alloc, &mut pair.state, words),
     }
+}
+
+/// `NUMBER TEXT`: a request of that level of the language, applied to both states.
+fn submit(
+    alloc: Global,
+    pair: &mut Pair,
+    level: u8,
+    words: &mut Words<'_>,
+) -> Result<String, RowFault> {
+    let request = states::request_at(alloc, level, words)?;
+    pair.numbers.push(request.id().number)?;
+    apply(alloc, pair, &Value::Request(request))
 }
 
 /// Applies a value to both states. Gives the reply, or what is not as it should be.

@@ -62,7 +62,8 @@ pub(super) fn called(
     words: &mut Words<'_>,
 ) -> Result<String, RowFault> {
     match words.plain()? {
-        "submit" => submit(alloc, state, words),
+        "submit" => submit(alloc, state, 1, words),
+        "submit2" => submit(alloc, state, 2, words),
         "noop" => apply(alloc, state, &Value::NoOp),
         "to" => insert_to(alloc, state, words),
         "reply" => kept(alloc, state, words),
@@ -128,25 +129,34 @@ fn push_identities(text: &mut String, mark: &str, ids: &[NodeId]) -> Result<(), 
 }
 
 /// A request of client 1.
-fn request_of(alloc: Global, number: u64, text: &str) -> Result<Request, RowFault> {
-    match Request::new(alloc, 1, number, 1, text) {
+fn request_of(alloc: Global, number: u64, level: u8, text: &str) -> Result<Request, RowFault> {
+    match Request::new(alloc, 1, number, level, text) {
         Ok(request) => Ok(request),
         Err(RequestFault::Memory) => Err(RowFault::Memory),
         Err(_) => Err(RowFault::NotARow),
     }
 }
 
-/// `NUMBER TEXT`: the reply to a request.
-fn submit(alloc: Global, state: &mut State, words: &mut Words<'_>) -> Result<String, RowFault> {
-    let request = request_at(alloc, words)?;
+/// `NUMBER TEXT`: the reply to a request of that level of the language.
+fn submit(
+    alloc: Global,
+    state: &mut State,
+    level: u8,
+    words: &mut Words<'_>,
+) -> Result<String, RowFault> {
+    let request = request_at(alloc, level, words)?;
     apply(alloc, state, &Value::Request(request))
 }
 
-/// `NUMBER TEXT`: a request of client 1.
-pub(super) fn request_at(alloc: Global, words: &mut Words<'_>) -> Result<Request, RowFault> {
+/// `NUMBER TEXT`: a request of client 1, of that level of the language.
+pub(super) fn request_at(
+    alloc: Global,
+    level: u8,
+    words: &mut Words<'_>,
+) -> Result<Request, RowFault> {
     let number = words.number()?;
     let text = words.text(alloc)?;
-    request_of(alloc, number, &text)
+    request_of(alloc, number, level, &text)
 }
 
 /// Applies a value, and gives its reply, if memory is not refused. Fault: `NotARow` at the limit of values.
@@ -213,7 +223,7 @@ fn insert_to(alloc: Global, state: &mut State, words: &mut Words<'_>) -> Result<
 
 /// Inserts an element `a`, when so many values are applied. Gives the reply, and whether it is `done` at its position.
 fn insert(alloc: Global, state: &mut State, applied: u32) -> Result<(String, bool), RowFault> {
-    let request = request_of(alloc, u64::from(applied), INSERT_A)?;
+    let request = request_of(alloc, u64::from(applied), 1, INSERT_A)?;
     let given = apply(alloc, state, &Value::Request(request))?;
     let wanted = reply_text(alloc, Some(Reply::Done(applied.wrapping_add(1))))?;
     let is_done = given == wanted;
