@@ -3,7 +3,7 @@ use Prim.Native.Nat.{suc}
 use Rattle.std.proofs.Common.{◌≡◌, ℕ, ◌+◌, ◌≤◌, ◌<◌, List, [], ◌++◌, length, drop, get_or, cond, refl, ap, sym, ◌∙◌, arith, append_assoc, append-nil, length-append, ⊎_elim, Option, Some, None, add-one, option_map, Bool, true, false, nat_lt}
 use Rattle.std.proofs.Math.Seq.{drop-cons}
 use Rattle.std.proofs.lemmas.Bool.Decides.{eqb_tells, nat_tests}
-use Rattle.data_model.specs.Trees.{Trees, no_trees, tree, Place, size, first, find, find_below, text_of, text_within, is_inner, is_text, value_at}
+use Rattle.data_model.specs.Trees.{Trees, no_trees, tree, Place, bytes_in, size, first, find, find_below, text_of, text_within, is_inner, is_text, value_at}
 use Rattle.node_table.specs.Flat.{Entry, Table, Holds, IsTableOf, entry_at, read_nodes, read_trees}
 use Rattle.data_model.proofs.Weights.{height-le}
 use Rattle.node_table.proofs.Tables.{read-holds}
@@ -51,6 +51,14 @@ size-turn f below ids i x e k item h = rw (drop-cons ids i x, ← item, h, add-o
 
 pub size-stop : (f : Table) (below : List ℕ → Trees) (ids : List ℕ) (i x : ℕ) → i < length ids → x ≡ get_or ids i x → f x ≡ None → size (read_nodes f below (drop i ids)) ≡ 0
 size-stop f below ids i x k item h = rw (drop-cons ids i x, ← item, h)
+
+-- ---- how many bytes their texts have
+pub bytes-turn : (f : Table) (below : List ℕ → Trees) (ids : List ℕ) (i x : ℕ) (e : Entry) → i < length ids → x ≡ get_or ids i x → f x ≡ Some e
+    → bytes_in (read_nodes f below (drop i ids)) ≡ length e.text + bytes_in (below e.attributes) + bytes_in (below e.children) + bytes_in (read_nodes f below (drop (i + 1) ids))
+bytes-turn f below ids i x e k item h = rw (drop-cons ids i x, ← item, h, add-one) refl
+
+pub bytes-stop : (f : Table) (below : List ℕ → Trees) (ids : List ℕ) (i x : ℕ) → i < length ids → x ≡ get_or ids i x → f x ≡ None → bytes_in (read_nodes f below (drop i ids)) ≡ 0
+bytes-stop f below ids i x k item h = rw (drop-cons ids i x, ← item, h)
 
 -- ---- a node that was found
 Good : Table → ℕ → ℕ → Option Place → Type 0

@@ -1,7 +1,7 @@
 //! Walks below nodes, over the flat table.
 
-ghost use Rattle.std.specs.Prelude.{◌≡◌, ◌++◌, ◌<◌, ◌≤◌, ◌^◌, Some, None, IfOk, cond, false, length, string_bytes};
-ghost use Rattle.data_model.specs.Trees.{count, size, text_of, text_within};
+ghost use Rattle.std.specs.Prelude.{◌≡◌, ◌+◌, ◌++◌, ◌<◌, ◌≤◌, ◌^◌, Some, None, IfOk, IfSome, IfNone, cond, false, length, string_bytes};
+ghost use Rattle.data_model.specs.Trees.{bytes_in, count, size, text_of, text_within};
 ghost use Rattle.node_table.specs.Flat.{read_trees};
 ghost use Rattle.node_table.specs.Rows.{table_of};
 
@@ -79,4 +79,25 @@ pub fn count(rows: &Rows, ids: &[NodeId], levels: u64) -> u64
         nodes += count(rows, &row.children, levels - 1);
     }
     nodes
+}
+
+/// What is left of so many bytes without those of all texts of a list of nodes and of what stands below them, at most so many levels down;
+/// `None` where they are more.
+pub fn without_texts(rows: &Rows, ids: &[NodeId], levels: u64, bytes: u64) -> Option<u64>
+    ensures left { IfSome result (λ left. left + bytes_in (read_trees levels (table_of rows.now) ids.now) ≡ bytes) }
+    ensures more { IfNone result (bytes < bytes_in (read_trees levels (table_of rows.now) ids.now)) }
+{
+    let mut left = bytes;
+    if levels == 0 {
+        return Some(left);
+    }
+    for id in ids {
+        let Some(row) = rows.get(id.number()) else {
+            return Some(left);
+        };
+        left = left.checked_sub(row.text.as_str().len() as u64)?;
+        left = without_texts(rows, &row.attributes, levels - 1, left)?;
+        left = without_texts(rows, &row.children, levels - 1, left)?;
+    }
+    Some(left)
 }

@@ -1,9 +1,9 @@
 //! Shelves: a lent forest and an own one, seen as one.
 
-ghost use Rattle.std.specs.Prelude.{◌≡◌, ℕ, ◌+◌, ◌<◌, ◌≤◌, ◌^◌, ◌↔◌, Option, Some, None, IfOk, OnOk, OnErr, IfSome, IsErrOf, IsSome, IsTrue, List, [], filter, is_some, string_bytes, option_map};
+ghost use Rattle.std.specs.Prelude.{◌≡◌, ℕ, ◌+◌, ◌<◌, ◌≤◌, ◌^◌, ◌↔◌, Option, Some, None, IfOk, OnOk, OnErr, IfSome, IfNone, IsErrOf, IsSome, IsTrue, List, [], filter, is_some, string_bytes, option_map};
 ghost use Rattle.std.specs.Map.{lookup};
 ghost use Rattle.std.specs.Str.{bytes_eq};
-ghost use Rattle.data_model.specs.Trees.{no_trees, append, leaf, find, count, size, children_of, attributes_of, parent_of, string_value_of, text_within, IsAt};
+ghost use Rattle.data_model.specs.Trees.{no_trees, append, leaf, find, bytes_in, count, size, children_of, attributes_of, parent_of, string_value_of, text_within, IsAt};
 ghost use Rattle.data_model.specs.Changes.{with_content, taken_out, all_moved_below, CanAllMoveBelow, pick, renumbered};
 ghost use Rattle.data_model.specs.declared.node.Part.TheVariants.{Attributes, Children};
 ghost use Rattle.data_model.specs.Order.{identities, precedes};
@@ -253,6 +253,29 @@ impl<'a> Shelf<'a> {
         let home = self.home(id);
         home.facts();
         home.tree(alloc, id)
+    }
+
+    /// How many nodes the tree of a node has, attributes counted. They are counted anew.
+    pub fn size_of(&self, id: NodeId) -> u64
+        requires { IsSome (find id (shelf_trees self.now)) }
+        ensures { result ≡ size (pick id (shelf_trees self.now)) }
+    {
+        self.facts();
+        let home = self.home(id);
+        home.facts();
+        home.size_of(id)
+    }
+
+    /// What is left of so many bytes without those of all texts in the tree of a node; `None` where they are more.
+    pub fn without_texts(&self, id: NodeId, bytes: u64) -> Option<u64>
+        requires { IsSome (find id (shelf_trees self.now)) }
+        ensures left { IfSome result (λ left. left + bytes_in (pick id (shelf_trees self.now)) ≡ bytes) }
+        ensures more { IfNone result (bytes < bytes_in (pick id (shelf_trees self.now))) }
+    {
+        self.facts();
+        let home = self.home(id);
+        home.facts();
+        home.without_texts(id, bytes)
     }
 
     /// Whether the tree of a node has at most so many nodes. They are counted only where its forest has more.

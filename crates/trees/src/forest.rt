@@ -1,9 +1,9 @@
 //! Forests: trees of nodes, documents by name, and the next identity.
 
-ghost use Rattle.std.specs.Prelude.{◌≡◌, ◌≢◌, ℕ, ◌+◌, ◌<◌, ◌≤◌, ◌^◌, ◌↔◌, ◌-◌, min, Option, Some, None, IfOk, OnOk, OnErr, IfSome, IsErrOf, IsSome, List, [], ◌∷◌, ◌++◌, length, filter, is_some, string_bytes, IsTrue, true, false, max, option_map};
+ghost use Rattle.std.specs.Prelude.{◌≡◌, ◌≢◌, ℕ, ◌+◌, ◌<◌, ◌≤◌, ◌^◌, ◌↔◌, ◌-◌, min, Option, Some, None, IfOk, OnOk, OnErr, IfSome, IfNone, IsErrOf, IsSome, List, [], ◌∷◌, ◌++◌, length, filter, is_some, string_bytes, IsTrue, true, false, max, option_map};
 ghost use Rattle.std.specs.Map.{lookup};
 ghost use Rattle.std.specs.Str.{bytes_eq};
-ghost use Rattle.data_model.specs.Trees.{no_trees, append, leaf, find, count, size, height, children_of, attributes_of, parent_of, string_value_of, text_within, IsAt};
+ghost use Rattle.data_model.specs.Trees.{no_trees, append, leaf, find, bytes_in, count, size, height, children_of, attributes_of, parent_of, string_value_of, text_within, IsAt};
 ghost use Rattle.data_model.specs.Changes.{with_content, taken_out, all_moved_below, CanAllMoveBelow, pick, renumbered, ranked};
 ghost use Rattle.data_model.specs.declared.node.Kind.TheVariants.{Document};
 ghost use Rattle.data_model.specs.declared.node.Part.TheVariants.{Attributes, Children};
@@ -560,12 +560,29 @@ impl Forest {
         table::set_name(&mut self.rows, id, name);
     }
 
+    /// How many nodes the tree of a node has, attributes counted. They are counted anew.
+    pub fn size_of(&self, id: NodeId) -> u64
+        requires { IsSome (find id self.now.trees) }
+        ensures { result ≡ size (pick id self.now.trees) }
+    {
+        walk::count(&self.rows, &[id], self.next)
+    }
+
+    /// What is left of so many bytes without those of all texts in the tree of a node; `None` where they are more.
+    pub fn without_texts(&self, id: NodeId, bytes: u64) -> Option<u64>
+        requires { IsSome (find id self.now.trees) }
+        ensures left { IfSome result (λ left. left + bytes_in (pick id self.now.trees) ≡ bytes) }
+        ensures more { IfNone result (bytes < bytes_in (pick id self.now.trees)) }
+    {
+        walk::without_texts(&self.rows, &[id], self.next, bytes)
+    }
+
     /// Whether the tree of a node has at most so many nodes. They are counted only where the whole forest has more.
     pub fn is_within(&self, id: NodeId, nodes: u64) -> bool
         requires { IsSome (find id self.now.trees) }
         ensures { IsTrue result ↔ (size (pick id self.now.trees) ≤ nodes) }
     {
-        self.nodes <= nodes || walk::count(&self.rows, &[id], self.next) <= nodes
+        self.nodes <= nodes || self.size_of(id) <= nodes
     }
 
     /// Whether a copy of the tree of a node of this forest or of a lent one can be numbered.
