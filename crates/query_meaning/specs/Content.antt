@@ -12,7 +12,8 @@ use Rattle.values.specs.declared.atom.Atom.{Atom}
 use Rattle.values.specs.declared.atom.Item.{Item}
 use Rattle.values.specs.declared.atom.Item.TheVariants as item
 use Rattle.data_model.specs.Limits.{most_bytes}
-use Rattle.query_meaning.specs.Running.{M, pure, ◌>>=◌, come_to, seen, each, new_nodes}
+use Rattle.values.specs.Work.{text_work}
+use Rattle.query_meaning.specs.Running.{M, pure, ◌>>=◌, come_to, copying, seen, each, new_nodes, work}
 use Rattle.query_meaning.specs.Strings.{spaced}
 
 -- a part of the content: atomic values that stand next to each other, or a node
@@ -29,12 +30,13 @@ parts_of [] = []
 parts_of (item.Node i ∷ xs) = node i ∷ parts_of xs
 parts_of (item.Atomic a ∷ xs) = with_value a (parts_of xs)
 
--- a new text
+-- a new text, which takes the work of it
 abbrev pub text_node : List ℕ → ℕ → Trees
 text_node text i = leaf (record { identity = i; kind = kind.Text; name = []; text = text })
 
 abbrev pub new_text : List ℕ → M Trees
 new_text text = do
+  _ ← work (text_work text)
   i ← new_nodes 1
   pure (text_node text i)
 
@@ -46,6 +48,7 @@ source_at i ts (Some x) = if is_document x.content.kind then x.children else pic
 -- the copies have new identities, in preorder
 abbrev pub copied : ℕ → M Trees
 copied i = do
+  _ ← copying i
   us ← seen (λ ts. source_at i ts (find i ts))
   n ← new_nodes (size us)
   pure (renumbered n us)

@@ -1,5 +1,5 @@
 -- The context of an expression (XQuery 1.0, section 2.1.2).
-use Rattle.std.specs.Prelude.{ℕ, List, ◌∷◌, [], Option, Some, None, if◌then◌else◌, refl}
+use Rattle.std.specs.Prelude.{ℕ, suc, List, ◌∷◌, [], Option, Some, None, if◌then◌else◌, refl}
 use Rattle.std.specs.Coded.{Coded, code_by, coded×, coded_ℕ, coded_list, coded_option}
 use Rattle.std.specs.Str.{bytes_eq}
 use Rattle.values.specs.contracts.atom.Item as of_item
@@ -39,6 +39,11 @@ no_environment = record { focus = None; variables = [] }
 abbrev pub value_in : (variable : List ℕ) → List Bound → Option (List Item)
 value_in x [] = None
 value_in x (b ∷ bs) = if bytes_eq x b.variable then Some b.items else value_in x bs
+
+-- how many variables are looked at for it: those that were bound after it, and itself
+abbrev pub looked_at : (variable : List ℕ) → List Bound → ℕ
+looked_at x [] = 0
+looked_at x (b ∷ bs) = if bytes_eq x b.variable then 1 else suc (looked_at x bs)
 
 abbrev pub with_variable : (variable : List ℕ) → List Item → Environment → Environment
 with_variable x items env = record env { variables = record { variable = x; items = items } ∷ env.variables }

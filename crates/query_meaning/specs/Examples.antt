@@ -178,6 +178,20 @@ with_nodes n run = record run { shelf = record run.shelf { own = record run.shel
 abbrev pub said_after : (Run → Run) → Meaning → Result (List (List ℕ)) Code
 said_after f m = texts_of opening (outcome (m no_environment (f (start opening))))
 
+-- what it answers there, and in the other store, where so much work is left
+abbrev pub with_work : ℕ → Run → Run
+with_work n run = record run { work = n }
+
+abbrev pub said_by : ℕ → Meaning → Result (List (List ℕ)) Code
+said_by n = said_after (with_work n)
+
+abbrev pub said_of_filled_by : ℕ → Meaning → Result (List (List ℕ)) Code
+said_of_filled_by n m = texts_of filled (outcome (m no_environment (with_work n (start filled))))
+
+-- a text of just as many bytes as take one unit of work
+abbrev pub sixteen : List ℕ
+sixteen = codes "sixteen bytes in"
+
 -- a node alone
 abbrev pub alone : Kind → (identity : ℕ) → (name text : List ℕ) → Trees
 alone k i name text = leaf (record { identity = i; kind = k; name = name; text = text })

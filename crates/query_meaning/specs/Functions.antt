@@ -18,9 +18,10 @@ use Rattle.values.specs.Arithmetic.{in_range}
 use Rattle.values.specs.Atoms.{or_fault, truth}
 use Rattle.values.specs.Comparisons.{as_string, same_type_cmp}
 use Rattle.values.specs.Readings.{integer_of}
+use Rattle.values.specs.Work.{text_work}
 use Rattle.query_grammar.specs.declared.functions.Function.{Function}
 use Rattle.query_grammar.specs.declared.functions.Function.TheVariants as function
-use Rattle.query_meaning.specs.Running.{M, pure, fault, ◌>>=◌, come_to, seen, each, atoms}
+use Rattle.query_meaning.specs.Running.{M, pure, fault, ◌>>=◌, come_to, seen, each, atoms, work}
 use Rattle.query_meaning.specs.Environment.{Environment, Focus}
 use Rattle.query_meaning.specs.Operators.{nodes}
 use Rattle.query_meaning.specs.Sequences.{Meaning, one, focus_of}
@@ -66,8 +67,11 @@ boolean b = pure (one (atom.Boolean b))
 abbrev pub integer : ℤ → M (List Item)
 integer z = pure (one (atom.Integer z))
 
+-- a string that is made, which takes its work
 abbrev pub string : List ℕ → M (List Item)
-string text = pure (one (atom.String text))
+string text = do
+  _ ← work (text_work text)
+  pure (one (atom.String text))
 
 -- `doc` (section 15.5.4): the document of that name
 abbrev pub document_in : (name : List ℕ) → List (List ℕ × ℕ) → Option ℕ

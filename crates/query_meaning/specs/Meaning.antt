@@ -7,7 +7,7 @@ use Rattle.fault_codes.specs.declared.code.Code.{Code}
 use Rattle.values.specs.declared.atom.Item.{Item}
 use Rattle.query_grammar.specs.declared.ast.Expr.{Expr, fold-Expr}
 use Rattle.query_grammar.specs.declared.ast.Expr.TheOpen.{Expr-F}
-use Rattle.query_meaning.specs.Running.{Run, most_turns}
+use Rattle.query_meaning.specs.Running.{Run, counted, most_turns, most_work}
 use Rattle.query_meaning.specs.Environment.{no_environment}
 use Rattle.query_meaning.specs.Sequences.{Meaning, number, string, variable, context_item, sequence, conditional, quantified, flwor}
 use Rattle.query_meaning.specs.Operators.{chain, signed}
@@ -17,34 +17,38 @@ use Rattle.query_meaning.specs.Constructors.{document, element, attribute, text,
 use Rattle.query_meaning.specs.Updates.{insert, delete, replace_node, replace_value, rename}
 use Rattle.query_meaning.specs.Copies.{copy}
 
--- an expression, by what its parts mean
+-- a form of expressions, by what its parts mean
+abbrev pub form_of : Expr-F Meaning → Meaning
+form_of (Expr-F.Integer n) = number n
+form_of (Expr-F.String s) = string s
+form_of (Expr-F.Variable x) = variable x
+form_of Expr-F.Context = context_item
+form_of (Expr-F.Sequence ms) = sequence ms
+form_of (Expr-F.Call f ms) = call f ms
+form_of (Expr-F.Document m) = document m
+form_of (Expr-F.Element n m) = element n m
+form_of (Expr-F.Attribute n m) = attribute n m
+form_of (Expr-F.Text m) = text m
+form_of (Expr-F.Comment m) = comment m
+form_of (Expr-F.Instruction n m) = instruction n m
+form_of (Expr-F.Step axis test ms) = step axis test ms
+form_of (Expr-F.Filter m ms) = filter_of m ms
+form_of (Expr-F.Path m ms) = path m ms
+form_of (Expr-F.Signed signs m) = signed signs m
+form_of (Expr-F.Chain m os) = chain m os
+form_of (Expr-F.If c x y) = conditional c x y
+form_of (Expr-F.Quantified q bs m) = quantified q bs m
+form_of (Expr-F.Flwor cs test keys m) = flwor cs test keys m
+form_of (Expr-F.Insert source place target) = insert source place target
+form_of (Expr-F.Delete target) = delete target
+form_of (Expr-F.ReplaceNode target source) = replace_node target source
+form_of (Expr-F.ReplaceValue target source) = replace_value target source
+form_of (Expr-F.Rename target name) = rename target name
+form_of (Expr-F.Copy bs changes m) = copy bs changes m
+
+-- an expression, whose work is counted
 abbrev pub meaning_of : Expr-F Meaning → Meaning
-meaning_of (Expr-F.Integer n) = number n
-meaning_of (Expr-F.String s) = string s
-meaning_of (Expr-F.Variable x) = variable x
-meaning_of Expr-F.Context = context_item
-meaning_of (Expr-F.Sequence ms) = sequence ms
-meaning_of (Expr-F.Call f ms) = call f ms
-meaning_of (Expr-F.Document m) = document m
-meaning_of (Expr-F.Element n m) = element n m
-meaning_of (Expr-F.Attribute n m) = attribute n m
-meaning_of (Expr-F.Text m) = text m
-meaning_of (Expr-F.Comment m) = comment m
-meaning_of (Expr-F.Instruction n m) = instruction n m
-meaning_of (Expr-F.Step axis test ms) = step axis test ms
-meaning_of (Expr-F.Filter m ms) = filter_of m ms
-meaning_of (Expr-F.Path m ms) = path m ms
-meaning_of (Expr-F.Signed signs m) = signed signs m
-meaning_of (Expr-F.Chain m os) = chain m os
-meaning_of (Expr-F.If c x y) = conditional c x y
-meaning_of (Expr-F.Quantified q bs m) = quantified q bs m
-meaning_of (Expr-F.Flwor cs test keys m) = flwor cs test keys m
-meaning_of (Expr-F.Insert source place target) = insert source place target
-meaning_of (Expr-F.Delete target) = delete target
-meaning_of (Expr-F.ReplaceNode target source) = replace_node target source
-meaning_of (Expr-F.ReplaceValue target source) = replace_value target source
-meaning_of (Expr-F.Rename target name) = rename target name
-meaning_of (Expr-F.Copy bs changes m) = copy bs changes m
+meaning_of f = λ env. counted (form_of f env)
 
 unfoldable pub mean : Expr → Meaning
 mean = fold-Expr Meaning meaning_of
@@ -61,6 +65,7 @@ abbrev pub start : ForestTerm → Run
 start lent = record {
   shelf = record { lent = lent; own = record { trees = no_trees; documents = []; next = lent.next } };
   turns = most_turns;
+  work = most_work;
   primitives = [];
 }
 

@@ -15,13 +15,13 @@ use Rattle.values.specs.declared.atom.Item.{Item}
 use Rattle.values.specs.declared.atom.Item.TheVariants as item
 use Rattle.values.specs.Arithmetic.{arithmetic, operand, operands, in_range}
 use Rattle.values.specs.Atoms.{truth}
-use Rattle.values.specs.Comparisons.{value_compared, general_compared, pairs_compared, tried}
+use Rattle.values.specs.Comparisons.{value_compared, general_compared, pairs_compared, tried, tried_work}
 use Rattle.query_grammar.specs.declared.ast.Binary.{Binary}
 use Rattle.query_grammar.specs.declared.ast.Binary.TheVariants as binary
 use Rattle.query_grammar.specs.declared.ast.Operation.{Operation}
 use Rattle.query_grammar.specs.declared.ast.Sign.{Sign}
 use Rattle.query_grammar.specs.declared.ast.Sign.TheVariants.{Plus, Minus}
-use Rattle.query_meaning.specs.Running.{M, pure, ◌>>=◌, come_to, seen, turns, within, each, atoms, most_items}
+use Rattle.query_meaning.specs.Running.{M, pure, ◌>>=◌, come_to, seen, turns, work, counted, within, each, atoms, most_items}
 use Rattle.query_meaning.specs.Sequences.{Meaning, one}
 
 -- no item, or one
@@ -61,11 +61,12 @@ ranged xs ys = do
 abbrev pub compared_by_value : Comparison → List Atom → List Atom → M (List Item)
 compared_by_value op xs ys = come_to (value_compared op xs ys) >>= (λ o. pure (booleans o))
 
--- `= != < <= > >=` (section 3.5.2): each pair that is tried takes a turn
+-- `= != < <= > >=` (section 3.5.2): each pair that is tried takes a turn, and its work
 abbrev pub compared_by_pairs : Comparison → List Atom → List Atom → M (List Item)
 compared_by_pairs op xs ys = λ run. (do
-  b ← come_to (general_compared op xs ys run.turns)
+  b ← come_to (general_compared op xs ys run.turns run.work)
   _ ← turns (tried (pairs_compared op xs ys))
+  _ ← work (tried_work op xs ys)
   pure (one (atom.Boolean b))) run
 
 -- `is << >>` (section 3.5.3): one node a side, or none, else XPTY0004, which is judged before an empty side gives nothing (our own choice)
@@ -143,9 +144,9 @@ operated binary.Union left right = right >>= set_of ◌||◌ left
 operated binary.Intersect left right = right >>= set_of ◌&&◌ left
 operated binary.Except left right = right >>= set_of (λ a b. a && not b) left
 
--- `a + b - ..`: to the left
+-- `a + b - ..`: to the left; the work of each operator is counted
 abbrev pub chain : Meaning → List (Operation Meaning) → Meaning
-chain m os = λ env. m env >>= each (λ _ given (o : Operation Meaning). operated o.operator given (o.operand env)) 0 os
+chain m os = λ env. m env >>= each (λ _ given (o : Operation Meaning). counted (operated o.operator given (o.operand env))) 0 os
 
 -- signs (section 3.4): the innermost first
 abbrev pub with_sign : ℕ → ℤ → Sign → M ℤ

@@ -2,7 +2,8 @@
 use Rattle.std.specs.Prelude.{ℕ, ◌+◌, ◌==◌, pos, Bool, true, false, ◌&&◌, nat_le, if◌then◌else◌, List, [], ◌∷◌, ◌++◌, length, filter, reverse, map, Option, Some, None, Result, Ok, Err}
 use Rattle.std.specs.Ordering.{is_eq, int_cmp}
 use Rattle.std.specs.Str.{bytes_eq}
-use Rattle.data_model.specs.Trees.{Trees, Place, Content, find}
+use Rattle.data_model.specs.Changes.{pick}
+use Rattle.data_model.specs.Trees.{Trees, Place, Content, find, size}
 use Rattle.data_model.specs.Axes.{on_axis, is_in}
 use Rattle.data_model.specs.Order.{identities}
 use Rattle.data_model.specs.declared.axis.Axis.{Axis}
@@ -20,7 +21,7 @@ use Rattle.query_grammar.specs.declared.ast.KindTest.{KindTest}
 use Rattle.query_grammar.specs.declared.ast.KindTest.TheVariants as test
 use Rattle.query_grammar.specs.declared.ast.NodeTest.{NodeTest}
 use Rattle.query_grammar.specs.declared.ast.NodeTest.TheVariants as node_test
-use Rattle.query_meaning.specs.Running.{M, pure, ◌>>=◌, come_to, seen, turn, within, each, most_items}
+use Rattle.query_meaning.specs.Running.{M, pure, ◌>>=◌, come_to, seen, turn, work, counted, within, each, most_items}
 use Rattle.query_meaning.specs.Environment.{Environment, with_focus}
 use Rattle.query_meaning.specs.Operators.{all_nodes, nodes}
 use Rattle.query_meaning.specs.Sequences.{Meaning, focus_of}
@@ -83,6 +84,12 @@ passes_at a t (Some x) = passes a t x.content
 abbrev pub tested_nodes : Axis → NodeTest → ℕ → Trees → List ℕ
 tested_nodes a t i ts = filter (λ j. passes_at a t (find j ts)) (on_axis a ts i)
 
+-- how many nodes a step looks at: those of the axis, and for descendants the whole tree
+abbrev pub looked_at : Axis → ℕ → Trees → ℕ
+looked_at axis.Descendant i ts = size (pick i ts)
+looked_at axis.DescendantOrSelf i ts = size (pick i ts)
+looked_at a i ts = length (on_axis a ts i)
+
 -- the axes whose positions count backward (section 3.2.1.1)
 abbrev pub is_reverse : Axis → Bool
 is_reverse axis.Parent = true
@@ -98,12 +105,13 @@ abbrev pub node_of : Item → Result ℕ Code
 node_of (item.Node i) = Ok i
 node_of (item.Atomic a) = Err XPTY0020
 
--- An axis step: the listing filtered by the axis and the test, in the axis's direction for its predicates, and in document order again. More
--- items than there may be are judged after the predicates.
+-- An axis step: the listing filtered by the axis and the test, in the axis's direction for its predicates, and in document order again. To look
+-- at a node is work. More items than there may be are judged after the predicates.
 abbrev pub step : Axis → NodeTest → List Meaning → Meaning
 step a t ms = λ env. do
   focus ← come_to (focus_of env)
   i ← come_to (node_of focus.item)
+  _ ← seen (looked_at a i) >>= work
   is ← seen (tested_nodes a t i)
   left ← predicates ms env (in_direction a (nodes is))
   come_to (within (in_direction a left))
@@ -140,5 +148,6 @@ segment mixed env items m = do
 abbrev pub mixed_code : (steps before : ℕ) → Code
 mixed_code steps before = if before + 1 == steps then XPTY0018 else XPTY0019
 
+-- the work of each step is counted
 abbrev pub path : Meaning → List Meaning → Meaning
-path m ms = λ env. m env >>= each (λ i. segment (mixed_code (length ms) i) env) 0 ms
+path m ms = λ env. m env >>= each (λ i items n. counted (segment (mixed_code (length ms) i) env items n)) 0 ms

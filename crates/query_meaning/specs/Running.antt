@@ -1,25 +1,34 @@
 -- What an evaluation has come to, and steps that are taken one after the other: the first fault ends them (XQuery 1.0, section 2.3.4).
-use Rattle.std.specs.Prelude.{ℕ, suc, ◌+◌, ◌-◌, ◌==◌, nat_le, if◌then◌else◌, List, [], ◌∷◌, ◌++◌, length, Result, Ok, Err, refl}
+use Rattle.std.specs.Prelude.{ℕ, suc, ◌+◌, ◌-◌, ◌/◌, ◌==◌, nat_le, if◌then◌else◌, List, [], ◌∷◌, ◌++◌, length, Result, Ok, Err, refl}
 use Rattle.std.specs.Coded.{Coded, code_by, coded×, coded_ℕ, coded_list}
-use Rattle.data_model.specs.Trees.{Trees, append}
+use Rattle.data_model.specs.Changes.{pick}
+use Rattle.data_model.specs.Trees.{Trees, append, bytes_in, size}
 use Rattle.shelves.specs.Shelf.{ShelfTerm, shelf_trees, shelf_code}
 use Rattle.pending.specs.Compatible.{most_primitives}
 use Rattle.pending.specs.Primitives.{PrimitiveTerm, primitive_code}
 use Rattle.fault_codes.specs.declared.code.Code.{Code}
 use Rattle.fault_codes.specs.declared.code.Code.TheVariants.{PXQ0002, PXQ0003}
 use Rattle.values.specs.declared.atom.Item.{Item}
+use Rattle.values.specs.declared.atom.Item.TheVariants as item
 use Rattle.values.specs.declared.atom.Atom.{Atom}
-use Rattle.values.specs.Atoms.{atomized}
+use Rattle.values.specs.Atoms.{atom_of}
+use Rattle.values.specs.Work.{text_of, text_work}
 
--- the trees, how many turns are left, and the update primitives so far
+-- the trees, how many turns and how much work are left, and the update primitives so far
 pub record Run : Type 0 where
   pub shelf : ShelfTerm
   pub turns : ℕ
+  pub work : ℕ
   pub primitives : List PrimitiveTerm
 
 abbrev pub run_code : Coded Run
 run_code =
-    code_by (ShelfTerm × (ℕ × List PrimitiveTerm)) (coded× shelf_code (coded× coded_ℕ (coded_list primitive_code))) (λ r. (r.shelf, (r.turns, r.primitives))) (λ p. record { shelf = p.0; turns = p.1.0; primitives = p.1.1 }) (λ _. refl)
+    code_by
+    (ShelfTerm × (ℕ × (ℕ × List PrimitiveTerm)))
+    (coded× shelf_code (coded× coded_ℕ (coded× coded_ℕ (coded_list primitive_code))))
+    (λ r. (r.shelf, (r.turns, (r.work, r.primitives))))
+    (λ p. record { shelf = p.0; turns = p.1.0; work = p.1.1.0; primitives = p.1.1.1 })
+    (λ _. refl)
 
 abbrev pub trees_of : Run → Trees
 trees_of run = shelf_trees run.shelf
@@ -51,10 +60,6 @@ come_to (Err code) = fault code
 abbrev pub seen : {A : Type 0} → (Trees → A) → M A
 seen f = λ run. Ok (f (trees_of run), run)
 
--- the typed values of items
-abbrev pub atoms : List Item → M (List Atom)
-atoms items = λ run. come_to (atomized (trees_of run) items) run
-
 -- one after the other, each with its index; what the one comes to is given to the next
 abbrev pub each : {A S : Type 0} → (ℕ → S → A → M S) → ℕ → List A → S → M S
 each f n [] s = pure s
@@ -62,9 +67,12 @@ each f n (a ∷ more) s = f n s a >>= each f (suc n) more
 
 -- Our own limits.
 
--- the most turns, items and nodes in an evaluation
+-- the most turns, work, items and nodes in an evaluation
 unfoldable pub most_turns : ℕ
 most_turns = 1000000
+
+unfoldable pub most_work : ℕ
+most_work = 100000000
 
 unfoldable pub most_items : ℕ
 most_items = 10000
@@ -79,6 +87,36 @@ turn m = λ run. if run.turns == 0 then Err PXQ0002 else m (record run { turns =
 -- so many turns more
 abbrev pub turns : ℕ → M (Unit {0})
 turns n = λ run. if nat_le n run.turns then Ok (tt, record run { turns = run.turns - n }) else Err PXQ0002
+
+-- so much more work
+abbrev pub work : ℕ → M (Unit {0})
+work n = λ run. if nat_le n run.work then Ok (tt, record run { work = run.work - n }) else Err PXQ0002
+
+-- What is evaluated takes a unit of work, and one for each item of its value.
+abbrev pub counted : M (List Item) → M (List Item)
+counted m = do
+  items ← m
+  _ ← work (1 + length items)
+  pure items
+
+-- The typed value of an item takes a unit for each node of the tree of a node, and the work of its text.
+abbrev pub nodes_of : Trees → Item → ℕ
+nodes_of ts (item.Node i) = size (pick i ts)
+nodes_of ts (item.Atomic a) = 0
+
+abbrev pub atom : Item → M Atom
+atom x = λ run. (do
+  _ ← work (nodes_of (trees_of run) x)
+  a ← come_to (atom_of (trees_of run) x)
+  _ ← work (text_work (text_of a))
+  pure a) run
+
+abbrev pub atoms : List Item → M (List Atom)
+atoms items = each (λ _ given x. atom x >>= (λ a. pure (given ++ a ∷ []))) 0 items []
+
+-- A copy of the tree of a node takes the work of all of its texts.
+abbrev pub copying : ℕ → M (Unit {0})
+copying i = seen (λ ts. bytes_in (pick i ts) / 16) >>= work
 
 -- one primitive more
 abbrev pub adding : PrimitiveTerm → M (Unit {0})

@@ -20,8 +20,8 @@ use Rattle.query_grammar.specs.declared.ast.Clause.TheVariants as clause
 use Rattle.query_grammar.specs.declared.ast.Quantifier.{Quantifier}
 use Rattle.query_grammar.specs.declared.ast.Quantifier.TheVariants as quantifier
 use Rattle.query_grammar.specs.declared.ast.SortKey.{SortKey}
-use Rattle.query_meaning.specs.Running.{M, pure, ◌>>=◌, come_to, turn, joined, each, atoms, most_items}
-use Rattle.query_meaning.specs.Environment.{Environment, Focus, value_in, with_variable}
+use Rattle.query_meaning.specs.Running.{M, pure, ◌>>=◌, come_to, turn, work, joined, each, atoms, most_items}
+use Rattle.query_meaning.specs.Environment.{Environment, Focus, looked_at, value_in, with_variable}
 
 -- what an expression means
 abbrev pub Meaning : Type 0
@@ -40,9 +40,11 @@ number n = λ env. do
 abbrev pub string : List ℕ → Meaning
 string text = λ env. pure (one (atom.String text))
 
--- `$x` (section 3.1.2)
+-- `$x` (section 3.1.2); to look for it is work
 abbrev pub variable : List ℕ → Meaning
-variable x = λ env. come_to (or_fault XPST0008 (value_in x env.variables))
+variable x = λ env. do
+  _ ← work (looked_at x env.variables)
+  come_to (or_fault XPST0008 (value_in x env.variables))
 
 -- `.` (section 3.1.4)
 abbrev pub focus_of : Environment → Result Focus Code

@@ -18,7 +18,7 @@ ghost use Rattle.query_grammar.specs.declared.ast.Quantifier.TheVariants.{Some a
 ghost use Rattle.query_grammar.specs.declared.ast.Sign.TheVariants.{Minus, Plus};
 ghost use Rattle.query_meaning.specs.Copies.{copy};
 ghost use Rattle.query_meaning.specs.Meaning.{meaning_of};
-ghost use Rattle.query_meaning.specs.Examples.{int, str, var, list, call, binary, elem, elem_named, attr, txt, comment, instr, instr_named, doc_node, named, any, child, filtered_by, path, every_node, let_in, db, db_a, below_a, attribute_k, inserting, deleting, replacing, replacing_value, renaming, said, said_after, said_of_filled, with_turns, with_nodes, asked, asked_of_filled, alone, one, with_r, below_r, set, copy_c, c, below, children_of, submitted};
+ghost use Rattle.query_meaning.specs.Examples.{int, str, var, list, call, binary, elem, elem_named, attr, txt, comment, instr, instr_named, doc_node, named, any, child, filtered_by, path, every_node, let_in, db, db_a, below_a, attribute_k, inserting, deleting, replacing, replacing_value, renaming, said, said_after, said_by, said_of_filled, said_of_filled_by, sixteen, with_turns, with_nodes, asked, asked_of_filled, alone, one, with_r, below_r, set, copy_c, c, below, children_of, submitted};
 
 /// Operators.
 #[tactic(auto, unfolding(crate::proofs::Compute::everything))]
@@ -367,6 +367,44 @@ pub fn limits()
     // element e {element f {}}: the copy is a third node
     ensures nodes { said_after (with_nodes 3) (elem (codes "e") (elem (codes "f") (list []))) ≡ one (codes "element e {element f {}}") }
     ensures no_node { said_after (with_nodes 2) (elem (codes "e") (elem (codes "f") (list []))) ≡ Err PXQ0003 }
+{}
+
+/// Work, and one unit too little.
+#[tactic(auto, unfolding(crate::proofs::Compute::everything))]
+pub fn work()
+    // 1 + 1
+    ensures sum { said_by 8 (binary (Arithmetic Add) (int 1) (int 1)) ≡ one (codes "2") }
+    ensures no_sum { said_by 7 (binary (Arithmetic Add) (int 1) (int 1)) ≡ Err PXQ0002 }
+    // 1, 2, 3
+    ensures items { said_by 10 (list (int 1 ∷ int 2 ∷ int 3 ∷ [])) ≡ Ok (codes "1" ∷ codes "2" ∷ codes "3" ∷ []) }
+    ensures no_items { said_by 9 (list (int 1 ∷ int 2 ∷ int 3 ∷ [])) ≡ Err PXQ0002 }
+    // let $a := 1 return let $b := 2 return $a
+    ensures variable { said_by 12 (let_in (codes "a") (int 1) (let_in (codes "b") (int 2) (var (codes "a")))) ≡ one (codes "1") }
+    ensures no_variable { said_by 11 (let_in (codes "a") (int 1) (let_in (codes "b") (int 2) (var (codes "a")))) ≡ Err PXQ0002 }
+    // count(doc("db")/a), of the filled store
+    ensures child { said_of_filled_by 13 (call (codes "count") (db_a ∷ [])) ≡ one (codes "1") }
+    ensures no_child { said_of_filled_by 12 (call (codes "count") (db_a ∷ [])) ≡ Err PXQ0002 }
+    // count(doc("db")/descendant::*): it looks at all six nodes
+    ensures descendant { said_of_filled_by 18 (call (codes "count") (path db (any axis.Descendant [] ∷ []) ∷ [])) ≡ one (codes "1") }
+    ensures no_descendant { said_of_filled_by 17 (call (codes "count") (path db (any axis.Descendant [] ∷ []) ∷ [])) ≡ Err PXQ0002 }
+    // string(doc("db"))
+    ensures typed { said_of_filled_by 12 (call (codes "string") (db ∷ [])) ≡ one (codes "\"x\"") }
+    ensures no_typed { said_of_filled_by 11 (call (codes "string") (db ∷ [])) ≡ Err PXQ0002 }
+    // concat("sixteen bytes in", "")
+    ensures made { said_by 8 (call (codes "concat") (str sixteen ∷ str [] ∷ [])) ≡ one (codes "\"sixteen bytes in\"") }
+    ensures no_made { said_by 7 (call (codes "concat") (str sixteen ∷ str [] ∷ [])) ≡ Err PXQ0002 }
+    // element e {"sixteen bytes in"}
+    ensures text { said_by 5 (elem (codes "e") (str sixteen)) ≡ one (codes "element e {text {\"sixteen bytes in\"}}") }
+    ensures no_text { said_by 4 (elem (codes "e") (str sixteen)) ≡ Err PXQ0002 }
+    // element e {text {"sixteen bytes in"}}
+    ensures copied { said_by 8 (elem (codes "e") (txt (str sixteen))) ≡ one (codes "element e {text {\"sixteen bytes in\"}}") }
+    ensures no_copied { said_by 7 (elem (codes "e") (txt (str sixteen))) ≡ Err PXQ0002 }
+    // "sixteen bytes in" = "sixteen bytes in"
+    ensures pair { said_by 11 (binary (General Equal) (str sixteen) (str sixteen)) ≡ one (codes "true()") }
+    ensures no_pair { said_by 10 (binary (General Equal) (str sixteen) (str sixteen)) ≡ Err PXQ0002 }
+    // "sixteen bytes in" = ""
+    ensures shorter { said_by 9 (binary (General Equal) (str sixteen) (str [])) ≡ one (codes "false()") }
+    ensures no_shorter { said_by 8 (binary (General Equal) (str sixteen) (str [])) ≡ Err PXQ0002 }
 {}
 
 /// Copies that are changed, and what is then answered.

@@ -1,6 +1,6 @@
 -- Value comparisons and general comparisons (XQuery 1.0, sections 3.5.1 and 3.5.2).
-use Rattle.std.specs.Prelude.{ℕ, suc, Bool, true, false, nat_le, if◌then◌else◌, List, [], ◌∷◌, map, Option, Some, None, Result, Ok, Err}
-use Rattle.std.specs.List.{flat_map}
+use Rattle.std.specs.Prelude.{ℕ, suc, Bool, true, false, ◌&&◌, nat_le, if◌then◌else◌, List, [], ◌∷◌, length, map, take, Option, Some, None, Result, Ok, Err}
+use Rattle.std.specs.List.{flat_map, sum}
 use Rattle.std.specs.declared.cmp.Ordering.{Ordering}
 use Rattle.std.specs.Ordering.{is_eq, is_ne, is_lt, is_le, is_gt, is_ge, nat_cmp, int_cmp, bool_cmp}
 use Rattle.std.specs.Cmp.Lexicographic.{slice_cmp}
@@ -13,6 +13,7 @@ use Rattle.values.specs.declared.compare.Comparison.{Comparison}
 use Rattle.values.specs.declared.compare.Comparison.TheVariants as c
 use Rattle.values.specs.Readings.{integer_of, boolean_of}
 use Rattle.values.specs.Atoms.{◌>>=◌, or_fault}
+use Rattle.values.specs.Work.{text_of, text_work}
 
 -- whether a comparison holds of two values in that order
 abbrev pub holds : Comparison → Ordering → Bool
@@ -96,6 +97,18 @@ tried (Ok true ∷ rs) = 1
 tried (Ok false ∷ rs) = suc (tried rs)
 tried (Err code ∷ rs) = 1
 
--- a general comparison, where so many turns are left: each pair that is tried is one (our own limit)
-abbrev pub general_compared : Comparison → List Atom → List Atom → (turns : ℕ) → Result Bool Code
-general_compared op xs ys turns = if nat_le (tried (pairs_compared op xs ys)) turns then decided (pairs_compared op xs ys) else Err PXQ0002
+-- The work of a pair is that of the shorter text, where both values have one; what is read of a value is read once, and not for each pair.
+abbrev pub pair_work : Atom → Atom → ℕ
+pair_work a b = if nat_le (length (text_of a)) (length (text_of b)) then text_work (text_of a) else text_work (text_of b)
+
+abbrev pub pairs_work : List Atom → List Atom → List ℕ
+pairs_work xs ys = flat_map (λ x. map (pair_work x) ys) xs
+
+-- the work of the pairs that are tried
+abbrev pub tried_work : Comparison → List Atom → List Atom → ℕ
+tried_work op xs ys = sum (take (tried (pairs_compared op xs ys)) (pairs_work xs ys))
+
+-- a general comparison, where so many turns and so much work are left: each pair that is tried takes a turn, and its work (our own limits)
+abbrev pub general_compared : Comparison → List Atom → List Atom → (turns work : ℕ) → Result Bool Code
+general_compared op xs ys turns work =
+    if nat_le (tried (pairs_compared op xs ys)) turns && nat_le (tried_work op xs ys) work then decided (pairs_compared op xs ys) else Err PXQ0002

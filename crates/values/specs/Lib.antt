@@ -1,5 +1,6 @@
 pub mod Readings
 pub mod Atoms
+pub mod Work
 pub mod Comparisons
 pub mod Arithmetic
 pub mod Printing

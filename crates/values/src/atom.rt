@@ -53,7 +53,7 @@ pub fn atomize(alloc: Global, shelf: &Shelf, items: &[Item]) -> Result<Vec<Atom>
 }
 
 /// The typed value of one item, with the same faults.
-fn atomize_item(alloc: Global, shelf: &Shelf, item: &Item) -> Result<Atom, ValueFault>
+pub fn atomize_item(alloc: Global, shelf: &Shelf, item: &Item) -> Result<Atom, ValueFault>
     requires there { IsThere (shelf_trees shelf.now) item.now }
     ensures atom { IfOk result (λ a. atom_of (shelf_trees shelf.now) item.now ≡ Ok a) }
     ensures code { IfErr result (λ fault. (code : Code) → fault ≡ ValueFault.Code code → atom_of (shelf_trees shelf.now) item.now ≡ Err code) }

@@ -1,14 +1,16 @@
 //! Comparisons of atomic values (XQuery 1.0, section 3.5).
 
-ghost use Rattle.std.specs.Prelude.{◌≡◌, ◌-◌, nat_le, if◌then◌else◌, Ok, Err, IfOk, IfErr, map};
+ghost use Rattle.std.specs.Prelude.{◌≡◌, ◌-◌, ◌&&◌, nat_le, if◌then◌else◌, Ok, Err, IfOk, IfErr, OnOk, length, map, take};
+ghost use Rattle.std.specs.List.{sum};
 ghost use Rattle.fault_codes.specs.declared.code.Code.{Code};
 ghost use Rattle.values.specs.declared.fault.ValueFault.{ValueFault};
 ghost use Rattle.fault_codes.specs.declared.code.Code.TheVariants.{PXQ0002};
-ghost use Rattle.values.specs.Comparisons.{holds, string_cmp, same_type_cmp, as_string, if_comparable, pair_compared, pairs_compared, decided, tried, value_compared, general_compared};
+ghost use Rattle.values.specs.Comparisons.{holds, string_cmp, same_type_cmp, as_string, if_comparable, pair_compared, pairs_compared, decided, tried, value_compared, pair_work, tried_work, general_compared};
 
 use super::atom::Atom;
 use super::fault::ValueFault;
 use super::operand::{Operand, Types, operands};
+use super::work::text_work;
 use fault_codes::Code;
 use std::alloc::Global;
 use std::cmp::Ordering;
@@ -113,21 +115,47 @@ fn compare_pair(op: Comparison, left: &Operand, right: &Operand) -> Result<bool,
     }
 }
 
-/// One value of a general comparison's left side with each of the right side, as long as there are turns.
+/// The work of a pair of a general comparison: that of the shorter text, where both values have one.
+fn pair_work(left: &Operand, right: &Operand) -> u64
+    ensures { result ≡ pair_work left.now right.now }
+{
+    match (left.atom(), right.atom()) {
+        (Atom::String(left) | Atom::Untyped(left), Atom::String(right) | Atom::Untyped(right)) => {
+            text_work(shorter(left.as_str(), right.as_str()))
+        }
+        _ => 0,
+    }
+}
+
+/// The text of the two that has fewer bytes, or the first where they have as many.
+fn shorter<'a>(left: &'a str, right: &'a str) -> &'a str
+    ensures { result.now ≡ (if nat_le (length left.now) (length right.now) then left.now else right.now) }
+{
+    if left.len() <= right.len() {
+        left
+    } else {
+        right
+    }
+}
+
+/// One value of a general comparison's left side with each of the right side, as long as there are turns and work.
 fn compare_with_each(
     op: Comparison,
     left: &Operand,
     right: &[Operand],
     turns: &mut u64,
+    work: &mut u64,
 ) -> Result<bool, Code>
-    ensures compared { let pairs = map (pair_compared op left.now) right.now in result ≡ (if nat_le (tried pairs) turns.old then decided pairs else Err PXQ0002) }
-    ensures turns { turns.new ≡ turns.old - tried (map (pair_compared op left.now) right.now) }
+    ensures compared { let pairs = map (pair_compared op left.now) right.now in let works = map (pair_work left.now) right.now in result ≡ (if nat_le (tried pairs) turns.old && nat_le (sum (take (tried pairs) works)) work.old then decided pairs else Err PXQ0002) }
+    ensures left { let pairs = map (pair_compared op left.now) right.now in let works = map (pair_work left.now) right.now in OnOk result ((turns.new ≡ turns.old - tried pairs) × (work.new ≡ work.old - sum (take (tried pairs) works))) }
 {
     for other in right {
-        if *turns == 0 {
+        let pair = pair_work(left, other);
+        if *turns == 0 || *work < pair {
             return Err(Code::PXQ0002);
         }
         *turns -= 1;
+        *work -= pair;
         if compare_pair(op, left, other)? {
             return Ok(true);
         }
@@ -136,19 +164,20 @@ fn compare_with_each(
 }
 
 /// Each value of a general comparison's left side, read as these types where it is untyped, with each of the right side, as long as
-/// there are turns.
+/// there are turns and work.
 fn compare_all(
     op: Comparison,
     left: &[Atom],
     types: Types,
     right: &[Operand],
     turns: &mut u64,
+    work: &mut u64,
 ) -> Result<bool, Code>
-    ensures compared { result ≡ general_compared op left.now right.now turns.old }
-    ensures turns { turns.new ≡ turns.old - tried (pairs_compared op left.now right.now) }
+    ensures compared { result ≡ general_compared op left.now right.now turns.old work.old }
+    ensures left { OnOk result ((turns.new ≡ turns.old - tried (pairs_compared op left.now right.now)) × (work.new ≡ work.old - tried_work op left.now right.now)) }
 {
     for value in left {
-        if compare_with_each(op, &Operand::new(value, types), right, turns)? {
+        if compare_with_each(op, &Operand::new(value, types), right, turns, work)? {
             return Ok(true);
         }
     }
@@ -156,24 +185,27 @@ fn compare_all(
 }
 
 /// A general comparison of two sequences of atomic values: whether it holds of some pair, the left value first (XQuery 1.0,
-/// section 3.5.2). Each pair that is tried takes one of the turns, and each untyped value is read once.
+/// section 3.5.2). Each pair that is tried takes one of the turns, and its work before it is compared: that of the shorter text,
+/// where both values have one. Each untyped value is read once.
 ///
-/// Faults: `Memory`, and then no turn is taken; `Code` with that of the first pair that has one, if none before it holds, or with
-/// PXQ0002 where more pairs would be tried than there are turns, which are then 0.
+/// Faults: `Memory`, and then neither a turn nor work is taken; `Code` with that of the first pair that has one, if none before it
+/// holds, or with PXQ0002 where the pairs that would be tried take more turns or more work than there are. After a `Code` nothing is
+/// said of the turns and the work that are left.
 pub fn compare_general(
     alloc: Global,
     op: Comparison,
     left: &[Atom],
     right: &[Atom],
     turns: &mut u64,
+    work: &mut u64,
 ) -> Result<bool, ValueFault>
-    ensures compared { IfOk result (λ b. general_compared op left.now right.now turns.old ≡ Ok b) }
-    ensures code { IfErr result (λ fault. (code : Code) → fault ≡ ValueFault.Code code → general_compared op left.now right.now turns.old ≡ Err code) }
-    ensures turns { (result ≡ Err ValueFault.Memory → ⊥) → turns.new ≡ turns.old - tried (pairs_compared op left.now right.now) }
-    ensures refused { result ≡ Err ValueFault.Memory → turns.new ≡ turns.old }
+    ensures compared { IfOk result (λ b. general_compared op left.now right.now turns.old work.old ≡ Ok b) }
+    ensures code { IfErr result (λ fault. (code : Code) → fault ≡ ValueFault.Code code → general_compared op left.now right.now turns.old work.old ≡ Err code) }
+    ensures left { OnOk result ((turns.new ≡ turns.old - tried (pairs_compared op left.now right.now)) × (work.new ≡ work.old - tried_work op left.now right.now)) }
+    ensures refused { result ≡ Err ValueFault.Memory → (turns.new ≡ turns.old) × (work.new ≡ work.old) }
 {
     let operands = operands(alloc, right, Types::of(left))?;
-    match compare_all(op, left, Types::of(right), &operands, turns) {
+    match compare_all(op, left, Types::of(right), &operands, turns, work) {
         Ok(holds) => Ok(holds),
         Err(code) => Err(ValueFault::Code(code)),
     }

@@ -1,7 +1,7 @@
 //! Worked examples of the rules, the contract of a function that does nothing.
 
 ghost use Rattle.std.specs.Prelude.{◌≡◌, ◌++◌, [], ◌∷◌, pos, neg_ℤ, codes, Ok, Err, Some, None, true, false};
-ghost use Rattle.fault_codes.specs.declared.code.Code.TheVariants.{XPTY0004, FOAR0001, FOAR0002, FORG0001, FORG0006};
+ghost use Rattle.fault_codes.specs.declared.code.Code.TheVariants.{XPTY0004, FOAR0001, FOAR0002, FORG0001, FORG0006, PXQ0002};
 ghost use Rattle.values.specs.declared.atom.Atom.TheVariants.{String, Untyped, Integer};
 ghost use Rattle.values.specs.declared.atom.Item.TheVariants as item;
 ghost use Rattle.values.specs.declared.operators.Operator.TheVariants.{Add, IntegerDivide, Modulo};
@@ -22,10 +22,12 @@ pub fn examples()
     ensures overflow { arithmetic IntegerDivide (integer minimum) (integer (neg_ℤ (pos 1))) ≡ Err FOAR0002 }
     ensures zero { arithmetic Modulo (integer (pos 7)) (integer (pos 0)) ≡ Err FOAR0001 }
     ensures dividend { arithmetic Modulo (integer (neg_ℤ (pos 7))) (integer (pos 2)) ≡ Ok (Some (neg_ℤ (pos 1))) }
-    ensures fault_first { general_compared Equal (String (codes "x") ∷ Integer (pos 1) ∷ []) (integer (pos 1)) 2 ≡ Err XPTY0004 }
-    ensures pair_first { general_compared Equal (Integer (pos 1) ∷ String (codes "x") ∷ []) (integer (pos 1)) 2 ≡ Ok true }
-    ensures as_integers { general_compared Less (untyped (codes "9")) (integer (pos 10)) 1 ≡ Ok true }
-    ensures as_strings { general_compared Less (untyped (codes "9")) (untyped (codes "10")) 1 ≡ Ok false }
+    ensures fault_first { general_compared Equal (String (codes "x") ∷ Integer (pos 1) ∷ []) (integer (pos 1)) 2 0 ≡ Err XPTY0004 }
+    ensures pair_first { general_compared Equal (Integer (pos 1) ∷ String (codes "x") ∷ []) (integer (pos 1)) 2 0 ≡ Ok true }
+    ensures as_integers { general_compared Less (untyped (codes "9")) (integer (pos 10)) 1 0 ≡ Ok true }
+    ensures as_strings { general_compared Less (untyped (codes "9")) (untyped (codes "10")) 1 0 ≡ Ok false }
+    ensures shorter_text { general_compared Equal (string (codes "sixteen letters.")) (untyped (codes "sixteen letters. sixteen letters.")) 1 1 ≡ Ok false }
+    ensures no_work_left { general_compared Equal (string (codes "sixteen letters.")) (untyped (codes "sixteen letters. sixteen letters.")) 1 0 ≡ Err PXQ0002 }
     ensures by_value { value_compared Equal (untyped (codes "1")) (integer (pos 1)) ≡ Err XPTY0004 }
     ensures code_points { value_compared Less (string (0xEF ∷ 0xBF ∷ 0xBD ∷ [])) (string (0xF0 ∷ 0x9F ∷ 0x98 ∷ 0x80 ∷ [])) ≡ Ok (Some true) }
     ensures two_truths { truth (item.Atomic (Integer (pos 1)) ∷ item.Node 1 ∷ []) ≡ Err FORG0006 }

@@ -11,8 +11,9 @@ mod operators;
 mod print;
 mod readings;
 mod text;
+mod work;
 
-pub use atom::{Atom, Item, atomize, truth};
+pub use atom::{Atom, Item, atomize, atomize_item, truth};
 pub use compare::{Comparison, compare_general, compare_value};
 pub use fault::ValueFault;
 pub use fault_codes::Code;
@@ -22,3 +23,4 @@ pub use operators::{Operator, arithmetic, integer_operands};
 pub use print::push_item;
 pub use readings::{read_boolean, read_integer};
 pub use text::Text;
+pub use work::{atom_work, text_work};

@@ -1,8 +1,8 @@
 -- The pairs that are left end as all of them do.
 use Rattle.std.proofs.Common.{◌≡◌, drop}
-use Rattle.values.specs.Comparisons.{pairs_compared}
-use Rattle.values.proofs.Pairs.{walk}
+use Rattle.values.specs.Comparisons.{pair_compared, pair_work}
+use Rattle.values.proofs.Pairs.{walk-rows}
 use Rattle.values.proofs.compare.compare_all.Given as goal
 
 abbrev pub invariant-loop-value : goal.invariant-loop-value
-invariant-loop-value l = walk (pairs_compared l.op (drop l.value-index l.left) l.right) l.turns ≡ walk (pairs_compared l.op l.left l.right) l.initial.turns
+invariant-loop-value l = walk-rows (pair_compared l.op) pair_work l.right (drop l.value-index l.left) l.turns l.work ≡ walk-rows (pair_compared l.op) pair_work l.right l.left l.initial.turns l.initial.work

@@ -7,6 +7,10 @@ pub returns-clause-as_strings : goal.returns-clause-as_strings
 unfolding chars
 returns-clause-as_strings c = refl
 
+pub returns-clause-shorter_text : goal.returns-clause-shorter_text
+unfolding chars
+returns-clause-shorter_text c = refl
+
 pub returns-clause-code_points : goal.returns-clause-code_points
 unfolding chars
 returns-clause-code_points c = refl
