@@ -1,4 +1,6 @@
 pub mod Around
+pub mod Atoms
+pub mod Copying
 pub mod Evaluates
 pub mod Gives
 pub mod Linked

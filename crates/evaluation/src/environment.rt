@@ -1,9 +1,9 @@
 //! The context of an expression (XQuery 1.0, section 2.1.2).
 
-ghost use Rattle.std.specs.Prelude.{◌≡◌, ◌≤◌, [], ◌∷◌, None, length, option_map, IfOk};
+ghost use Rattle.std.specs.Prelude.{◌≡◌, ◌≤◌, ◌<◌, ◌+◌, [], ◌∷◌, None, length, option_map, IfOk, IfSome, IfNone};
 ghost use Rattle.std.specs.List.{All};
 ghost use Rattle.std.specs.Option.{option_copied};
-ghost use Rattle.query_meaning.specs.Environment.{value_in, with_focus};
+ghost use Rattle.query_meaning.specs.Environment.{looked_at, value_in, with_focus};
 ghost use Rattle.query_meaning.specs.Running.{most_items};
 ghost use Rattle.evaluation.specs.Around.{item_in, position_in, size_in};
 
@@ -105,6 +105,24 @@ impl Variables {
                     Some(&binding.items)
                 } else {
                     binding.others.get(name)
+                }
+            }
+        }
+    }
+
+    /// What is left of so many units once one is taken for each variable that is looked at for this name; `None` where they are too few.
+    pub(crate) fn without(&self, name: &str, units: u64) -> Option<u64>
+        ensures left { IfSome result (λ left. left + looked_at name.now self.now ≡ units) }
+        ensures more { IfNone result (units < looked_at name.now self.now) }
+    {
+        match &self.last {
+            Link::End => Some(units),
+            Link::More(binding) => {
+                let left = units.checked_sub(1)?;
+                if name == binding.name.as_str() {
+                    Some(left)
+                } else {
+                    binding.others.without(name, left)
                 }
             }
         }

@@ -1,18 +1,21 @@
 //! What an evaluation has come to.
 
-ghost use Rattle.std.specs.Prelude.{◌≡◌, ◌≤◌, ◌<◌, ◌^◌, ◌-◌, ℕ, [], Ok, Err, IfOk, IfErr, IsSome, IsTrue, OnOk, OnErr, ◌+◌, ◌↔◌, map};
+ghost use Rattle.std.specs.Prelude.{◌≡◌, ◌≤◌, ◌<◌, ◌^◌, ◌-◌, ℕ, [], length, Ok, Err, IfOk, IfErr, IsSome, IsTrue, OnOk, OnErr, ◌+◌, ◌↔◌, map};
 ghost use Rattle.data_model.specs.Tree.{trees_of_tree};
 ghost use Rattle.data_model.specs.Changes.{pick};
 ghost use Rattle.data_model.specs.Trees.{count, find, no_trees, size};
 ghost use Rattle.pending.specs.Primitives.{primitive_term};
 ghost use Rattle.shelves.specs.Shelf.{ComesAfter};
-ghost use Rattle.values.specs.Atoms.{atomized};
-ghost use Rattle.values.specs.Comparisons.{general_compared, pairs_compared, tried};
+ghost use Rattle.values.specs.Comparisons.{general_compared, pairs_compared, tried, tried_work};
+ghost use Rattle.values.specs.Items.{IsThere};
 ghost use Rattle.query_meaning.specs.Copies.{copy_of};
+ghost use Rattle.query_meaning.specs.Environment.{looked_at};
 ghost use Rattle.query_meaning.specs.Meaning.{start};
-ghost use Rattle.query_meaning.specs.Running.{trees_of, adding, most_nodes, new_nodes, standing};
+ghost use Rattle.query_meaning.specs.Running.{Run, trees_of, adding, atom, atoms, copying, most_nodes, nodes_of, new_nodes, standing, work};
+ghost use Rattle.evaluation.specs.Copying.{standing_copy};
 ghost use Rattle.evaluation.specs.Gives.{Any, Fails, GivesIn, Says, Stand, Turns};
 
+use crate::environment::Variables;
 use crate::sequence::Sequence;
 use pending::{ListFault, PendingList, Primitive};
 use shelves::Shelf;
@@ -20,15 +23,21 @@ use std::alloc::{AllocError, Global};
 use std::marker::Model;
 use std::mem;
 use trees::{Forest, NodeId, Tree};
-use values::{Atom, Code, Comparison, ValueFault, atomize, compare_general};
+use values::{Atom, Code, Comparison, Item, ValueFault, atom_work, atomize_item, compare_general};
 
 /// The most turns in an evaluation (our own limit).
 const MOST_TURNS: u64 = 1_000_000;
 
+/// The most work in an evaluation (our own limit).
+const MOST_WORK: u64 = 100_000_000;
+
+/// How many bytes of a copied text are one unit of work.
+const BYTES_A_UNIT: u64 = 16;
+
 /// The most new nodes in an evaluation (our own limit).
 const MOST_NODES: u64 = 100_000;
 
-/// The trees, lent and made, the turns that are left, and the update primitives so far.
+/// The trees, lent and made, the turns and the work that are left, and the update primitives so far.
 #[derive(Drop)]
 pub struct Evaluation<'a> {
     alloc: Global,
@@ -36,6 +45,7 @@ pub struct Evaluation<'a> {
     /// The next identity may rise to it.
     most_next: u64,
     turns: u64,
+    work: u64,
     primitives: PendingList,
 }
 
@@ -54,8 +64,8 @@ impl<'a> Model for Evaluation<'a> {
 }
 
 impl<'a> Evaluation<'a> {
-    /// Before anything is evaluated: a lent forest, with no tree beside it, and 1,000,000 turns. It takes no memory.
-    #[tactic(auto, unfolding(query_meaning::specs::Running::most_turns, query_meaning::specs::Running::most_nodes))]
+    /// Before anything is evaluated: a lent forest, with no tree beside it, 1,000,000 turns and 100,000,000 units of work. It takes no memory.
+    #[tactic(auto, unfolding(query_meaning::specs::Running::most_turns, query_meaning::specs::Running::most_work, query_meaning::specs::Running::most_nodes))]
     pub fn new(alloc: Global, lent: &'a Forest) -> Evaluation<'a>
         requires { lent.now.next ≤ 2 ^ 61 }
         ensures { result ≡ start lent.now }
@@ -65,6 +75,7 @@ impl<'a> Evaluation<'a> {
             shelf: Shelf::new(alloc, lent),
             most_next: lent.next().number() + MOST_NODES,
             turns: MOST_TURNS,
+            work: MOST_WORK,
             primitives: PendingList::new(alloc),
         }
     }
@@ -92,29 +103,121 @@ impl<'a> Evaluation<'a> {
         Ok(())
     }
 
-    /// The typed values of items, whose nodes stand. Faults: `Memory`; `Code` with PXQ0002 where the string value of a node is
-    /// longer than 65,536 bytes.
-    pub fn atoms(&self, items: &Sequence) -> Result<Vec<Atom>, ValueFault>
-        requires stand { Stand items.now self.now }
-        ensures ok { IfOk result (λ v. atomized (trees_of self.now) items.now ≡ Ok v.items) }
-        ensures err { IfErr result (λ fault. Fails (atomized (trees_of self.now) items.now) fault) }
+    /// Takes so much work. Code: PXQ0002 where less is left, and then nothing changes.
+    pub fn spend(&mut self, units: u64) -> Result<(), ValueFault>
+        ensures spent { GivesIn Any (work units) self.old result self.new }
+        ensures same { self.new ≡ record self.old { work = self.new.work } }
+        ensures refused { OnErr result (self.new ≡ self.old) }
     {
-        atomize(self.alloc, &self.shelf, items.as_slice())
+        match self.work.checked_sub(units) {
+            Some(left) => {
+                self.work = left;
+                Ok(())
+            }
+            None => Err(ValueFault::Code(Code::PXQ0002)),
+        }
     }
 
-    /// Whether a general comparison holds of some pair; each pair that is tried takes a turn. Faults: `Memory`; `Code` with that of the
-    /// first pair that has one, or with PXQ0002 where more pairs would be tried than there are turns.
+    /// Takes the work of what was evaluated to these items: a unit, and one for each of them. Code: PXQ0002 where less is left.
+    pub fn count(&mut self, items: &Sequence) -> Result<(), ValueFault>
+        ensures counted { GivesIn Any (work (1 + length items.now)) self.old result self.new }
+        ensures same { self.new ≡ record self.old { work = self.new.work } }
+    {
+        self.spend(1 + items.as_slice().len() as u64)
+    }
+
+    /// Takes the work of looking for a variable: a unit for each that is looked at. Code: PXQ0002 where less is left.
+    pub fn look_for(&mut self, name: &str, variables: &Variables) -> Result<(), ValueFault>
+        ensures looked { GivesIn Any (work (looked_at name.now variables.now)) self.old result self.new }
+        ensures same { self.new ≡ record self.old { work = self.new.work } }
+    {
+        match variables.without(name, self.work) {
+            Some(left) => {
+                self.work = left;
+                Ok(())
+            }
+            None => Err(ValueFault::Code(Code::PXQ0002)),
+        }
+    }
+
+    /// Takes the work of a copy of the tree of a node, which is that of all of its texts. Code: PXQ0002 where less is left.
+    #[tactic(auto, unfolding(query_meaning::specs::Running::most_work))]
+    pub fn pay_copy(&mut self, node: NodeId) -> Result<(), ValueFault>
+        requires there { IsSome (find node (trees_of self.old)) }
+        ensures paid { GivesIn Any (copying node) self.old result self.new }
+        ensures same { self.new ≡ record self.old { work = self.new.work } }
+    {
+        // Bytes that do not fill a unit are free.
+        let bytes = self.work * BYTES_A_UNIT + (BYTES_A_UNIT - 1);
+        match self.shelf.without_texts(node, bytes) {
+            Some(left) => {
+                self.work = left / BYTES_A_UNIT;
+                Ok(())
+            }
+            None => Err(ValueFault::Code(Code::PXQ0002)),
+        }
+    }
+
+    /// The typed values of items, whose nodes stand. Each takes the work of the nodes that are walked for it, and of its text.
+    ///
+    /// Faults: `Memory`; `Code` with PXQ0002 where the string value of a node is longer than 65,536 bytes, or where less work is left.
+    pub fn atoms(&mut self, items: &Sequence) -> Result<Vec<Atom>, ValueFault>
+        requires stand { Stand items.now self.old }
+        ensures ok { IfOk result (λ v. atoms items.now self.old ≡ Ok (v.items, self.new)) }
+        ensures err { IfErr result (λ fault. Fails (atoms items.now self.old) fault) }
+        ensures same { self.new ≡ record self.old { work = self.new.work } }
+    {
+        let mut values = Vec::with_capacity(self.alloc, items.as_slice().len())?;
+        for item in items.as_slice() {
+            values.push(self.atom(item)?)?;
+        }
+        Ok(values)
+    }
+
+    /// The typed value of one item, with the same work and the same faults.
+    fn atom(&mut self, item: &Item) -> Result<Atom, ValueFault>
+        requires there { IsThere (trees_of self.old) item.now }
+        ensures given { GivesIn Any (atom item.now) self.old result self.new }
+        ensures same { self.new ≡ record self.old { work = self.new.work } }
+    {
+        self.spend(self.nodes_of(item))?;
+        let atom = atomize_item(self.alloc, &self.shelf, item)?;
+        self.spend(atom_work(&atom))?;
+        Ok(atom)
+    }
+
+    /// How many nodes the tree of a node has; none where the item is an atomic value.
+    fn nodes_of(&self, item: &Item) -> u64
+        requires there { IsThere (trees_of self.now) item.now }
+        ensures { result ≡ nodes_of (trees_of self.now) item.now }
+    {
+        match item {
+            Item::Node(id) => self.shelf.size_of(*id),
+            Item::Atomic(_) => 0,
+        }
+    }
+
+    /// Whether a general comparison holds of some pair; each pair that is tried takes a turn, and its work. Faults: `Memory`; `Code` with
+    /// that of the first pair that has one, or with PXQ0002 where more turns or more work would be taken than there are.
     pub fn compare(
         &mut self,
         op: Comparison,
         left: &[Atom],
         right: &[Atom],
     ) -> Result<bool, ValueFault>
-        ensures ok { OnOk result (self.new ≡ record self.old { turns = self.old.turns - tried (pairs_compared op left.now right.now) }) }
-        ensures holds { IfOk result (λ b. general_compared op left.now right.now self.old.turns ≡ Ok b) }
-        ensures err { IfErr result (λ fault. Fails (general_compared op left.now right.now self.old.turns) fault) }
+        ensures ok { OnOk result
+            (self.new
+            ≡ record self.old {
+              turns = self.old.turns - tried (pairs_compared op left.now right.now);
+              work = self.old.work - tried_work op left.now right.now;
+            }) }
+        ensures holds { IfOk result (λ b. general_compared op left.now right.now self.old.turns self.old.work ≡ Ok b) }
+        ensures err { IfErr result (λ fault. Fails (general_compared op left.now right.now self.old.turns self.old.work) fault) }
     {
-        compare_general(self.alloc, op, left, right, &mut self.turns)
+        let (mut turns, mut work) = (self.turns, self.work);
+        let holds = compare_general(self.alloc, op, left, right, &mut turns, &mut work)?;
+        (self.turns, self.work) = (turns, work);
+        Ok(holds)
     }
 
     /// Adds a primitive. Faults: `Memory`; `Code` with PXQ0002 where there are 10,000.
@@ -199,11 +302,21 @@ impl<'a> Evaluation<'a> {
     }
 
     /// Makes a copy of the tree of a node, with no parent, which stands after all trees: its nodes take the next identities, in document
-    /// order, of which it gives the first, the root's. Faults: `Memory`; `Code` with PXQ0003 where the evaluation would have made more
-    /// than 100,000 nodes. Nothing changes then.
+    /// order, of which it gives the first, the root's. It takes the work of the texts. Faults: `Memory`; `Code` with PXQ0002 where less work is
+    /// left, or with PXQ0003 where the evaluation would have made more than 100,000 nodes. Nothing but the work changes then.
     pub fn copy(&mut self, node: NodeId) -> Result<NodeId, ValueFault>
         requires there { IsSome (find node (trees_of self.old)) }
         ensures made { GivesIn Any (copy_of node) self.old result self.new }
+        ensures refused { OnErr result (self.new ≡ record self.old { work = self.new.work }) }
+    {
+        self.pay_copy(node)?;
+        self.standing_copy(node)
+    }
+
+    /// The same, but for its work.
+    fn standing_copy(&mut self, node: NodeId) -> Result<NodeId, ValueFault>
+        requires there { IsSome (find node (trees_of self.old)) }
+        ensures made { GivesIn Any (standing_copy node) self.old result self.new }
         ensures refused { OnErr result (self.new ≡ self.old) }
     {
         if !self.has_room(node) {
