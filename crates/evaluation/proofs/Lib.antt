@@ -1,4 +1,5 @@
 pub mod Copies
+pub mod Counted
 pub mod Each
 pub mod Limits
 pub mod Unfolded

@@ -1,12 +1,12 @@
 -- Values of variables, and nodes among items.
-use Rattle.std.proofs.Common.{◌≡◌, ℕ, zero, suc, List, [], ◌∷◌, Some, Bool, true, false, cond, sym, ap, Ok, Err, ◌∙◌, arith, subst}
+use Rattle.std.proofs.Common.{◌≡◌, ℕ, zero, suc, List, [], ◌∷◌, Some, Bool, true, false, cond, sym, ap, Result, Ok, ◌∙◌, arith, subst}
 use Rattle.std.specs.List.{All}
 use Rattle.std.specs.Str.{bytes_eq}
-use Rattle.fault_codes.specs.declared.code.Code.{Code}
 use Rattle.values.specs.declared.atom.Atom.{Atom}
 use Rattle.values.specs.declared.atom.Item.{Item}
-use Rattle.query_meaning.specs.Environment.{Bound, value_in}
-use Rattle.query_meaning.specs.Running.{Run, come_to}
+use Rattle.values.specs.declared.fault.ValueFault.{ValueFault}
+use Rattle.query_meaning.specs.Environment.{Bound, looked_at, value_in}
+use Rattle.query_meaning.specs.Running.{Run, and_then, come_to, counted, work}
 use Rattle.evaluation.specs.Gives.{Any, Stand, GivesIn, IsReady}
 use Rattle.query_meaning.specs.Sequences.{tested, variable}
 use Rattle.query_meaning.specs.Meaning.{mean}
@@ -14,7 +14,7 @@ use Rattle.query_grammar.specs.declared.ast.Expr.{Expr}
 use Rattle.query_grammar.specs.declared.ast.Expr.TheVariants as e
 use Rattle.query_control.proofs.Unfolded.{of_variable}
 use Rattle.query_meaning.specs.Environment.{Environment, with_variable}
-use Rattle.evaluation.proofs.Each.{grows_refl}
+use Rattle.evaluation.proofs.Counted.{stand_spent}
 use Rattle.values.specs.Atoms.{or_fault}
 use Rattle.fault_codes.specs.declared.code.Code.TheVariants.{XPST0008}
 use Rattle.std.proofs.lemmas.Option.{none-some, same_Some}
@@ -29,23 +29,17 @@ of_value name (b ∷ bs) run items all e = first (bytes_eq name b.variable) e (o
     first true e rest = let P : List Item → Type 0 = λ xs. Stand xs run in subst P (same_Some _ _ e) (all zero b (omega arith))
     first false e rest = rest e
 
-pub variable_found : (name : List ℕ) (env : Environment) (run : Run) (items copied : List Item) → value_in name env.variables ≡ Some items → copied ≡ items → IsReady env run
-    → GivesIn Stand (variable name env) run (Ok copied) run
-variable_found name env run items copied found same ready =
-    let there : value_in name env.variables ≡ Some copied = found ∙ ap (λ i. Some i) (sym same) in
-    (ap (λ o. come_to (or_fault XPST0008 o) run) there, (grows_refl run, of_value name env.variables run copied ready.variables there))
+pub variable_found : (name : List ℕ) (env : Environment) (old new : Run) (u : Unit {0}) (items : List Item) → value_in name env.variables ≡ Some items
+    → GivesIn Any (work (looked_at name env.variables)) old (Ok u) new → new ≡ record old { work = new.work } → IsReady env old → GivesIn Stand (variable name env) old (Ok items) new
+variable_found name env old new u items found looked same ready = (
+  ap (λ r. and_then r (λ _. come_to (or_fault XPST0008 (value_in name env.variables)))) looked.0 ∙ ap (λ o. come_to (or_fault XPST0008 o) new) found,
+  (looked.1.0, stand_spent items old new same (of_value name env.variables old items ready.variables found)),
+)
 
 -- the test of an expression that is a variable
-tests_alike : (x : Expr) (name : List ℕ) (env : Environment) (run : Run) → x ≡ e.Variable name → tested (Some (variable name)) env run ≡ tested (Some (mean x)) env run
-tests_alike x name env run is = sym (ap (λ m. tested (Some m) env run) (ap mean is ∙ of_variable name))
-
-pub test_holds : (x : Expr) (name : List ℕ) (env : Environment) (run : Run) (b : Bool) → x ≡ e.Variable name
-    → ((run : Run) → come_to (Ok b) run ≡ tested (Some (variable name)) env run) → GivesIn Any (tested (Some (mean x)) env) run (Ok b) run
-test_holds x name env run b is gives = (sym (gives run ∙ tests_alike x name env run is), (grows_refl run, tt))
-
-pub test_fails : (x : Expr) (name : List ℕ) (env : Environment) (run : Run) (code : Code) → x ≡ e.Variable name
-    → ((run : Run) → come_to {A = Bool} (Err code) run ≡ tested (Some (variable name)) env run) → tested (Some (mean x)) env run ≡ Err code
-test_fails x name env run code is gives = sym (gives run ∙ tests_alike x name env run is)
+pub truth_of_name : (x : Expr) (name : List ℕ) (env : Environment) (old new : Run) (r : Result Bool ValueFault) → x ≡ e.Variable name
+    → GivesIn Any (tested (Some (λ env. counted (variable name env))) env) old r new → GivesIn Any (tested (Some (mean x)) env) old r new
+truth_of_name x name env old new r is given = subst (λ m. GivesIn Any (tested (Some m) env) old r new) (sym (ap mean is ∙ of_variable name)) given
 
 -- with one variable more
 pub ready_with : (x : List ℕ) (items : List Item) (env : Environment) (run : Run) → IsReady env run → Stand items run → IsReady (with_variable x items env) run

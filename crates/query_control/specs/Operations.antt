@@ -4,7 +4,7 @@ use Rattle.values.specs.declared.atom.Item.{Item}
 use Rattle.query_grammar.specs.declared.ast.Binary.{Binary}
 use Rattle.query_grammar.specs.declared.ast.Binary.TheVariants as binary
 use Rattle.query_grammar.specs.declared.ast.Operation.{Operation}
-use Rattle.query_meaning.specs.Running.{M, pure, each}
+use Rattle.query_meaning.specs.Running.{M, pure, counted, each}
 use Rattle.query_meaning.specs.Environment.{Environment}
 use Rattle.query_meaning.specs.Sequences.{Meaning}
 use Rattle.query_meaning.specs.Operators.{operated, set_of}
@@ -17,9 +17,9 @@ operation_of f o = record { operator = o.operator; operand = f o.operand }
 abbrev pub operand_of : {A : Type 0} → Operation A → A
 operand_of o = o.operand
 
--- one operator more
+-- one operator more, whose work is counted
 abbrev pub and_operation : Environment → List Item → Operation Meaning → M (List Item)
-and_operation env given o = operated o.operator given (o.operand env)
+and_operation env given o = counted (operated o.operator given (o.operand env))
 
 abbrev pub operated_in_turn : List (Operation Meaning) → Environment → List Item → M (List Item)
 operated_in_turn os env left = each (λ _ given o. and_operation env given o) 0 os left

@@ -30,8 +30,8 @@ pub enum SetOperator {
 
 impl<F: Fn(&mut Evaluation, &Expr, &Environment) -> Result<Sequence, ValueFault>> Forms<F> {
     /// An expression, and operators with their right operands, from the left: `a + b - ..` (XQuery 1.0, sections 3.3 to 3.6). `set_of` is
-    /// called with the operators between sets of nodes, and the items on both sides. Codes: that of the first operand or operator that
-    /// has one.
+    /// called with the operators between sets of nodes, and the items on both sides. The work of each operator is counted. Codes: that of
+    /// the first operand or operator that has one; PXQ0002 where too little work is left.
     pub fn chain<S>(
         &self,
         run: &mut Evaluation,
@@ -91,11 +91,32 @@ impl<F: Fn(&mut Evaluation, &Expr, &Environment) -> Result<Sequence, ValueFault>
         requires given { Stand given run.old }
         ensures { Gives (part.and_operation env.now given (part.operation_of mean operation.now)) run.old result run.new }
     {
+        let items = self.operated(run, set_of, &given, operation, env)?;
+        run.count(&items)?;
+        Ok(items)
+    }
+
+    fn operated<S>(
+        &self,
+        run: &mut Evaluation,
+        set_of: &S,
+        given: &Sequence,
+        operation: &Operation<Expr>,
+        env: &Environment,
+    ) -> Result<Sequence, ValueFault>
+    where
+        S: Fn(&mut Evaluation, SetOperator, &Sequence, &Sequence) -> Result<Sequence, ValueFault>,
+        requires evaluates { Evaluates (F.pre self.now.value_of) (F.post self.now.value_of) (part.operand_of operation.now ∷ []) }
+        requires sets { ComputesSets (S.pre set_of.now) (S.post set_of.now) }
+        requires ready { IsReady env.now run.old }
+        requires given { Stand given.now run.old }
+        ensures { Gives (meaning.operated operation.now.operator given.now (mean operation.now.operand env.now)) run.old result run.new }
+    {
         if let Some(deciding) = deciding(operation.operator) {
-            return self.either_side(run, deciding, &given, &operation.operand, env);
+            return self.either_side(run, deciding, given, &operation.operand, env);
         }
         let right = self.value_of(run, &operation.operand, env)?;
-        between(run, set_of, operation.operator, &given, &right)
+        between(run, set_of, operation.operator, given, &right)
     }
 }
 

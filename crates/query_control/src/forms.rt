@@ -1,14 +1,14 @@
 //! Forms over a function that evaluates their parts, so that each is proved by itself: literals, variables, the context item, the comma
 //! and `if`.
 
-ghost use Rattle.std.specs.Prelude.{◌≡◌, ◌∷◌, [], map, Some, None, IfOk, IfErr};
+ghost use Rattle.std.specs.Prelude.{◌≡◌, ◌∷◌, [], map, Some, None, Ok, IfOk, IfErr};
 ghost use Rattle.fault_codes.specs.declared.code.Code.TheVariants.{XPST0008};
 ghost use Rattle.query_meaning.specs.Environment.{value_in};
-ghost use Rattle.query_meaning.specs.Running.{Run, come_to};
+ghost use Rattle.query_meaning.specs.Running.{counted};
 ghost use Rattle.query_meaning.specs.Meaning.{mean};
 ghost use Rattle.query_meaning.specs.Sequences as meaning;
 ghost use Rattle.evaluation.specs.Evaluates.{Evaluates};
-ghost use Rattle.evaluation.specs.Gives.{Any, Gives, GivesIn, IsReady, Stand};
+ghost use Rattle.evaluation.specs.Gives.{Any, Fails, Gives, GivesIn, IsReady, Stand};
 
 use evaluation::{Environment, Evaluation, Sequence};
 use query_grammar::{Expr, IntegerLiteral};
@@ -50,7 +50,7 @@ impl<F: Fn(&mut Evaluation, &Expr, &Environment) -> Result<Sequence, ValueFault>
         ensures { GivesIn Any (meaning.tested (Some (mean x.now)) env.now) run.old result run.new }
     {
         if let Expr::Variable(name) = x {
-            return Ok(truth_of_variable(name, env)?);
+            return truth_of_variable(run, name, env);
         }
         let items = self.value_of(run, x, env)?;
         Ok(truth(items.as_slice())?)
@@ -146,7 +146,7 @@ pub fn string(run: &mut Evaluation, text: &Text, env: &Environment) -> Result<Se
     Ok(Sequence::one(run.alloc(), Item::Atomic(Atom::String(text.clone()?)))?)
 }
 
-/// `$name` (XQuery 1.0, section 3.1.2). Code: XPST0008 where no variable has that name.
+/// `$name` (XQuery 1.0, section 3.1.2). Codes: PXQ0002 where too little work is left to look for it; XPST0008 where no variable has that name.
 pub fn variable(
     run: &mut Evaluation,
     name: &Text,
@@ -155,27 +155,40 @@ pub fn variable(
     requires ready { IsReady env.now run.old }
     ensures { Gives (meaning.variable name.now env.now) run.old result run.new }
 {
-    Ok(lent(name, env)?.copy(run.alloc())?)
+    Ok(lent(run, name, env)?.copy(run.alloc())?)
 }
 
-/// The items of `$name`, lent to what only looks at them (XQuery 1.0, section 3.1.2). It takes no memory. Code: XPST0008 where no variable
-/// has that name.
-pub fn lent<'e>(name: &Text, env: &'e Environment) -> Result<&'e Sequence, Code>
-    ensures items { IfOk result (λ s. value_in name.now env.now.variables ≡ Some s.now) }
-    ensures code { IfErr result (λ code. (value_in name.now env.now.variables ≡ None) × (code ≡ XPST0008)) }
+/// The items of `$name`, lent to what only looks at them (XQuery 1.0, section 3.1.2). It takes no memory. Codes: PXQ0002 where too little work
+/// is left to look for it; XPST0008 where no variable has that name.
+fn lent<'e>(
+    run: &mut Evaluation,
+    name: &Text,
+    env: &'e Environment,
+) -> Result<&'e Sequence, ValueFault>
+    requires ready { IsReady env.now run.old }
+    ensures given { IfOk result (λ s. Gives (meaning.variable name.now env.now) run.old (Ok s.now) run.new) }
+    ensures fails { IfErr result (λ fault. Fails (meaning.variable name.now env.now run.old) fault) }
 {
+    run.look_for(name.as_str(), env.variables())?;
     match env.variables().get(name.as_str()) {
         Some(items) => Ok(items),
-        None => Err(Code::XPST0008),
+        None => Err(ValueFault::Code(Code::XPST0008)),
     }
 }
 
-/// The effective boolean value of `$name`. Codes: XPST0008 where no variable has that name; FORG0006 where the first of several items is
-/// an atomic value.
-fn truth_of_variable(name: &Text, env: &Environment) -> Result<bool, Code>
-    ensures { (run : Run) → come_to result run ≡ meaning.tested (Some (meaning.variable name.now)) env.now run }
+/// The effective boolean value of `$name`, whose work is counted. Codes: PXQ0002 where too little work is left; XPST0008 where no variable
+/// has that name; FORG0006 where the first of several items is an atomic value.
+fn truth_of_variable(
+    run: &mut Evaluation,
+    name: &Text,
+    env: &Environment,
+) -> Result<bool, ValueFault>
+    requires ready { IsReady env.now run.old }
+    ensures { GivesIn Any (meaning.tested (Some (λ env. counted (meaning.variable name.now env))) env.now) run.old result run.new }
 {
-    truth(lent(name, env)?.as_slice())
+    let items = lent(run, name, env)?;
+    run.count(items)?;
+    Ok(truth(items.as_slice())?)
 }
 
 /// `.` (XQuery 1.0, section 3.1.4). Code: XPDY0002 where there is no context item.

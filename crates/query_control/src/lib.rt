@@ -12,4 +12,4 @@ mod quantified;
 mod signs;
 
 pub use chain::SetOperator;
-pub use forms::{Forms, context_item, lent, number, string, variable};
+pub use forms::{Forms, context_item, number, string, variable};

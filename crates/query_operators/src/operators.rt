@@ -15,8 +15,8 @@ pub fn boolean(run: &Evaluation, value: bool) -> Result<Sequence, AllocError>
     Sequence::one(run.alloc(), Item::Atomic(Atom::Boolean(value)))
 }
 
-/// `+`, `-`, `*`, `idiv` and `mod` (XQuery 1.0, section 3.4). Codes: PXQ0002 where a string value is too long, and those of the operands
-/// and the result.
+/// `+`, `-`, `*`, `idiv` and `mod` (XQuery 1.0, section 3.4). Codes: PXQ0002 where a string value is too long or too little work is left,
+/// and those of the operands and the result.
 pub fn calculated(
     run: &mut Evaluation,
     op: Operator,
@@ -46,8 +46,8 @@ fn calculated_of(
     }
 }
 
-/// `eq`, `ne`, `lt`, `le`, `gt` and `ge` (XQuery 1.0, section 3.5.1). Codes: PXQ0002 where a string value is too long; XPTY0004 where
-/// there is more than one value on a side, or the two are of different types.
+/// `eq`, `ne`, `lt`, `le`, `gt` and `ge` (XQuery 1.0, section 3.5.1). Codes: PXQ0002 where a string value is too long or too little work is
+/// left; XPTY0004 where there is more than one value on a side, or the two are of different types.
 pub fn compared_by_value(
     run: &mut Evaluation,
     op: Comparison,
@@ -77,8 +77,8 @@ fn compared_of(
     }
 }
 
-/// `=`, `!=`, `<`, `<=`, `>` and `>=` (XQuery 1.0, section 3.5.2). Each pair that is tried takes a turn. Codes: PXQ0002 where a string
-/// value is too long or no turn is left; that of the first pair that has one.
+/// `=`, `!=`, `<`, `<=`, `>` and `>=` (XQuery 1.0, section 3.5.2). Each pair that is tried takes a turn, and its work. Codes: PXQ0002 where a
+/// string value is too long, no turn is left, or too little work; that of the first pair that has one.
 pub fn compared_by_pairs(
     run: &mut Evaluation,
     op: Comparison,
