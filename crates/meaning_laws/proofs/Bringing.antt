@@ -178,6 +178,7 @@ rename target name gt gn r env h =
 
 forms : Forms Good
 forms = record {
+  counts = giving.counts;
   number = giving.number;
   string = giving.string;
   variable = giving.variable;

@@ -20,7 +20,7 @@ use Rattle.update_meaning.specs.Brought.{new_trees}
 use Rattle.update_meaning.specs.Changed.{chosen, rooted_at, with_changed}
 use Rattle.meaning_laws.specs.Given.{AllStand}
 use Rattle.meaning_laws.proofs.Changing.{IsRoot, AreOthers, root_there, root_before, root_after, root_stays, others_of, none_chosen, chosen_counted, chosen_few, same_chosen, with_changed_few, others_stand, first_stay}
-use Rattle.meaning_laws.proofs.Copying.{with_copy, with_changes, then_from, makes_copy, has_own_list, copies_of}
+use Rattle.meaning_laws.proofs.Copying.{with_work, with_copy, with_changes, then_from, makes_copy, has_own_list, copies_of}
 use Rattle.meaning_laws.proofs.Fresh.{copy_new, stands_sound}
 use Rattle.meaning_laws.proofs.Giving.{Good, GoodBinding, Knows, knows_up}
 use Rattle.meaning_laws.proofs.Keeps.{Each}
@@ -133,7 +133,7 @@ copy_stands : (aside : ℕ → ℕ) (run : Run) (i : ℕ) → IsSound aside run 
 copy_stands aside run i s there =
     let n = run.shelf.own.next in
     let us = pick i (trees_of run) in
-    stands_sound aside run (record run { shelf = record run.shelf { own = record run.shelf.own { next = n + size us } } }) (renumbered n us) n _ s
+    stands_sound aside run (record (with_work i run) { shelf = record run.shelf { own = record run.shelf.own { next = n + size us } } }) (renumbered n us) n _ s
     (record { lent = refl; own = refl; primitives = refl; next = omega arith; made = copy_new n us }) (root_there n (renumbered n us) (copy_root n i (trees_of run) there)) refl
 
 -- sound, above r and with copies made since then

@@ -1,17 +1,17 @@
 -- Copies are made, changed and asked: step by step, and what that keeps.
-use Rattle.std.proofs.Common.{◌≡◌, ℕ, suc, ◌+◌, ◌≤◌, Bool, true, false, nat_le, if◌then◌else◌, List, [], ◌∷◌, Option, Some, None, Result, Ok, Err, refl, ap, subst, sym}
+use Rattle.std.proofs.Common.{◌≡◌, ℕ, suc, ◌+◌, ◌-◌, ◌/◌, ◌≤◌, Bool, true, false, nat_le, if◌then◌else◌, List, [], ◌∷◌, Option, Some, None, Result, Ok, Err, refl, ap, subst, sym}
 use Rattle.data_model.specs.Changes.{pick, renumbered}
-use Rattle.data_model.specs.Trees.{Trees, append, size}
+use Rattle.data_model.specs.Trees.{Trees, append, bytes_in, size}
 use Rattle.pending.specs.Compatible.{conflict}
 use Rattle.pending.specs.Primitives.{PrimitiveTerm}
 use Rattle.fault_codes.specs.declared.code.Code.{Code}
-use Rattle.fault_codes.specs.declared.code.Code.TheVariants.{PXQ0003, XUTY0013, XUDY0014}
+use Rattle.fault_codes.specs.declared.code.Code.TheVariants.{PXQ0002, PXQ0003, XUTY0013, XUDY0014}
 use Rattle.values.specs.declared.atom.Item.{Item}
 use Rattle.values.specs.declared.atom.Item.TheVariants as item
 use Rattle.query_grammar.specs.declared.ast.Binding.{Binding}
 use Rattle.query_meaning.specs.Copies.{Copy, roots_of, with_copies, one_node, copy_of, and_copy, copies, own_list, target_these, becoming, compatible, modified, copy}
 use Rattle.query_meaning.specs.Environment.{Environment}
-use Rattle.query_meaning.specs.Running.{Run, M, trees_of, pure, and_then, ◌>>=◌, each, standing, most_nodes}
+use Rattle.query_meaning.specs.Running.{Run, M, trees_of, pure, and_then, ◌>>=◌, seen, each, new_nodes, standing, most_nodes}
 use Rattle.query_meaning.specs.Sequences.{Meaning}
 use Rattle.query_meaning.specs.Updates.{must}
 use Rattle.update_meaning.specs.Changed.{chosen, rooted_at, updated_chosen, with_changed, or_code, applied_to_copies}
@@ -29,9 +29,13 @@ then_from f p Goal (Err code) rest h = absurd (no_value code p h)
 
 -- A copy that is made.
 
+-- the run in which the work of the copy of a node is taken
+abbrev pub with_work : ℕ → Run → Run
+with_work i run = record run { work = run.work - bytes_in (pick i (trees_of run)) / 16 }
+
 -- the run in which the copy of a node stands, with the next identities
 abbrev pub with_copy : ℕ → Run → Run
-with_copy i run = record run {
+with_copy i run = record (with_work i run) {
   shelf = record run.shelf {
     own = record run.shelf.own {
       trees = append run.shelf.own.trees (renumbered run.shelf.own.next (pick i (trees_of run)));
@@ -53,7 +57,7 @@ pub makes_copy : (variable : List ℕ) (cs : List Copy) (items : List Item) (run
 makes_copy variable cs [] run q h = absurd (no_value XUTY0013 q h)
 makes_copy variable cs (item.Atomic a ∷ items) run q h = absurd (no_value XUTY0013 q h)
 makes_copy variable cs (item.Node i ∷ x ∷ items) run q h = absurd (no_value XUTY0013 q h)
-makes_copy variable cs (item.Node i ∷ []) run q h = of (nat_le (run.shelf.own.next + size us) (run.shelf.lent.next + most_nodes)) refl h
+makes_copy variable cs (item.Node i ∷ []) run q h = worked (nat_le (bytes_in us / 16) run.work) h
   where
     us : Trees
     us = pick i (trees_of run)
@@ -62,12 +66,21 @@ makes_copy variable cs (item.Node i ∷ []) run q h = of (nat_le (run.shelf.own.
         → and_then
         (and_then
         (if b
-        then Ok (run.shelf.own.next, record run { shelf = record run.shelf { own = record run.shelf.own { next = run.shelf.own.next + size us } } })
+        then Ok (run.shelf.own.next, record (with_work i run) { shelf = record run.shelf { own = record run.shelf.own { next = run.shelf.own.next + size us } } })
         else Err PXQ0003)
         (λ n. standing (renumbered n us) >>= (λ _. pure n)))
         (λ k. pure (record { variable = variable; root = k } ∷ cs)) ≡ Ok q → MakesCopy variable cs (item.Node i ∷ []) run q
     of true e h = record { node = i; one = refl; room = e; is = same_value (record { variable = variable; root = run.shelf.own.next } ∷ cs, with_copy i run) q h }
     of false e h = absurd (no_value PXQ0003 q h)
+
+    worked : (b : Bool)
+        → and_then
+        (and_then
+        (if b then Ok (tt, with_work i run) else Err PXQ0002)
+        (λ (_ : Unit {0}). seen (pick i) >>= (λ vs. new_nodes (size vs) >>= (λ n. standing (renumbered n vs) >>= (λ _. pure n)))))
+        (λ k. pure (record { variable = variable; root = k } ∷ cs)) ≡ Ok q → MakesCopy variable cs (item.Node i ∷ []) run q
+    worked true h = of (nat_le (run.shelf.own.next + size us) (run.shelf.lent.next + most_nodes)) refl h
+    worked false h = absurd (no_value PXQ0002 q h)
 
 -- A list of primitives of its own.
 
@@ -163,12 +176,15 @@ module _ (R : Run → Run → Type 0) (s : IsQuiet R) (later : (a b : Run) → R
       (let m = makes_copy b.variable cs p.0 p.1 q k in
       let here = s.chained first run p.1 from.0 ((g env).kept run p e) in
       let us = pick m.node (trees_of p.1) in
-      let numbered = s.numbered p.1 (size us) m.room in
       let n = p.1.shelf.own.next in
-      let between = record p.1 { shelf = record p.1.shelf { own = record p.1.shelf.own { next = n + size us } } } in
+      let begun = with_work m.node p.1 in
+      let worked = s.worked p.1 begun.work in
+      let numbered = s.numbered begun (size us) m.room in
+      let between = record begun { shelf = record p.1.shelf { own = record p.1.shelf.own { next = n + size us } } } in
       let stood = s.stood between (renumbered n us) in
+      let copied = s.chained begun between (with_copy m.node p.1) numbered stood in
       subst (Later first) m.is
-      (s.chained first p.1 (with_copy m.node p.1) here (s.chained p.1 between (with_copy m.node p.1) numbered stood), (later first p.1 here, from.1)))) h
+      (s.chained first p.1 (with_copy m.node p.1) here (s.chained p.1 begun (with_copy m.node p.1) worked copied), (later first p.1 here, from.1)))) h
 
   copies_made : (n : ℕ) (bs : List (Binding Meaning)) → Each (form.GoodBinding R s) bs → (env : Environment) (first : Run) (cs : List Copy) (run : Run)
       → Later first (cs, run) → (q : List Copy × Run) → each (λ _. and_copy env) n bs cs run ≡ Ok q → Later first q

@@ -26,7 +26,8 @@ use Rattle.query_meaning.specs.Constructors as constructors
 use Rattle.query_meaning.specs.Updates as updates
 use Rattle.query_meaning.specs.Copies as copies
 use Rattle.query_meaning.specs.Sequences.{Meaning}
-use Rattle.query_meaning.specs.Meaning.{meaning_of, mean}
+use Rattle.query_meaning.specs.Meaning.{form_of, meaning_of, mean}
+use Rattle.query_meaning.specs.Running.{counted}
 use Rattle.meaning_laws.proofs.Keeps.{Each}
 
 -- of what holds a meaning
@@ -50,8 +51,9 @@ OfKey G key = G key.key
 abbrev pub OfOperation : (Meaning → Type 0) → Operation Meaning → Type 0
 OfOperation G x = G x.operand
 
--- a property of meanings, with a proof for each form
+-- a property of meanings, with a proof for each form, and that counting its work leaves it
 pub record Forms (G : Meaning → Type 0) : Type 0 where
+  pub counts : (m : Meaning) → G m → G (λ env. counted (m env))
   pub number : (n : ℕ) → G (sequences.number n)
   pub string : (text : List ℕ) → G (sequences.string text)
   pub variable : (x : List ℕ) → G (sequences.variable x)
@@ -111,7 +113,7 @@ module _ (G : Meaning → Type 0) (form : Forms G) where
   abbrev mapped : Expr-F Proved → Expr-F Meaning
   mapped y = map-Expr Expr Meaning mean (map-Expr Proved Expr (λ e. e.0) y)
 
-  layer : (y : Expr-F Proved) → G (meaning_of (mapped y))
+  layer : (y : Expr-F Proved) → G (form_of (mapped y))
   layer (Expr-F.Integer n) = form.number n
   layer (Expr-F.String text) = form.string text
   layer (Expr-F.Variable x) = form.variable x
@@ -146,4 +148,4 @@ module _ (G : Meaning → Type 0) (form : Forms G) where
   pub every : (x : Expr) → Good x
   unfolding mean
   every = ind-Expr Good (λ x y is. subst (λ z. Good (roll-Expr z)) is
-      (subst G (sym (fold-roll-Expr Meaning meaning_of (map-Expr Proved Expr (λ e. e.0) y))) (layer y)))
+      (subst G (sym (fold-roll-Expr Meaning meaning_of (map-Expr Proved Expr (λ e. e.0) y))) (form.counts (form_of (mapped y)) (layer y))))

@@ -20,7 +20,8 @@ use Rattle.values.specs.declared.atom.Item.{Item}
 use Rattle.values.specs.declared.atom.Item.TheVariants as item
 use Rattle.values.specs.Arithmetic.{arithmetic, operand, operands, in_range}
 use Rattle.values.specs.Atoms.{or_fault, truth}
-use Rattle.values.specs.Comparisons.{value_compared, general_compared, pairs_compared, tried}
+use Rattle.values.specs.Comparisons.{value_compared, general_compared, pairs_compared, tried, tried_work}
+use Rattle.values.specs.Work.{text_work}
 use Rattle.query_grammar.specs.declared.ast.Binary.{Binary}
 use Rattle.query_grammar.specs.declared.ast.Binary.TheVariants as binary
 use Rattle.query_grammar.specs.declared.ast.Binding.{Binding}
@@ -37,8 +38,8 @@ use Rattle.query_grammar.specs.declared.ast.SortKey.{SortKey}
 use Rattle.static_checks.specs.Parts.{source_of}
 use Rattle.query_grammar.specs.declared.functions.Function.{Function}
 use Rattle.query_grammar.specs.declared.functions.Function.TheVariants as function
-use Rattle.query_meaning.specs.Running.{Run, M, pure, ◌>>=◌, come_to, atoms, each, turn, joined, within}
-use Rattle.query_meaning.specs.Environment.{Environment, Focus, value_in, with_variable, with_focus}
+use Rattle.query_meaning.specs.Running.{Run, M, pure, ◌>>=◌, come_to, atoms, each, turn, counted, joined, within}
+use Rattle.query_meaning.specs.Environment.{Environment, Focus, looked_at, value_in, with_variable, with_focus}
 use Rattle.query_meaning.specs.Sequences as sequences
 use Rattle.query_meaning.specs.Sequences.{Meaning, one, focus_of, Tuple}
 use Rattle.query_meaning.specs.Operators as operators
@@ -47,7 +48,7 @@ use Rattle.query_meaning.specs.Functions as functions
 use Rattle.query_meaning.specs.Content as contents
 use Rattle.query_meaning.specs.Constructors as constructors
 use Rattle.query_meaning.specs.Strings.{limited, one_text, spaced, separated, text_in}
-use Rattle.meaning_laws.proofs.Keeps.{Keeps, Each, IsQuiet, pure_keeps, fault_keeps, come_keeps, seen_keeps, atoms_keep, bind, each_keeps, turn_keeps, turns_keep, new_nodes_keep, standing_keeps, joined_keeps}
+use Rattle.meaning_laws.proofs.Keeps.{Keeps, Each, IsQuiet, pure_keeps, fault_keeps, come_keeps, seen_keeps, atoms_keep, bind, each_keeps, turn_keeps, turns_keep, work_keeps, counted_keeps, copying_keeps, new_nodes_keep, standing_keeps, joined_keeps}
 
 module _ (R : Run → Run → Type 0) (s : IsQuiet R) where
   abbrev K : {A : Type 0} → M A → Type 0
@@ -65,6 +66,9 @@ module _ (R : Run → Run → Type 0) (s : IsQuiet R) where
   step : {A B : Type 0} {m : M A} {g : A → M B} → Keeps R A m → ((a : A) → Keeps R B (g a)) → Keeps R B (m >>= g)
   step {A = A} {B = B} {m = m} {g = g} = bind R s {m = m} {f = g}
 
+  pub counts : (m : Meaning) → Good m → Good (λ env. counted (m env))
+  counts m g env = counted_keeps R s {m = m env} (g env)
+
   -- Sequences.
 
   pub number : (n : ℕ) → Good (sequences.number n)
@@ -74,7 +78,7 @@ module _ (R : Run → Run → Type 0) (s : IsQuiet R) where
   string text env = pure_ (one (atom.String text))
 
   pub variable : (x : List ℕ) → Good (sequences.variable x)
-  variable x env = come (or_fault code.XPST0008 (value_in x env.variables))
+  variable x env = step (work_keeps R s (looked_at x env.variables)) (λ _. come (or_fault code.XPST0008 (value_in x env.variables)))
 
   pub context_item : Good sequences.context_item
   context_item env = step (come (focus_of env)) (λ (focus : Focus). pure_ (focus.item ∷ []))
@@ -172,7 +176,10 @@ module _ (R : Run → Run → Type 0) (s : IsQuiet R) where
   between_atoms g k left right = step (atoms_keep R s left) (λ xs. step (atoms_keep R s right) (λ ys. k xs ys))
 
   compared_by_pairs : (op : Comparison) → KeepsBoth (operators.compared_by_pairs op)
-  compared_by_pairs op xs ys = record { kept = λ run p h. (step (come (general_compared op xs ys run.turns)) (λ b. step (turns_keep R s (tried (pairs_compared op xs ys))) (λ _. pure_ (one (atom.Boolean b))))).kept run p h }
+  compared_by_pairs op xs ys = record {
+    kept = λ run p h. (step (come (general_compared op xs ys run.turns run.work)) (λ b. step (turns_keep R s (tried (pairs_compared op xs ys))) (λ _.
+        step (work_keeps R s (tried_work op xs ys)) (λ _. pure_ (one (atom.Boolean b)))))).kept run p h;
+  }
 
   compared_by_value : (op : Comparison) → KeepsBoth (operators.compared_by_value op)
   compared_by_value op xs ys = step (come (value_compared op xs ys)) (λ r. pure_ (operators.booleans r))
@@ -220,9 +227,9 @@ module _ (R : Run → Run → Type 0) (s : IsQuiet R) where
   abbrev pub GoodOperation : Operation Meaning → Type 0
   GoodOperation x = Good x.operand
 
-  operations : (env : Environment) (n : ℕ) (xs : List (Operation Meaning)) → Each GoodOperation xs → (given : List Item) → K (each (λ _ given (x : Operation Meaning). operators.operated x.operator given (x.operand env)) n xs given)
+  operations : (env : Environment) (n : ℕ) (xs : List (Operation Meaning)) → Each GoodOperation xs → (given : List Item) → K (each (λ _ given (x : Operation Meaning). counted (operators.operated x.operator given (x.operand env))) n xs given)
   operations env n [] gs given = pure_ given
-  operations env n (x ∷ xs) gs given = step (operated x.operator given (x.operand env) (gs.0 env)) (λ items. operations env (suc n) xs gs.1 items)
+  operations env n (x ∷ xs) gs given = step (counted_keeps R s (operated x.operator given (x.operand env) (gs.0 env))) (λ items. operations env (suc n) xs gs.1 items)
 
   pub chain : (m : Meaning) (xs : List (Operation Meaning)) → Good m → Each GoodOperation xs → Good (operators.chain m xs)
   chain m xs g gs env = step (g env) (λ items. operations env 0 xs gs items)
@@ -256,8 +263,8 @@ module _ (R : Run → Run → Type 0) (s : IsQuiet R) where
 
   pub axis_step : (a : Axis) (t : NodeTest) (ms : List Meaning) → Each Good ms → Good (paths.step a t ms)
   axis_step a t ms gs env =
-      step (come (focus_of env)) (λ (focus : Focus). step (come (paths.node_of focus.item)) (λ i. step (seen_keeps R s (paths.tested_nodes a t i))
-      (λ is. step (predicates_from env 0 ms gs (paths.in_direction a (operators.nodes is))) (λ left. come (within (paths.in_direction a left))))))
+      step (come (focus_of env)) (λ (focus : Focus). step (come (paths.node_of focus.item)) (λ i. step (step (seen_keeps R s (paths.looked_at a i)) (λ n. work_keeps R s n)) (λ _. step (seen_keeps R s (paths.tested_nodes a t i))
+      (λ is. step (predicates_from env 0 ms gs (paths.in_direction a (operators.nodes is))) (λ left. come (within (paths.in_direction a left)))))))
 
   all_found : (found : paths.Found) (xs : List Item) → K (paths.all_found found xs)
   all_found found xs = each_keeps R s {f = λ _ given x. come_to (paths.found_within (paths.and_found given x))} (λ n given x. come (paths.found_within (paths.and_found given x))) 0 xs found
@@ -274,9 +281,9 @@ module _ (R : Run → Run → Type 0) (s : IsQuiet R) where
       (λ i found x. turn_keeps R s (step (g (with_focus x (i + 1) (length items) env)) (λ xs. all_found found xs))) 0 items (record { nodes = []; atoms = [] }))
       (λ (found : paths.Found). concluded mixed found.nodes found.atoms))
 
-  segments : (steps : ℕ) (env : Environment) (n : ℕ) (ms : List Meaning) → Each Good ms → (items : List Item) → K (each (λ i. paths.segment (paths.mixed_code steps i) env) n ms items)
+  segments : (steps : ℕ) (env : Environment) (n : ℕ) (ms : List Meaning) → Each Good ms → (items : List Item) → K (each (λ i given m. counted (paths.segment (paths.mixed_code steps i) env given m)) n ms items)
   segments steps env n [] gs items = pure_ items
-  segments steps env n (m ∷ ms) gs items = step (segment (paths.mixed_code steps n) m gs.0 env items) (λ more. segments steps env (suc n) ms gs.1 more)
+  segments steps env n (m ∷ ms) gs items = step (counted_keeps R s (segment (paths.mixed_code steps n) m gs.0 env items)) (λ more. segments steps env (suc n) ms gs.1 more)
 
   pub path : (m : Meaning) (ms : List Meaning) → Good m → Each Good ms → Good (paths.path m ms)
   path m ms g gs env = step (g env) (λ items. segments (length ms) env 0 ms gs items)
@@ -313,6 +320,9 @@ module _ (R : Run → Run → Type 0) (s : IsQuiet R) where
   of_two g k env (x ∷ y ∷ []) = step (atoms_keep R s x) (λ xs. step (atoms_keep R s y) (λ ys. k xs ys))
   of_two g k env (x ∷ y ∷ z ∷ xs) = fault_keeps R s code.XPST0017
 
+  made_string : (text : List ℕ) → K (functions.string text)
+  made_string text = step (work_keeps R s (text_work text)) (λ _. pure_ (one (atom.String text)))
+
   document : (name : List ℕ) → K (functions.document name)
   document name = record { kept = λ run p h. (step (come (or_fault code.FODC0002 (functions.document_in name run.shelf.lent.documents))) (λ i. pure_ (item.Node i ∷ []))).kept run p h }
 
@@ -330,14 +340,14 @@ module _ (R : Run → Run → Type 0) (s : IsQuiet R) where
   root (item.Atomic a ∷ xs) = fault_keeps R s code.XPTY0004
 
   name : KeepsOne functions.name
-  name [] = pure_ (one (atom.String []))
-  name (item.Node i ∷ []) = step (seen_keeps R s (λ ts. functions.name_at (find i ts))) (λ text. pure_ (one (atom.String text)))
+  name [] = made_string []
+  name (item.Node i ∷ []) = step (seen_keeps R s (λ ts. functions.name_at (find i ts))) (λ text. made_string text)
   name (item.Node i ∷ x ∷ xs) = fault_keeps R s code.XPTY0004
   name (item.Atomic a ∷ xs) = fault_keeps R s code.XPTY0004
 
   string_of : KeepsOne functions.string_of
-  string_of [] = pure_ (one (atom.String []))
-  string_of (x ∷ []) = step (atoms_keep R s (x ∷ [])) (λ values. pure_ (one (atom.String (functions.first_printed values))))
+  string_of [] = made_string []
+  string_of (x ∷ []) = step (atoms_keep R s (x ∷ [])) (λ values. made_string (functions.first_printed values))
   string_of (x ∷ y ∷ xs) = fault_keeps R s code.XPTY0004
 
   data_of : KeepsOne functions.data_of
@@ -372,7 +382,7 @@ module _ (R : Run → Run → Type 0) (s : IsQuiet R) where
   concatenated env xs =
       step (each_keeps R s {f = λ _ given x. atoms x >>= (λ values. pure (given ++ values ∷ []))} (λ n given x. step (atoms_keep R s x) (λ values. pure_ (given ++ values ∷ []))) 0 xs [])
       (λ values. step (each_keeps R s {f = λ _ given values. come_to (functions.at_most_one values) >>= (λ text. pure (given ++ text ∷ []))} (λ n given values. step (come (functions.at_most_one values)) (λ text. pure_ (given ++ text ∷ []))) 0 values [])
-      (λ texts. step (come (limited (concat texts))) (λ text. pure_ (one (atom.String text)))))
+      (λ texts. step (come (limited (concat texts))) (λ text. made_string text)))
 
   of_texts : (holds : List ℕ → List ℕ → Bool) → KeepsBoth (functions.of_texts holds)
   of_texts holds xs ys = step (come (functions.string_argument xs)) (λ a. step (come (functions.string_argument ys)) (λ b. pure_ (one (atom.Boolean (holds a b)))))
@@ -383,7 +393,7 @@ module _ (R : Run → Run → Type 0) (s : IsQuiet R) where
   string_join : KeepsBoth functions.string_join
   string_join xs ys =
       step (each_keeps R s {f = λ _ given a. come_to (text_in a) >>= (λ text. pure (given ++ text ∷ []))} (λ n given a. step (come (text_in a)) (λ text. pure_ (given ++ text ∷ []))) 0 xs [])
-      (λ texts. step (come (one_text ys)) (λ separator. step (come (limited (separated separator texts))) (λ text. pure_ (one (atom.String text)))))
+      (λ texts. step (come (one_text ys)) (λ separator. step (come (limited (separated separator texts))) (λ text. made_string text)))
 
   sum : KeepsOne functions.sum
   sum x =
@@ -438,10 +448,11 @@ module _ (R : Run → Run → Type 0) (s : IsQuiet R) where
   -- Constructors.
 
   pub new_text : (text : List ℕ) → K (contents.new_text text)
-  new_text text = step (new_nodes_keep R s 1) (λ i. pure_ (contents.text_node text i))
+  new_text text = step (work_keeps R s (text_work text)) (λ _. step (new_nodes_keep R s 1) (λ i. pure_ (contents.text_node text i)))
 
   copied : (i : ℕ) → K (contents.copied i)
-  copied i = step (seen_keeps R s (λ ts. contents.source_at i ts (find i ts))) (λ us. step (new_nodes_keep R s (size us)) (λ n. pure_ (renumbered n us)))
+  copied i =
+      step (copying_keeps R s i) (λ _. step (seen_keeps R s (λ ts. contents.source_at i ts (find i ts))) (λ us. step (new_nodes_keep R s (size us)) (λ n. pure_ (renumbered n us))))
 
   made : (x : contents.Part) → K (contents.made x)
   made (contents.values more) = step (come (spaced more)) (λ text. new_text text)

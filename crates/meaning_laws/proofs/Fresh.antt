@@ -1,7 +1,7 @@
 -- New nodes take the next identities, each its own: copied content, and what stands of it among the trees.
-use Rattle.std.proofs.Common.{◌≡◌, ℕ, zero, suc, ◌+◌, ◌<◌, ◌≤◌, eqb, cond, Bool, true, false, nat_le, if◌then◌else◌, List, [], ◌∷◌, Option, Some, None, Result, Ok, Err, refl, ap, subst, sym, ◌∙◌, arith}
-use Rattle.data_model.specs.Changes.{renumbered}
-use Rattle.data_model.specs.Trees.{Trees, no_trees, tree, leaf, Content, append, count, size, find}
+use Rattle.std.proofs.Common.{◌≡◌, ℕ, zero, suc, ◌+◌, ◌-◌, ◌/◌, ◌<◌, ◌≤◌, eqb, cond, Bool, true, false, nat_le, if◌then◌else◌, List, [], ◌∷◌, Option, Some, None, Result, Ok, Err, refl, ap, subst, sym, ◌∙◌, arith}
+use Rattle.data_model.specs.Changes.{pick, renumbered}
+use Rattle.data_model.specs.Trees.{Trees, no_trees, tree, leaf, Content, append, bytes_in, count, size, find}
 use Rattle.node_table.proofs.Copies.{in-renumbered, renumbered-within}
 use Rattle.node_table.proofs.Ups.{same-ids}
 use Rattle.data_model.proofs.Weights.{append-append, eqb-same}
@@ -12,7 +12,8 @@ use Rattle.fault_codes.specs.declared.code.Code.TheVariants.{PXQ0002, PXQ0003}
 use Rattle.values.specs.declared.atom.Item.{Item}
 use Rattle.values.specs.declared.atom.Item.TheVariants as item
 use Rattle.data_model.specs.Limits.{most_bytes}
-use Rattle.query_meaning.specs.Running.{Run, M, trees_of, pure, and_then, ◌>>=◌, come_to, each, new_nodes, standing, most_nodes}
+use Rattle.values.specs.Work.{text_work}
+use Rattle.query_meaning.specs.Running.{Run, M, trees_of, pure, and_then, ◌>>=◌, come_to, each, new_nodes, work, standing, most_nodes}
 use Rattle.query_meaning.specs.Strings.{spaced}
 use Rattle.query_meaning.specs.Content as contents
 use Rattle.query_meaning.specs.Constructors as constructors
@@ -98,16 +99,32 @@ numbered_if n g run p false h e = absurd (no_value PXQ0003 p e)
 numbered : (n : ℕ) (g : ℕ → Trees) → ((i : ℕ) → AreNew i (i + n) (g i)) → MakesNew (new_nodes n >>= (λ i. pure (g i)))
 numbered n g h run p e = numbered_if n g run p (nat_le (run.shelf.own.next + n) (run.shelf.lent.next + most_nodes)) (h run.shelf.own.next) e
 
+-- work makes nothing
+worked : (n : ℕ) (f : Unit {0} → M Trees) → MakesNew (f tt) → MakesNew (work n >>= f)
+worked n f h run p e = of (nat_le n run.work) e
+  where
+    of : (b : Bool) → and_then (if b then Ok (tt, record run { work = run.work - n }) else Err PXQ0002) f ≡ Ok p → Makes run p
+    of true e = let z = h (record run { work = run.work - n }) p e in record { lent = z.lent; own = z.own; primitives = z.primitives; next = z.next; made = z.made }
+    of false e = absurd (no_value PXQ0002 p e)
+
 pub none_made : MakesNew (pure no_trees)
 none_made run p e =
     subst (Makes run) (same_value (no_trees, run) p e)
     (record { lent = refl; own = refl; primitives = refl; next = omega arith; made = none_new run.shelf.own.next run.shelf.own.next })
 
 pub text_made : (text : List ℕ) → MakesNew (contents.new_text text)
-text_made text = numbered 1 (contents.text_node text) (λ i. leaf_new i _ refl)
+text_made text = worked (text_work text) (λ _. new_nodes 1 >>= (λ i. pure (contents.text_node text i))) (numbered 1 (contents.text_node text) (λ i. leaf_new i _ refl))
 
 copied_made : (i : ℕ) → MakesNew (contents.copied i)
-copied_made i run p e = let us = contents.source_at i (trees_of run) (find i (trees_of run)) in numbered (size us) (λ n. renumbered n us) (λ n. copy_new n us) run p e
+copied_made i run p e = worked (bytes_in (pick i (trees_of run)) / 16) (λ _. copy_seen) seen_made run p e
+  where
+    copy_seen : M Trees
+    copy_seen after = (let us = contents.source_at i (trees_of after) (find i (trees_of after)) in new_nodes (size us) >>= (λ n. pure (renumbered n us))) after
+
+    seen_made : MakesNew copy_seen
+    seen_made after q g =
+        let us = contents.source_at i (trees_of after) (find i (trees_of after)) in
+        numbered (size us) (λ n. renumbered n us) (λ n. copy_new n us) after q g
 
 part_made : (x : contents.Part) → MakesNew (contents.made x)
 part_made (contents.values more) = come_makes (spaced more) contents.new_text text_made

@@ -1,6 +1,6 @@
 -- Each form gives at most as many items as there may be, and nodes that stand, where its parts do.
 use Rattle.std.proofs.Common.{◌≡◌, ℕ, suc, ◌+◌, ◌≤◌, ◌<◌, ℤ, pos, neg_ℤ, ◌+ℤ◌, Bool, true, false, not, ◌&&◌, ◌||◌, nat_le, nat_lt, if◌then◌else◌, Option, Some, None}
-use Rattle.std.proofs.Common.{List, [], ◌∷◌, ◌++◌, length, map, reverse, filter, Option, Some, None, Result, Ok, Err, refl, ap, subst, sym, arith}
+use Rattle.std.proofs.Common.{List, [], ◌∷◌, ◌++◌, length, map, reverse, filter, Option, Some, None, Ok, Err, refl, ap, subst, sym, arith}
 use Rattle.std.proofs.lemmas.Bool.{ltb-false, leb-true}
 use Rattle.std.proofs.lemmas.Grind.{reverse_onto}
 use Rattle.std.proofs.lemmas.List.{length-append, length-map, length-reverse}
@@ -31,8 +31,9 @@ use Rattle.values.specs.declared.atom.Atom.TheVariants as atom
 use Rattle.values.specs.declared.atom.Item.{Item}
 use Rattle.values.specs.declared.atom.Item.TheVariants as item
 use Rattle.values.specs.Arithmetic.{arithmetic, operand, operands, in_range}
-use Rattle.values.specs.Atoms.{or_fault, truth, atomized, atom_of, ◌>>=◌ as ◌then◌}
-use Rattle.values.specs.Comparisons.{value_compared, general_compared, pairs_compared, tried}
+use Rattle.values.specs.Atoms.{or_fault, truth, atom_of}
+use Rattle.values.specs.Work.{text_of as text_in_atom, text_work}
+use Rattle.values.specs.Comparisons.{value_compared, general_compared, pairs_compared, tried, tried_work}
 use Rattle.query_grammar.specs.declared.ast.Binary.{Binary}
 use Rattle.query_grammar.specs.declared.ast.Binary.TheVariants as binary
 use Rattle.query_grammar.specs.declared.ast.Binding.{Binding}
@@ -48,8 +49,8 @@ use Rattle.query_grammar.specs.declared.ast.Sign.TheVariants.{Plus, Minus}
 use Rattle.query_grammar.specs.declared.ast.SortKey.{SortKey}
 use Rattle.query_grammar.specs.declared.functions.Function.{Function}
 use Rattle.query_grammar.specs.declared.functions.Function.TheVariants as function
-use Rattle.query_meaning.specs.Running.{Run, M, trees_of, pure, ◌>>=◌, come_to, atoms, each, turn, joined, most_items}
-use Rattle.query_meaning.specs.Environment.{Environment, Focus, Bound, no_environment, value_in, with_variable, with_focus}
+use Rattle.query_meaning.specs.Running.{Run, M, trees_of, pure, ◌>>=◌, come_to, nodes_of, atom as typed, atoms, each, turn, counted as counted_, joined, most_items}
+use Rattle.query_meaning.specs.Environment.{Environment, Focus, Bound, no_environment, looked_at, value_in, with_variable, with_focus}
 use Rattle.query_meaning.specs.Sequences as sequences
 use Rattle.query_meaning.specs.Sequences.{Meaning, one, focus_of, Tuple}
 use Rattle.query_meaning.specs.Operators as operators
@@ -63,7 +64,7 @@ use Rattle.meaning_laws.proofs.Keeps.{Each, no_value}
 use Rattle.static_checks.specs.Parts.{source_of}
 use Rattle.meaning_laws.proofs.Nodes.{nodes_stand, listed, filtered as in_filter, members, root_stands}
 use Rattle.meaning_laws.proofs.Sound.{same_value, fault_, both_stand, IsAbove, same_run, up, Holds, IsStable, Any, pure_, fault_, come, come_any, see}
-use Rattle.meaning_laws.proofs.Sound.{bind, loop, turn_, turns_, hold, both_counted, Upto, Given, stands_up, stand_up, upto_up, given_up, no_items, one_item, limit, join, AreThere}
+use Rattle.meaning_laws.proofs.Sound.{bind, loop, turn_, turns_, work_, hold, both_counted, Upto, Given, stands_up, stand_up, upto_up, given_up, no_items, one_item, limit, join, AreThere}
 use Rattle.meaning_laws.proofs.Fresh.{leaf_sound, assembled_sound}
 
 abbrev pub FocusStands : Run → Option Focus → Type 0
@@ -134,6 +135,13 @@ pub all_any : {A : Type 0} (run : Run) (xs : List A) → Each (Any {A = A} run) 
 all_any run [] = tt
 all_any run (x ∷ xs) = (tt, all_any run xs)
 
+-- counting leaves what is given
+pub counted : {r : Run} (m : M (List Item)) → Holds r (List Item) Given m → Holds r (List Item) Given (counted_ m)
+counted m h = bind h (λ b _ items q. bind (work_ (1 + length items)) (λ c k _ _. pure_ items (λ d j. given_up b d items (up k j) q)))
+
+pub counts : (m : Meaning) → Good m → Good (λ env. counted_ (m env))
+counts m g r env h = counted (m env) (g r env h)
+
 -- Sequences.
 
 pub number : (n : ℕ) → Good (sequences.number n)
@@ -156,7 +164,8 @@ found_value c (Some x) a e = ap Some (same_value x a e)
 
 pub variable : (x : List ℕ) → Good (sequences.variable x)
 variable x r env h =
-    come (or_fault code.XPST0008 (value_in x env.variables)) (λ items e b k. given_up r b items k (named_items r x env.variables items h.variables (found_value code.XPST0008 (value_in x env.variables) items e)))
+    bind (work_ (looked_at x env.variables)) (λ c j _ _. come (or_fault code.XPST0008 (value_in x env.variables))
+    (λ items e b k. given_up r b items (up j k) (named_items r x env.variables items h.variables (found_value code.XPST0008 (value_in x env.variables) items e))))
 
 -- the context item stands
 focus_stands : (run : Run) (o : Option Focus) (f : Focus) → FocusStands run o → or_fault code.XPDY0002 o ≡ Ok f → Stands (trees_of run) f.item
@@ -266,25 +275,29 @@ one_more : (run : Run) (ts : List Tuple) (t : Tuple) → KnowsAll run ts → Kno
 one_more run [] t h g = (g, tt)
 one_more run (u ∷ us) t h g = (h.0, one_more run us t h.1 g)
 
--- the typed values of items are no more than those
-atoms_from : (ts : Trees) (items : List Item) (values : List Atom) → atomized ts items ≡ Ok values → length values ≤ length items
-atoms_from ts [] values e = subst (λ (xs : List Atom). length xs ≤ 0) (same_value [] values e) (omega arith)
-atoms_from ts (x ∷ xs) values e = of (atom_of ts x) (atomized ts xs) refl (atoms_from ts xs) e
-  where
-    and_rest : (a : Atom) (s : Result (List Atom) Code) → atomized ts xs ≡ s → ((vs : List Atom) → atomized ts xs ≡ Ok vs → length vs ≤ length xs) → (s then (λ rest. Ok (a ∷ rest))) ≡ Ok values → length values ≤ length (x ∷ xs)
-    and_rest a (Ok vs) is few e = let n = few vs is in subst (λ (us : List Atom). length us ≤ suc (length xs)) (same_value (a ∷ vs) values e) (omega (arith, n))
-    and_rest a (Err c) is few e = absurd (no_value c values e)
+-- the typed value of an item
+any_atom : {r : Run} (x : Item) → Holds r Atom Any (typed x)
+any_atom {r = r} x = hold (λ aside run s k p e.
+    ((bind {r = r} (work_ (nodes_of (trees_of run) x)) (λ b _ _ _. bind (come_any (atom_of (trees_of run) x)) (λ c _ a _.
+    bind (work_ (text_work (text_in_atom a))) (λ d _ _ _. pure_ a (λ o j. tt))))).holds aside).passes run s k p e)
 
-    of : (r : Result Atom Code) (s : Result (List Atom) Code) → atomized ts xs ≡ s → ((vs : List Atom) → atomized ts xs ≡ Ok vs → length vs ≤ length xs) → (r then (λ a. s then (λ rest. Ok (a ∷ rest)))) ≡ Ok values → length values ≤ length (x ∷ xs)
-    of (Ok a) s is few e = and_rest a s is few e
-    of (Err c) s is few e = absurd (no_value c values e)
+weaken : {r : Run} {A : Type 0} {Q S : Run → A → Type 0} {m : M A} → Holds r A Q m → ((b : Run) (a : A) → Q b a → S b a) → Holds r A S m
+weaken h f = hold (λ aside run s k p e.
+    (let z = (h.holds aside).passes run s k p e in record { sound = z.sound; above = z.above; value = f p.1 p.0 z.value }))
+
+-- the typed values of items are no more than those
+atoms_from : {r : Run} (n : ℕ) (items : List Item) (given : List Atom)
+    → Holds r (List Atom) (λ b values. length values ≤ length given + length items) (each (λ _ given x. typed x >>= (λ a. pure (given ++ a ∷ []))) n items given)
+atoms_from n [] given = pure_ given (λ b k. omega arith)
+atoms_from n (x ∷ xs) given =
+    bind {Q = λ b more. length more ≤ suc (length given)} (bind (any_atom x) (λ b _ a _. pure_ (given ++ a ∷ []) (λ c j. (let l = length-append given (a ∷ []) in omega (arith, l)))))
+    (λ b _ more few. weaken (atoms_from (suc n) xs more) (λ c values z. omega (arith, z, few)))
 
 few_atoms : {r : Run} (items : List Item) → Holds r (List Atom) (λ b values. length values ≤ length items) (atoms items)
-few_atoms {r = r} items = hold (λ aside run s k p e.
-    ((come {r = r} (atomized (trees_of run) items) (λ values is b j. atoms_from (trees_of run) items values is)).holds aside).passes run s k p e)
+few_atoms items = weaken (atoms_from 0 items []) (λ b values z. omega (arith, z))
 
 pub any_atoms : {r : Run} (items : List Item) → Holds r (List Atom) Any (atoms items)
-any_atoms {r = r} items = hold (λ aside run s k p e. ((come_any {r = r} (atomized (trees_of run) items)).holds aside).passes run s k p e)
+any_atoms items = weaken (few_atoms items) (λ b values few. tt)
 
 key_in : {r : Run} (env : Environment) (given : List (Option Atom)) (key : SortKey Meaning) → GoodKey key → Knows r env → Holds r (List (Option Atom)) Any (sequences.key_in env given key)
 key_in {r = r} env given key g h =
@@ -346,8 +359,9 @@ integers_given (Some z) = atom_given (atom.Integer z)
 
 compared_by_pairs : (op : Comparison) → GivesBoth (operators.compared_by_pairs op)
 compared_by_pairs op r xs ys = hold (λ aside run s k p e.
-    ((bind {r = r} (come_any (general_compared op xs ys run.turns)) (λ b _ t _.
-    bind (turns_ (tried (pairs_compared op xs ys))) (λ c _ _ _. one_atom (atom.Boolean t)))).holds aside).passes run s k p e)
+    ((bind {r = r} (come_any (general_compared op xs ys run.turns run.work)) (λ b _ t _.
+    bind (turns_ (tried (pairs_compared op xs ys))) (λ c _ _ _.
+    bind (work_ (tried_work op xs ys)) (λ d _ _ _. one_atom (atom.Boolean t))))).holds aside).passes run s k p e)
 
 compared_by_value : (op : Comparison) → GivesBoth (operators.compared_by_value op)
 compared_by_value op r xs ys = bind (come_any (value_compared op xs ys)) (λ b k o _. pure_ (operators.booleans o) (λ c j. booleans_given o))
@@ -423,8 +437,8 @@ GoodOperation x = Good x.operand
 
 pub chain : (m : Meaning) (xs : List (Operation Meaning)) → Good m → Each GoodOperation xs → Good (operators.chain m xs)
 chain m xs g gs r env h =
-    bind (g r env h) (λ b k items q. loop {f = λ _ given (o : Operation Meaning). operators.operated o.operator given (o.operand env)} (among_up GoodOperation env) given_up
-    (λ n c given (o : Operation Meaning) v w. operated o.operator given (o.operand env) (λ d j. w.1 d env (knows_up c d env j w.0))) 0 b xs (among GoodOperation b env (knows_up r b env k h) xs gs) items q)
+    bind (g r env h) (λ b k items q. loop {f = λ _ given (o : Operation Meaning). counted_ (operators.operated o.operator given (o.operand env))} (among_up GoodOperation env) given_up
+    (λ n c given (o : Operation Meaning) v w. counted (operators.operated o.operator given (o.operand env)) (operated o.operator given (o.operand env) (λ d j. w.1 d env (knows_up c d env j w.0)))) 0 b xs (among GoodOperation b env (knows_up r b env k h) xs gs) items q)
 
 signs_any : {r : Run} (n : ℕ) (z : ℤ) (sign : Sign) → Holds r ℤ Any (operators.with_sign n z sign)
 signs_any n z Plus = pure_ z (λ b k. tt)
@@ -440,10 +454,6 @@ pub signed : (signs : List Sign) (m : Meaning) → Good m → Good (operators.si
 signed signs m g r env h = bind (bind (g r env h) (λ b _ items _. any_atoms items)) (λ b _ values _. with_signs signs values)
 
 -- Paths.
-
-weaken : {r : Run} {A : Type 0} {Q S : Run → A → Type 0} {m : M A} → Holds r A Q m → ((b : Run) (a : A) → Q b a → S b a) → Holds r A S m
-weaken h f = hold (λ aside run s k p e.
-    (let z = (h.holds aside).passes run s k p e in record { sound = z.sound; above = z.above; value = f p.1 p.0 z.value }))
 
 upto_more : (n m : ℕ) (b : Run) (items : List Item) → n ≤ m → Upto n b items → Upto m b items
 upto_more n m b items le h = record { few = (let f = h.few in omega (arith, f, le)); stand = h.stand }
@@ -490,11 +500,12 @@ directed_stand a ts xs h = of (paths.is_reverse a)
 pub axis_step : (a : Axis) (t : NodeTest) (ms : List Meaning) → Each Good ms → Good (paths.step a t ms)
 axis_step a t ms gs r env h =
     bind (come_any (focus_of env)) (λ b k (focus : Focus) _. bind (come_any (paths.node_of focus.item)) (λ c j i _.
+    bind (bind (see {Q = Any} (paths.looked_at a i) (λ d s l. tt)) (λ d _ n _. work_ n)) (λ o z _ _.
     bind (see {Q = λ d is. AllStand (trees_of d) (operators.nodes is)} (paths.tested_nodes a t i) (λ d s l. nodes_stand (trees_of d) _
     (in_filter (trees_of d) (λ x. paths.passes_at a t (find x (trees_of d))) (on_axis a (trees_of d) i) (in_filter (trees_of d) (is_on a (trees_of d) i) (identities (trees_of d)) (listed (trees_of d))))))
-    (λ d l is q. bind (predicates (length (paths.in_direction a (operators.nodes is))) ms gs d env (paths.in_direction a (operators.nodes is)) (knows_up r d env (up k (up j l)) h)
+    (λ d l is q. bind (predicates (length (paths.in_direction a (operators.nodes is))) ms gs d env (paths.in_direction a (operators.nodes is)) (knows_up r d env (up k (up j (up z l))) h)
     (record { few = omega arith; stand = directed_stand a (trees_of d) (operators.nodes is) q }))
-    (λ e o left z. limit (paths.in_direction a left) (directed_stand a (trees_of e) left z.stand)))))
+    (λ e _ left y. limit (paths.in_direction a left) (directed_stand a (trees_of e) left y.stand))))))
 
 abbrev IsFound : Run → paths.Found → Type 0
 IsFound run f = length f.nodes + length f.atoms ≤ most_items
@@ -530,7 +541,8 @@ segment mixed m g r env items h q =
     (λ c j (found : paths.Found) v. concluded mixed found.nodes found.atoms v))
 
 pub path : (m : Meaning) (ms : List Meaning) → Good m → Each Good ms → Good (paths.path m ms)
-path m ms g gs r env h = bind (g r env h) (λ b k items q. loop {f = λ i. paths.segment (paths.mixed_code (length ms) i) env} (among_up Good env) given_up (λ n c given m v w. segment (paths.mixed_code (length ms) n) m w.1 c env given w.0 v) 0 b ms (among Good b env (knows_up r b env k h) ms gs) items q)
+path m ms g gs r env h = bind (g r env h) (λ b k items q. loop {f = λ i given m. counted_ (paths.segment (paths.mixed_code (length ms) i) env given m)} (among_up Good env) given_up
+    (λ n c given m v w. counted (paths.segment (paths.mixed_code (length ms) n) env given m) (segment (paths.mixed_code (length ms) n) m w.1 c env given w.0 v)) 0 b ms (among Good b env (knows_up r b env k h) ms gs) items q)
 
 -- Functions.
 
@@ -600,15 +612,18 @@ root r (item.Node i ∷ []) q = see (λ ts. operators.nodes (root_of i ts ∷ []
 root r (item.Node i ∷ x ∷ xs) q = fault_ code.XPTY0004
 root r (item.Atomic a ∷ xs) q = fault_ code.XPTY0004
 
+made_string : {r : Run} (text : List ℕ) → Holds r (List Item) Given (functions.string text)
+made_string text = bind (work_ (text_work text)) (λ b _ _ _. one_atom (atom.String text))
+
 name : GivesOne functions.name
-name r [] q = one_atom (atom.String [])
-name r (item.Node i ∷ []) q = bind (see {Q = Any} (λ ts. functions.name_at (find i ts)) (λ b s k. tt)) (λ b _ text _. one_atom (atom.String text))
+name r [] q = made_string []
+name r (item.Node i ∷ []) q = bind (see {Q = Any} (λ ts. functions.name_at (find i ts)) (λ b s k. tt)) (λ b _ text _. made_string text)
 name r (item.Node i ∷ x ∷ xs) q = fault_ code.XPTY0004
 name r (item.Atomic a ∷ xs) q = fault_ code.XPTY0004
 
 string_of : GivesOne functions.string_of
-string_of r [] q = one_atom (atom.String [])
-string_of r (x ∷ []) q = bind (any_atoms (x ∷ [])) (λ b _ values _. one_atom (atom.String (functions.first_printed values)))
+string_of r [] q = made_string []
+string_of r (x ∷ []) q = bind (any_atoms (x ∷ [])) (λ b _ values _. made_string (functions.first_printed values))
 string_of r (x ∷ y ∷ xs) q = fault_ code.XPTY0004
 
 items_given : (run : Run) (values : List Atom) → length values ≤ most_items → Given run (functions.items_of values)
@@ -647,7 +662,7 @@ concatenated r env xs h q =
     bind (loop {P = Any} {Q = Any} {f = λ _ given x. atoms x >>= (λ values. pure (given ++ values ∷ []))} any_up any_up (λ n b given x _ _. bind (any_atoms x) (λ c _ values _. pure_ (given ++ values ∷ []) (λ d j. tt))) 0 r xs (all_any r xs) [] tt)
     (λ b _ values _. bind (loop {P = Any} {Q = Any} {f = λ _ given values. come_to (functions.at_most_one values) >>= (λ text. pure (given ++ text ∷ []))} any_up any_up
     (λ n c given x _ _. bind (come_any (functions.at_most_one x)) (λ d _ text _. pure_ (given ++ text ∷ []) (λ e j. tt))) 0 b values (all_any b values) [] tt)
-    (λ c _ texts _. bind (come_any (limited (concat texts))) (λ d _ text _. one_atom (atom.String text))))
+    (λ c _ texts _. bind (come_any (limited (concat texts))) (λ d _ text _. made_string text)))
 
 of_texts : (holds : List ℕ → List ℕ → Bool) → GivesBoth (functions.of_texts holds)
 of_texts holds r xs ys = bind (come_any (functions.string_argument xs)) (λ b _ s _. bind (come_any (functions.string_argument ys)) (λ c _ t _. one_atom (atom.Boolean (holds s t))))
@@ -658,7 +673,7 @@ string_length r x q = bind (any_atoms x) (λ b _ values _. bind (come_any (funct
 string_join : GivesBoth functions.string_join
 string_join r xs ys =
     bind (loop {P = Any} {Q = Any} {f = λ _ given a. come_to (text_in a) >>= (λ text. pure (given ++ text ∷ []))} any_up any_up (λ n b given a _ _. bind (come_any (text_in a)) (λ c _ text _. pure_ (given ++ text ∷ []) (λ d j. tt))) 0 r xs (all_any r xs) [] tt)
-    (λ b _ texts _. bind (come_any (one_text ys)) (λ c _ separator _. bind (come_any (limited (separated separator texts))) (λ d _ text _. one_atom (atom.String text))))
+    (λ b _ texts _. bind (come_any (one_text ys)) (λ c _ separator _. bind (come_any (limited (separated separator texts))) (λ d _ text _. made_string text)))
 
 sum : GivesOne functions.sum
 sum r x q =

@@ -1,15 +1,17 @@
 -- What every step of an evaluation leaves of a run.
-use Rattle.std.proofs.Common.{◌≡◌, ℕ, suc, ◌+◌, ◌≤◌, Bool, true, false, nat_le, if◌then◌else◌, ◌==◌, ◌-◌, List, [], ◌∷◌, ◌++◌, length, Result, Ok, Err, refl, ap, subst, sym}
-use Rattle.data_model.specs.Trees.{Trees, append}
+use Rattle.std.proofs.Common.{◌≡◌, ℕ, suc, ◌+◌, ◌/◌, ◌≤◌, Bool, true, false, nat_le, if◌then◌else◌, ◌==◌, ◌-◌, List, [], ◌∷◌, ◌++◌, length, Result, Ok, Err, refl, ap, subst, sym}
+use Rattle.data_model.specs.Changes.{pick}
+use Rattle.data_model.specs.Trees.{Trees, append, bytes_in}
 use Rattle.pending.specs.Compatible.{most_primitives}
 use Rattle.pending.specs.Primitives.{PrimitiveTerm}
 use Rattle.fault_codes.specs.declared.code.Code.{Code}
 use Rattle.fault_codes.specs.declared.code.Code.TheVariants.{PXQ0002, PXQ0003}
 use Rattle.values.specs.declared.atom.Atom.{Atom}
 use Rattle.values.specs.declared.atom.Item.{Item}
-use Rattle.values.specs.Atoms.{atomized}
+use Rattle.values.specs.Atoms.{atom_of}
+use Rattle.values.specs.Work.{text_of, text_work}
 use Rattle.update_meaning.specs.Changed.{rooted_at, with_changed}
-use Rattle.query_meaning.specs.Running.{Run, M, trees_of, pure, fault, and_then, ◌>>=◌, come_to, seen, atoms, each, turn, turns, adding, new_nodes, standing, joined, within, most_nodes}
+use Rattle.query_meaning.specs.Running.{Run, M, trees_of, pure, fault, and_then, ◌>>=◌, come_to, seen, nodes_of, atom, atoms, each, turn, turns, work, counted, copying, adding, new_nodes, standing, joined, within, most_nodes}
 
 -- it holds of each
 abbrev pub Each : {A : Type 0} → (A → Type 0) → List A → Type 0
@@ -29,6 +31,7 @@ pub record IsQuiet (R : Run → Run → Type 0) : Type 0 where
   pub same : (run : Run) → R run run
   pub chained : (a b c : Run) → R a b → R b c → R a c
   pub turned : (run : Run) (n : ℕ) → R run (record run { turns = n })
+  pub worked : (run : Run) (n : ℕ) → R run (record run { work = n })
   pub numbered : (run : Run) (n : ℕ) → nat_le (run.shelf.own.next + n) (run.shelf.lent.next + most_nodes) ≡ true
       → R run (record run { shelf = record run.shelf { own = record run.shelf.own { next = run.shelf.own.next + n } } })
   pub stood : (run : Run) (ts : Trees) → R run (record run { shelf = record run.shelf { own = record run.shelf.own { trees = append run.shelf.own.trees ts } } })
@@ -73,9 +76,6 @@ module _ (R : Run → Run → Type 0) (s : IsQuiet R) where
   pub seen_keeps : {A : Type 0} (f : Trees → A) → Keeps R A (seen f)
   seen_keeps f = record { kept = λ run p h. ends run run (f (trees_of run)) p (s.same run) h }
 
-  pub atoms_keep : (items : List Item) → Keeps R (List Atom) (atoms items)
-  atoms_keep items = record { kept = λ run p h. (come_keeps (atomized (trees_of run) items)).kept run p h }
-
   after : {A B : Type 0} (f : A → M B) (run : Run) (p : B × Run) (r : Result (A × Run) Code)
       → ((q : A × Run) → r ≡ Ok q → R run q.1) → ((a : A) → Keeps R B (f a)) → and_then r f ≡ Ok p → R run p.1
   after f run p (Ok q) first rest h = s.chained run q.1 p.1 (first q refl) ((rest q.0).kept q.1 p h)
@@ -101,6 +101,29 @@ module _ (R : Run → Run → Type 0) (s : IsQuiet R) where
 
   pub turns_keep : (n : ℕ) → Keeps R (Unit {0}) (turns n)
   turns_keep n = record { kept = λ run p h. spent_if n run p (nat_le n run.turns) h }
+
+  worked_if : (n : ℕ) (run : Run) (p : Unit {0} × Run) (b : Bool) → (if b then Ok (tt, record run { work = run.work - n }) else Err PXQ0002) ≡ Ok p → R run p.1
+  worked_if n run p true h = ends run (record run { work = run.work - n }) tt p (s.worked run (run.work - n)) h
+  worked_if n run p false h = absurd (no_value PXQ0002 p h)
+
+  pub work_keeps : (n : ℕ) → Keeps R (Unit {0}) (work n)
+  work_keeps n = record { kept = λ run p h. worked_if n run p (nat_le n run.work) h }
+
+  pub counted_keeps : {m : M (List Item)} → Keeps R (List Item) m → Keeps R (List Item) (counted m)
+  counted_keeps k = bind k (λ items. bind (work_keeps (1 + length items)) (λ _. pure_keeps items))
+
+  atom_keeps : (x : Item) → Keeps R Atom (atom x)
+  atom_keeps x = record {
+    kept = λ run p h. (bind (work_keeps (nodes_of (trees_of run) x)) (λ _.
+        bind (come_keeps (atom_of (trees_of run) x)) (λ a. bind (work_keeps (text_work (text_of a))) (λ _. pure_keeps a)))).kept run p h;
+  }
+
+  pub atoms_keep : (items : List Item) → Keeps R (List Atom) (atoms items)
+  atoms_keep items =
+      each_keeps {f = λ _ given x. atom x >>= (λ a. pure (given ++ a ∷ []))} (λ n given x. bind (atom_keeps x) (λ a. pure_keeps (given ++ a ∷ []))) 0 items []
+
+  pub copying_keeps : (i : ℕ) → Keeps R (Unit {0}) (copying i)
+  copying_keeps i = bind (seen_keeps (λ ts. bytes_in (pick i ts) / 16)) (λ n. work_keeps n)
 
   numbered_if : (n : ℕ) (run : Run) (p : ℕ × Run) (b : Bool) → nat_le (run.shelf.own.next + n) (run.shelf.lent.next + most_nodes) ≡ b
       → (if b then Ok (run.shelf.own.next, record run { shelf = record run.shelf { own = record run.shelf.own { next = run.shelf.own.next + n } } }) else Err PXQ0003) ≡ Ok p → R run p.1

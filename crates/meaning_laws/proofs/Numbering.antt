@@ -1,17 +1,18 @@
 -- Copied content is numbered without a gap.
-use Rattle.std.proofs.Common.{◌≡◌, ℕ, zero, suc, ◌+◌, Bool, true, false, nat_le, if◌then◌else◌, List, [], ◌∷◌, ◌++◌, Result, Ok, Err, refl, ap, ap₂, subst, sym, ◌∙◌, arith}
+use Rattle.std.proofs.Common.{◌≡◌, ℕ, zero, suc, ◌+◌, ◌-◌, ◌/◌, Bool, true, false, nat_le, if◌then◌else◌, List, [], ◌∷◌, ◌++◌, Result, Ok, Err, refl, ap, ap₂, subst, sym, ◌∙◌, arith}
 use Rattle.std.proofs.lemmas.List.{append_assoc}
 use Rattle.std.specs.List.{range_with_len}
-use Rattle.data_model.specs.Changes.{renumbered}
+use Rattle.data_model.specs.Changes.{pick, renumbered}
 use Rattle.data_model.specs.Order.{identities}
-use Rattle.data_model.specs.Trees.{Trees, no_trees, tree, append, size, find}
+use Rattle.data_model.specs.Trees.{Trees, no_trees, tree, append, bytes_in, size, find}
 use Rattle.node_table.proofs.Copies.{size-renumbered}
 use Rattle.data_model.proofs.Firsts.{identities-tree}
 use Rattle.data_model.proofs.Weights.{weigh-append}
 use Rattle.fault_codes.specs.declared.code.Code.{Code}
-use Rattle.fault_codes.specs.declared.code.Code.TheVariants.{PXQ0003}
+use Rattle.fault_codes.specs.declared.code.Code.TheVariants.{PXQ0002, PXQ0003}
 use Rattle.values.specs.declared.atom.Item.{Item}
-use Rattle.query_meaning.specs.Running.{Run, M, trees_of, pure, and_then, ◌>>=◌, come_to, each, new_nodes, most_nodes}
+use Rattle.query_meaning.specs.Running.{Run, M, trees_of, pure, and_then, ◌>>=◌, come_to, each, new_nodes, work, most_nodes}
+use Rattle.values.specs.Work.{text_work}
 use Rattle.query_meaning.specs.Strings.{spaced}
 use Rattle.query_meaning.specs.Content as contents
 use Rattle.meaning_laws.proofs.Keeps.{no_value}
@@ -62,13 +63,28 @@ numbered_if n g run p false h e = absurd (no_value PXQ0003 p e)
 numbered : (n : ℕ) (g : ℕ → Trees) → ((i : ℕ) → AreNumbered i (i + n) (g i)) → Numbers (new_nodes n >>= (λ i. pure (g i)))
 numbered n g h run p e = numbered_if n g run p (nat_le (run.shelf.own.next + n) (run.shelf.lent.next + most_nodes)) (h run.shelf.own.next) e
 
+-- work takes no identity
+worked : (n : ℕ) (f : Unit {0} → M Trees) → Numbers (f tt) → Numbers (work n >>= f)
+worked n f h run p e = of (nat_le n run.work) e
+  where
+    of : (b : Bool) → and_then (if b then Ok (tt, record run { work = run.work - n }) else Err PXQ0002) f ≡ Ok p → AreNumbered run.shelf.own.next p.1.shelf.own.next p.0
+    of true e = h (record run { work = run.work - n }) p e
+    of false e = absurd (no_value PXQ0002 p e)
+
 text_numbered : (text : List ℕ) → Numbers (contents.new_text text)
-text_numbered text = numbered 1 (contents.text_node text) (λ i. record { range = refl; next = refl })
+text_numbered text =
+    worked (text_work text) (λ _. new_nodes 1 >>= (λ i. pure (contents.text_node text i))) (numbered 1 (contents.text_node text) (λ i. record { range = refl; next = refl }))
 
 copied_numbered : (i : ℕ) → Numbers (contents.copied i)
-copied_numbered i run p e =
-    let us = contents.source_at i (trees_of run) (find i (trees_of run)) in
-    numbered (size us) (λ n. renumbered n us) (λ n. record { range = renumbered_range n us ∙ ap (range_with_len n) (sym (size-renumbered n us)); next = ap (λ k. n + k) (sym (size-renumbered n us)) }) run p e
+copied_numbered i run p e = worked (bytes_in (pick i (trees_of run)) / 16) (λ _. copy_seen) seen_numbered run p e
+  where
+    copy_seen : M Trees
+    copy_seen after = (let us = contents.source_at i (trees_of after) (find i (trees_of after)) in new_nodes (size us) >>= (λ n. pure (renumbered n us))) after
+
+    seen_numbered : Numbers copy_seen
+    seen_numbered after q g =
+        let us = contents.source_at i (trees_of after) (find i (trees_of after)) in
+        numbered (size us) (λ n. renumbered n us) (λ n. record { range = renumbered_range n us ∙ ap (range_with_len n) (sym (size-renumbered n us)); next = ap (λ k. n + k) (sym (size-renumbered n us)) }) after q g
 
 part_numbered : (x : contents.Part) → Numbers (contents.made x)
 part_numbered (contents.values more) = come_numbers (spaced more) contents.new_text text_numbered

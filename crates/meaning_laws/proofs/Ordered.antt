@@ -1,5 +1,5 @@
 -- What the last segment of a path gives, and what set operators give.
-use Rattle.std.proofs.Common.{◌≡◌, ◌⊎◌, inl, inr, ℕ, suc, ◌+◌, List, [], ◌∷◌, map, filter, length, Result, Ok, Err, refl, ap, sym, subst, ◌∙◌}
+use Rattle.std.proofs.Common.{◌≡◌, ◌⊎◌, inl, inr, ℕ, suc, ◌+◌, ◌-◌, Bool, true, false, nat_le, if◌then◌else◌, List, [], ◌∷◌, map, filter, length, Result, Ok, Err, refl, ap, sym, subst, ◌∙◌}
 use Rattle.data_model.specs.Axes.{is_in}
 use Rattle.data_model.specs.Order.{identities}
 use Rattle.fault_codes.specs.declared.code.Code.{Code}
@@ -7,7 +7,7 @@ use Rattle.fault_codes.specs.declared.code.Code.TheVariants as code
 use Rattle.values.specs.declared.atom.Atom.{Atom}
 use Rattle.values.specs.declared.atom.Item.{Item}
 use Rattle.values.specs.declared.atom.Item.TheVariants as item
-use Rattle.query_meaning.specs.Running.{Run, M, trees_of, pure, and_then, ◌>>=◌, come_to, each, turn}
+use Rattle.query_meaning.specs.Running.{Run, M, trees_of, pure, and_then, ◌>>=◌, come_to, each, turn, work, counted}
 use Rattle.query_meaning.specs.Environment.{Environment, with_focus}
 use Rattle.query_meaning.specs.Sequences.{Meaning}
 use Rattle.query_meaning.specs.Operators as operators
@@ -43,13 +43,28 @@ concluded mixed is [] run q h = is_value IsConcluded (operators.nodes (filter (�
 concluded mixed [] (a ∷ more) run q h = is_value IsConcluded (map (λ x. item.Atomic x) (a ∷ more), run) q (Ok (map (λ x. item.Atomic x) (a ∷ more), run)) (inr (a ∷ more, refl)) refl h
 concluded mixed (i ∷ is) (a ∷ more) run q h = absurd (no_value mixed q h)
 
+-- counting leaves the trees
+counted_so : (m : M (List Item)) → Gives IsConcluded m → Gives IsConcluded (counted m)
+counted_so m holds run p h = of (m run) (holds run) h
+  where
+    of_work : (q : List Item × Run) (b : Bool) → IsConcluded q
+        → and_then (if b then Ok (tt, record q.1 { work = q.1.work - (1 + length q.0) }) else Err code.PXQ0002) (λ (_ : Unit {0}). pure q.0) ≡ Ok p → IsConcluded p
+    of_work q true c e = subst IsConcluded (ap (value_of (q.0, record q.1 { work = q.1.work - (1 + length q.0) })) e) c
+    of_work q false c e = absurd (no_value code.PXQ0002 p e)
+
+    of : (r : Result (List Item × Run) Code) → ((q : List Item × Run) → r ≡ Ok q → IsConcluded q)
+        → and_then r (λ items. work (1 + length items) >>= (λ _. pure items)) ≡ Ok p → IsConcluded p
+    of (Ok q) c e = of_work q (nat_le (1 + length q.0) q.1.work) (c q refl) e
+    of (Err x) c e = absurd (no_value x p e)
+
 segment : (mixed : Code) (m : Meaning) (env : Environment) (items : List Item) → Gives IsConcluded (paths.segment mixed env items m)
 segment mixed m env items =
     after_step IsConcluded (come_to (operators.all_nodes code.XPTY0019 items)) _ (λ _.
     after_step IsConcluded (each (λ i f x. turn (m (with_focus x (i + 1) (length items) env) >>= paths.all_found f)) 0 items (record { nodes = []; atoms = [] })) _ (λ (found : paths.Found). concluded mixed found.nodes found.atoms))
 
-segments : (steps : ℕ) (env : Environment) (n : ℕ) (m : Meaning) (ms : List Meaning) (items : List Item) → Gives IsConcluded (each (λ i. paths.segment (paths.mixed_code steps i) env) n (m ∷ ms) items)
-segments steps env n m [] items = last_of (paths.segment (paths.mixed_code steps n) env items m) (segment (paths.mixed_code steps n) m env items)
+segments : (steps : ℕ) (env : Environment) (n : ℕ) (m : Meaning) (ms : List Meaning) (items : List Item) → Gives IsConcluded (each (λ i given k. counted (paths.segment (paths.mixed_code steps i) env given k)) n (m ∷ ms) items)
+segments steps env n m [] items =
+    last_of (counted (paths.segment (paths.mixed_code steps n) env items m)) (counted_so (paths.segment (paths.mixed_code steps n) env items m) (segment (paths.mixed_code steps n) m env items))
   where
     last_of : (m : M (List Item)) → Gives IsConcluded m → Gives IsConcluded (m >>= pure)
     last_of m holds run q h = of (m run) refl h
@@ -57,7 +72,7 @@ segments steps env n m [] items = last_of (paths.segment (paths.mixed_code steps
         of : (r : Result (List Item × Run) Code) → m run ≡ r → and_then r pure ≡ Ok q → IsConcluded q
         of (Ok a) e g = is_value IsConcluded a q (Ok a) (holds run a e) refl g
         of (Err e) e' g = absurd (no_value e q g)
-segments steps env n m (k ∷ ms) items = after_step IsConcluded (paths.segment (paths.mixed_code steps n) env items m) _ (λ more. segments steps env (suc n) k ms more)
+segments steps env n m (k ∷ ms) items = after_step IsConcluded (counted (paths.segment (paths.mixed_code steps n) env items m)) _ (λ more. segments steps env (suc n) k ms more)
 
 pub path_in_order : (m n : Meaning) (ms : List Meaning) (env : Environment) → Gives IsConcluded (paths.path m (n ∷ ms) env)
 path_in_order m n ms env = after_step IsConcluded (m env) _ (λ items. segments (length (n ∷ ms)) env 0 n ms items)

@@ -20,7 +20,7 @@ use Rattle.static_checks.proofs.Faults.{faulty_form}
 use Rattle.static_checks.proofs.Forms.{map_form, form_mapped}
 use Rattle.query_meaning.specs.Running.{Run}
 use Rattle.query_meaning.specs.Sequences.{Meaning}
-use Rattle.query_meaning.specs.Meaning.{meaning_of, mean}
+use Rattle.query_meaning.specs.Meaning.{form_of as form_meant, meaning_of, mean}
 use Rattle.meaning_laws.proofs.Copying.{copy_keeps, own_list_quiet}
 use Rattle.meaning_laws.proofs.Keeps.{IsQuiet, Each}
 use Rattle.meaning_laws.proofs.Forms as form
@@ -133,7 +133,7 @@ module _ (R : Run → Run → Type 0) (s : IsQuiet R) (later : (a b : Run) → R
   abbrev AreGood : List Proved → Type 0
   AreGood ys = Each IsGood ys
 
-  layer : (y : Expr-F Proved) → Fine (judged_form (form_in (form_of y))) → form.Good R s (meaning_of (mapped y))
+  layer : (y : Expr-F Proved) → Fine (judged_form (form_in (form_of y))) → form.Good R s (form_meant (mapped y))
   layer (Expr-F.Integer n) h = form.number R s n
   layer (Expr-F.String text) h = form.string R s text
   layer (Expr-F.Variable x) h = form.variable R s x
@@ -191,7 +191,7 @@ module _ (R : Run → Run → Type 0) (s : IsQuiet R) (later : (a b : Run) → R
   every_later : (x : Expr) → Good x
   unfolding mean
   every_later = ind-Expr Good (λ x y is. subst (λ z. Good (roll-Expr z)) is
-      (λ h. subst (form.Good R s) (sym (fold-roll-Expr Meaning meaning_of (map-Expr Proved Expr expression y))) (layer y (of_form y h))))
+      (λ h. subst (form.Good R s) (sym (fold-roll-Expr Meaning meaning_of (map-Expr Proved Expr expression y))) (form.counts R s (form_meant (mapped y)) (layer y (of_form y h)))))
 
 pub every : (R : Run → Run → Type 0) (s : IsQuiet R) (x : Expr) → may_not_stand (judged x) ≡ false → form.Good R s (mean x)
 every R s x fine env = record { kept = λ run p h. ((every_later (Onward R) (quiet_onward R s) (λ a b k. k.0) x fine env).kept run p h).1 }

@@ -10,7 +10,7 @@ use Rattle.fault_codes.specs.declared.code.Code.{Code}
 use Rattle.fault_codes.specs.declared.code.Code.TheVariants.{PXQ0002}
 use Rattle.values.specs.declared.atom.Item.{Item}
 use Rattle.values.specs.declared.atom.Item.TheVariants as item
-use Rattle.query_meaning.specs.Running.{Run, M, trees_of, pure, fault, and_then, ◌>>=◌, come_to, seen, each, turn, turns, adding, within, joined, most_items}
+use Rattle.query_meaning.specs.Running.{Run, M, trees_of, pure, fault, and_then, ◌>>=◌, come_to, seen, each, turn, turns, work, adding, within, joined, most_items}
 use Rattle.meaning_laws.specs.Given.{Stands, AllStand}
 use Rattle.meaning_laws.proofs.Keeps.{no_value, Each}
 pub use Rattle.meaning_laws.proofs.Nodes.{both_counted}
@@ -138,30 +138,38 @@ loop ps qs body n r [] all t q = pure_ t (λ b k. qs r b t k q)
 loop ps qs body n r (x ∷ xs) all t q = bind (body n r t x q all.0) (λ b k u qu. loop ps qs body (suc n) b xs (each_up ps k xs all.1) u qu)
 
 -- a run over the same trees, with the same next identity
-resumed : {A : Type 0} {Q : Run → A → Type 0} {aside : ℕ → ℕ} (r : Run) (m : M A) (run : Run) (n : ℕ) (p : A × Run)
-    → Holds r A Q m → IsSound aside run → IsAbove r run → m (record run { turns = n }) ≡ Ok p → Ends A Q (λ _. aside) run p
-resumed {aside = aside} r m run n p h s k e =
-    let same : IsSound aside (record run { turns = n }) =
+resumed : {A : Type 0} {Q : Run → A → Type 0} {aside : ℕ → ℕ} (r : Run) (m : M A) (run : Run) (n u : ℕ) (p : A × Run)
+    → Holds r A Q m → IsSound aside run → IsAbove r run → m (record run { turns = n; work = u }) ≡ Ok p → Ends A Q (λ _. aside) run p
+resumed {aside = aside} r m run n u p h s k e =
+    let same : IsSound aside (record run { turns = n; work = u }) =
     record { once = s.once; below = s.below; fresh = s.fresh; started = s.started; documents = s.documents } in
-    let z = (h.holds aside).passes (record run { turns = n }) same (record { stand = k.stand; more = k.more }) p e in
+    let z = (h.holds aside).passes (record run { turns = n; work = u }) same (record { stand = k.stand; more = k.more }) p e in
     record { sound = z.sound; above = record { stand = z.above.stand; more = z.above.more }; value = z.value }
 
 turn_if : {A : Type 0} {Q : Run → A → Type 0} {aside : ℕ → ℕ} (r : Run) (m : M A) (run : Run) (p : A × Run) (b : Bool)
     → Holds r A Q m → IsSound aside run → IsAbove r run
     → (if b then Err PXQ0002 else m (record run { turns = run.turns - 1 })) ≡ Ok p → Ends A Q (λ _. aside) run p
 turn_if r m run p true h s k e = absurd (no_value PXQ0002 p e)
-turn_if r m run p false h s k e = resumed r m run (run.turns - 1) p h s k e
+turn_if r m run p false h s k e = resumed r m run (run.turns - 1) run.work p h s k e
 
 pub turn_ : {r : Run} {A : Type 0} {Q : Run → A → Type 0} {m : M A} → Holds r A Q m → Holds r A Q (turn m)
 turn_ {r = r} {m = m} h = hold (λ aside run s k p e. turn_if r m run p (run.turns == 0) h s k e)
 
 spent_if : {aside : ℕ → ℕ} (r : Run) (n : ℕ) (run : Run) (p : Unit {0} × Run) (b : Bool) → IsSound aside run → IsAbove r run
     → (if b then Ok (tt, record run { turns = run.turns - n }) else Err PXQ0002) ≡ Ok p → Ends (Unit {0}) Any (λ _. aside) run p
-spent_if r n run p true s k e = resumed r (pure tt) run (run.turns - n) p (pure_ tt (λ b j. tt)) s k e
+spent_if r n run p true s k e = resumed r (pure tt) run (run.turns - n) run.work p (pure_ tt (λ b j. tt)) s k e
 spent_if r n run p false s k e = absurd (no_value PXQ0002 p e)
 
 pub turns_ : {r : Run} (n : ℕ) → Holds r (Unit {0}) Any (turns n)
 turns_ {r = r} n = hold (λ aside run s k p e. spent_if r n run p (nat_le n run.turns) s k e)
+
+worked_if : {aside : ℕ → ℕ} (r : Run) (n : ℕ) (run : Run) (p : Unit {0} × Run) (b : Bool) → IsSound aside run → IsAbove r run
+    → (if b then Ok (tt, record run { work = run.work - n }) else Err PXQ0002) ≡ Ok p → Ends (Unit {0}) Any (λ _. aside) run p
+worked_if r n run p true s k e = resumed r (pure tt) run run.turns (run.work - n) p (pure_ tt (λ b j. tt)) s k e
+worked_if r n run p false s k e = absurd (no_value PXQ0002 p e)
+
+pub work_ : {r : Run} (n : ℕ) → Holds r (Unit {0}) Any (work n)
+work_ {r = r} n = hold (λ aside run s k p e. worked_if r n run p (nat_le n run.work) s k e)
 
 -- Update primitives.
 

@@ -19,6 +19,7 @@ same_forest = record {
     same = λ run. refl;
     chained = λ a b c h g. g ∙ h;
     turned = λ run n. refl;
+    worked = λ run n. refl;
     numbered = λ run n h. refl;
     stood = λ run ts. refl;
     changed = λ a b is ps h from. h;
@@ -40,6 +41,7 @@ numbers = record {
     same = λ run. (omega arith, λ h. h);
     chained = λ a b c h g. (omega (arith, h.0, g.0), λ w. g.1 (h.1 w));
     turned = λ run n. (omega arith, λ h. h);
+    worked = λ run n. (omega arith, λ h. h);
     numbered = λ run n h. (omega arith, λ w. leb-true (run.shelf.own.next + n) (run.shelf.lent.next + most_nodes) h);
     stood = λ run ts. (omega arith, λ h. h);
     changed = λ a b is ps h from. h;
@@ -61,6 +63,7 @@ more_primitives = record {
     same = λ run. ([], sym (append-nil run.primitives));
     chained = λ a b c h g. (h.0 ++ g.0, g.1 ∙ ap (λ xs. xs ++ g.0) h.1 ∙ append_assoc a.primitives h.0 g.0);
     turned = λ run n. ([], sym (append-nil run.primitives));
+    worked = λ run n. ([], sym (append-nil run.primitives));
     numbered = λ run n h. ([], sym (append-nil run.primitives));
     stood = λ run ts. ([], sym (append-nil run.primitives));
     changed = λ a b is ps h from. h;
@@ -96,6 +99,7 @@ stand_first n ts low = record {
     same = λ run h. h;
     chained = λ a b c h g k. g (h k);
     turned = λ run m h. h;
+    worked = λ run m h. h;
     numbered = λ run m room h. (omega (arith, h.0), h.1);
     stood = λ run us h. (h.0, both_beside ts run.shelf.own.trees _ h.1 (us, refl));
     changed = λ a b is ps stay from h. (let g = stay h in (g.0, changed a.shelf.own.next is ps b.shelf.own.trees h.0 from g.1));
@@ -117,6 +121,7 @@ same_primitives = record {
   same = λ run. refl;
   chained = λ a b c h g. g ∙ h;
   turned = λ run n. refl;
+  worked = λ run n. refl;
   numbered = λ run n h. refl;
   stood = λ run ts. refl;
   changed = λ a b is ps h from. h;
@@ -133,6 +138,7 @@ quiet_onward R s = record {
   same = λ run. (omega arith, s.same run);
   chained = λ a b c h g. (omega (arith, h.0, g.0), s.chained a b c h.1 g.1);
   turned = λ run n. (omega arith, s.turned run n);
+  worked = λ run n. (omega arith, s.worked run n);
   numbered = λ run n room. (omega arith, s.numbered run n room);
   stood = λ run ts. (omega arith, s.stood run ts);
   changed = λ a b is ps h from. (h.0, s.changed a b is ps h.1 from);
@@ -156,6 +162,7 @@ steady_whichever R s = record {
     same = λ run ps. s.same (record run { primitives = ps });
     chained = λ a b c h g ps. s.chained (record a { primitives = ps }) (record b { primitives = ps }) (record c { primitives = ps }) (h ps) (g ps);
     turned = λ run n ps. s.turned (record run { primitives = ps }) n;
+    worked = λ run n ps. s.worked (record run { primitives = ps }) n;
     numbered = λ run n room ps. s.numbered (record run { primitives = ps }) n room;
     stood = λ run ts ps. s.stood (record run { primitives = ps }) ts;
     changed = λ a b is qs h from ps. s.changed (record a { primitives = ps }) (record b { primitives = ps }) is qs (h ps) from;

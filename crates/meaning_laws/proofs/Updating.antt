@@ -135,6 +135,7 @@ module _ (R : Run → Run → Type 0) (s : IsSteady R) (later : (a b : Run) → 
 
   forms : Forms (form.Good R s.quiet)
   forms = record {
+    counts = form.counts R s.quiet;
     number = form.number R s.quiet;
     string = form.string R s.quiet;
     variable = form.variable R s.quiet;
