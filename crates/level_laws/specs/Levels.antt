@@ -7,8 +7,8 @@ use Rattle.query_grammar.specs.declared.ast.Binding.{Binding}
 use Rattle.query_grammar.specs.declared.ast.Expr.{Expr, fold-Expr}
 use Rattle.query_grammar.specs.declared.ast.Expr.TheOpen.{Expr-F}
 use Rattle.query_meaning.specs.Environment.{no_environment}
-use Rattle.query_meaning.specs.Meaning.{Outcome, meaning_of, outcome, start}
-use Rattle.query_meaning.specs.Running.{fault}
+use Rattle.query_meaning.specs.Meaning.{Outcome, form_of, outcome, start}
+use Rattle.query_meaning.specs.Running.{counted, fault}
 use Rattle.query_meaning.specs.Sequences.{Meaning}
 
 -- what a copy means, by what its sources, its changes and its result mean
@@ -19,10 +19,14 @@ Copying = List (Binding Meaning) → (changes result : Meaning) → Meaning
 abbrev pub no_copying : Copying
 no_copying = λ bs changes result env. fault XPST0003
 
--- an expression, by what its parts mean, where a copy means that
+-- a form of expressions, by what its parts mean, where a copy means that
+abbrev pub form_with : Copying → Expr-F Meaning → Meaning
+form_with k (Expr-F.Copy bs changes m) = k bs changes m
+form_with k f = form_of f
+
+-- an expression, whose work is counted, where a copy means that
 abbrev pub meaning_with : Copying → Expr-F Meaning → Meaning
-meaning_with k (Expr-F.Copy bs changes m) = k bs changes m
-meaning_with k x = meaning_of x
+meaning_with k f = λ env. counted (form_with k f env)
 
 unfoldable pub mean_with : Copying → Expr → Meaning
 mean_with k = fold-Expr Meaning (meaning_with k)
