@@ -1,7 +1,8 @@
 -- What stands above a node.
 use Prim.Native.Nat.{zero, suc}
-use Rattle.std.proofs.Common.{◌≡◌, ℕ, ◌≤◌, ◌<◌, Bool, true, false, ◌||◌, List, [], ◌∷◌, ◌++◌, eqb, refl, ap, sym, ◌∙◌, arith, ⊎_elim, ◌⊎◌, inl, inr, Option, Some, None, IsSome, subst}
+use Rattle.std.proofs.Common.{◌≡◌, ℕ, ◌≤◌, ◌<◌, Bool, true, false, ◌||◌, List, [], ◌∷◌, ◌++◌, ◌+◌, length, eqb, refl, ap, sym, ◌∙◌, arith, ⊎_elim, ◌⊎◌, inl, inr, Option, Some, None, IsSome, subst}
 use Rattle.std.proofs.lemmas.Bool.Decides.{eqb_tells}
+use Rattle.std.proofs.lemmas.List.{length-append}
 use Rattle.std.proofs.lemmas.List.Folds.{list_any-append}
 use Rattle.data_model.specs.Trees.{Trees, no_trees, tree, Place, find, parent_at, parent_of, count}
 use Rattle.data_model.specs.Order.{identities}
@@ -120,6 +121,10 @@ module _ (ts : Trees) (d : AreDistinct ts) where
       ∙ ⊎_elim (λ none. (path-top p ts d there none).0 ∙ ap (λ xs. xs ++ p ∷ []) (sym (ancestors-none p none)))
       (λ s. (path-up p s.0 ts d there s.1).2 ∙ ap (λ xs. xs ++ p ∷ []) (sym (ancestors-path p s.0 s.1)))
       (option-cases (parent_of p ts))
+
+  -- one more than the parent has
+  pub ancestors-more : (a p : ℕ) → parent_of a ts ≡ Some p → length (on_axis Ancestor ts a) ≡ length (on_axis Ancestor ts p) + 1
+  ancestors-more a p is = ap length (ancestors-up a p is) ∙ length-append (on_axis Ancestor ts p) (p ∷ [])
 
   pub on-parent : (a p : ℕ) → parent_of a ts ≡ Some p → on_axis Parent ts a ≡ p ∷ []
   on-parent a p is = filter-same (is_parent ts a) (eqb p) (identities ts) (λ b _. ap (λ o. is_parent_at o b) is) ∙ on-self ts d p (up a p is).1

@@ -1,4 +1,4 @@
-//! The nodes of an axis step and operators between sets of nodes.
+//! The nodes of an axis step, how many it looks at, and operators between sets of nodes.
 //!
 //! Contracts speak of the definition of what expressions mean, and of the trees of a run.
 #![tactic(auto)]
@@ -9,7 +9,9 @@ mod identities;
 mod node_tests;
 mod sets;
 mod siblings;
+mod work;
 
 pub use axes::nodes_of_step;
 pub use identities::Identities;
 pub use sets::{all_nodes, except, intersect, union};
+pub use work::looked_at;

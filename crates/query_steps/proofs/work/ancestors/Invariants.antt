@@ -1,0 +1,16 @@
+use Rattle.std.proofs.Common.{◌≡◌, ◌+◌, ◌≤◌, IsSome, length}
+use Rattle.data_model.specs.Axes.{on_axis}
+use Rattle.data_model.specs.Trees.{find}
+use Rattle.data_model.specs.Walks.{depth_of}
+use Rattle.data_model.specs.declared.axis.Axis.TheVariants.{Ancestor}
+use Rattle.shelves.specs.Shelf.{shelf_trees}
+use Rattle.query_steps.proofs.work.ancestors.Given as goal
+
+abbrev pub invariant-loop-parent : goal.invariant-loop-parent
+invariant-loop-parent l =
+    IsSome (find l.at (shelf_trees l.shelf))
+    × (l.above + depth_of l.at (shelf_trees l.shelf) ≤ depth_of l.fn.node (shelf_trees l.shelf))
+    × (l.above + length (on_axis Ancestor (shelf_trees l.shelf) l.at) ≡ length (on_axis Ancestor (shelf_trees l.shelf) l.fn.node))
+
+abbrev pub decreases-loop-parent : goal.decreases-loop-parent
+decreases-loop-parent l = depth_of l.at (shelf_trees l.shelf)
