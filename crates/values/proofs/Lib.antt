@@ -1,6 +1,7 @@
 pub mod Trims
 pub mod Numbers
 pub mod Pairs
+pub mod Codes
 pub mod Atomized
 pub mod Escapes
 pub mod Limits

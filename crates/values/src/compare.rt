@@ -48,11 +48,11 @@ impl Comparison {
     }
 }
 
-/// The order of two texts by code points (Functions and Operators, section 7.3.1).
+/// The order of two texts by code points (Functions and Operators, section 7.3.1), which is that of their bytes in UTF-8.
 fn compare_text(left: &str, right: &str) -> Ordering
     ensures { result ≡ string_cmp left.now right.now }
 {
-    left.chars().cmp(right.chars())
+    left.cmp(right)
 }
 
 /// The order of two values of one type, where untyped is a string; `None` where they are of different types.
