@@ -1,18 +1,20 @@
 -- New nodes take the next identities, each its own.
-use Rattle.std.proofs.Common.{◌≡◌, ℕ, zero, suc, ◌+◌, ◌<◌, ◌≤◌, eqb, cond, Bool, true, false, nat_le, if◌then◌else◌, List, [], ◌∷◌, Result, Ok, Err, refl, subst, ◌∙◌, arith}
-use Rattle.data_model.specs.Changes.{renumbered}
-use Rattle.data_model.specs.Trees.{Trees, no_trees, leaf, Content, append, count, size, find}
+use Rattle.std.proofs.Common.{◌≡◌, ℕ, zero, suc, ◌+◌, ◌-◌, ◌/◌, ◌<◌, ◌≤◌, eqb, cond, Bool, true, false, nat_le, if◌then◌else◌, List, [], ◌∷◌, Result, Ok, Err, refl, subst, ◌∙◌, arith}
+use Rattle.data_model.specs.Changes.{pick, renumbered}
+use Rattle.data_model.specs.Trees.{Trees, no_trees, leaf, Content, append, bytes_in, count, size, find}
 use Rattle.data_model.proofs.Weights.{weigh-append}
 use Rattle.node_table.proofs.Copies.{in-renumbered, renumbered-within}
 use Rattle.node_table.proofs.Ups.{same-ids}
 use Rattle.fault_codes.specs.declared.code.Code.{Code}
-use Rattle.fault_codes.specs.declared.code.Code.TheVariants.{PXQ0003}
+use Rattle.fault_codes.specs.declared.code.Code.TheVariants.{PXQ0002, PXQ0003}
 use Rattle.values.specs.declared.atom.Item.{Item}
 use Rattle.values.specs.declared.fault.ValueFault.{ValueFault}
-use Rattle.query_meaning.specs.Running.{M, Run, trees_of, pure, and_then, ◌>>=◌, come_to, each, new_nodes, most_nodes}
+use Rattle.query_meaning.specs.Running.{M, Run, trees_of, pure, and_then, ◌>>=◌, come_to, each, new_nodes, most_nodes, work}
+use Rattle.values.specs.Work.{text_work}
 use Rattle.query_meaning.specs.Strings.{spaced}
 use Rattle.query_meaning.specs.Content as meaning
 use Rattle.evaluation.specs.Gives.{Any, GivesIn}
+use Rattle.copied_content.specs.Copying.{copied_as_new}
 use Rattle.copied_content.specs.New.{IsNew}
 
 -- trees whose nodes have distinct identities, of those from n on up to m
@@ -92,11 +94,22 @@ new_if n g run p false h e = absurd (no_value PXQ0003 p e)
 taken_new : (n : ℕ) (g : ℕ → Trees) → ((i : ℕ) → AreNew i (i + n) (g i)) → MakesNew (new_nodes n >>= (λ i. pure (g i)))
 taken_new n g h run p e = new_if n g run p (nat_le (run.shelf.own.next + n) (run.shelf.lent.next + most_nodes)) (h run.shelf.own.next) e
 
+-- work changes no trees
+after_work : (n : ℕ) (m : M Trees) → MakesNew m → MakesNew (work n >>= (λ _. m))
+after_work n m h run p e = spent (nat_le n run.work) e
+  where
+    spent : (b : Bool) → and_then {A = Unit {0}} (if b then Ok (tt, record run { work = run.work - n }) else Err PXQ0002) (λ _. m) ≡ Ok p → IsNew run p.0 p.1
+    spent true e = let k = h (record run { work = run.work - n }) p e in record { lent = k.lent; own = k.own; next = k.next; distinct = k.distinct; later = k.later; below = k.below }
+    spent false e = absurd (no_value PXQ0002 p e)
+
 pub text_new : (text : List ℕ) → MakesNew (meaning.new_text text)
-text_new text = taken_new 1 (meaning.text_node text) (λ i. leaf_new i _ refl)
+text_new text = after_work (text_work text) (new_nodes 1 >>= (λ i. pure (meaning.text_node text i))) (taken_new 1 (meaning.text_node text) (λ i. leaf_new i _ refl))
+
+as_new : (i : ℕ) → MakesNew (copied_as_new i)
+as_new i run p e = let us = meaning.source_at i (trees_of run) (find i (trees_of run)) in taken_new (size us) (λ n. renumbered n us) (λ n. copy_new n us) run p e
 
 copied_new : (i : ℕ) → MakesNew (meaning.copied i)
-copied_new i run p e = let us = meaning.source_at i (trees_of run) (find i (trees_of run)) in taken_new (size us) (λ n. renumbered n us) (λ n. copy_new n us) run p e
+copied_new i run p e = after_work (bytes_in (pick i (trees_of run)) / 16) (copied_as_new i) (as_new i) run p e
 
 part_new : (x : meaning.Part) → MakesNew (meaning.made x)
 part_new (meaning.values more) = after_value (spaced more) meaning.new_text text_new

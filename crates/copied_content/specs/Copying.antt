@@ -2,17 +2,21 @@
 use Rattle.std.specs.Prelude.{ℕ, List, [], ◌∷◌, ◌++◌, refl}
 use Rattle.std.specs.Coded.{Coded, code_by, coded×, coded_list}
 use Rattle.data_model.specs.Changes.{renumbered}
-use Rattle.data_model.specs.Trees.{Trees, no_trees, coded_trees, append, size}
+use Rattle.data_model.specs.Trees.{Trees, no_trees, coded_trees, append, find, size}
 use Rattle.values.specs.contracts.atom.Atom as of_atom
 use Rattle.values.specs.declared.atom.Atom.{Atom}
 use Rattle.values.specs.declared.atom.Item.{Item}
 use Rattle.values.specs.declared.atom.Item.TheVariants as item
-use Rattle.query_meaning.specs.Running.{M, pure, ◌>>=◌, new_nodes}
-use Rattle.query_meaning.specs.Content.{copied, made, values as values_part}
+use Rattle.query_meaning.specs.Running.{M, pure, ◌>>=◌, new_nodes, seen}
+use Rattle.query_meaning.specs.Content.{copied, made, source_at, values as values_part}
 
 -- trees whose nodes take the next identities, in preorder
 abbrev pub numbered : Trees → M Trees
 numbered us = new_nodes (size us) >>= (λ n. pure (renumbered n us))
+
+-- a copy of a node, but for its work
+abbrev pub copied_as_new : ℕ → M Trees
+copied_as_new i = seen (λ ts. source_at i ts (find i ts)) >>= numbered
 
 -- copied content, and the atomic values after it
 pub record Partial : Type 0 where

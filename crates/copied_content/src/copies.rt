@@ -6,7 +6,7 @@ ghost use Rattle.shelves.specs.Shelf.{shelf_trees};
 ghost use Rattle.query_meaning.specs.Content as meaning;
 ghost use Rattle.query_meaning.specs.Running.{trees_of};
 ghost use Rattle.evaluation.specs.Gives.{Any, Fails, GivesIn};
-ghost use Rattle.copied_content.specs.Copying.{numbered};
+ghost use Rattle.copied_content.specs.Copying.{copied_as_new, numbered};
 
 use crate::copied::CopiedContent;
 use data_model::{node_count, renumber};
@@ -21,11 +21,21 @@ const MOST_NODES: u64 = 100_000;
 /// The identity after the last that there may be.
 const PAST_IDENTITIES: u64 = 1 << 62;
 
-/// A copy of the tree of a node, or of a document's children, whose nodes take the next identities in document order. Code: PXQ0003
-/// where the evaluation would have made more than 100,000 nodes; no more of them are copied.
+/// A copy of the tree of a node, or of a document's children, whose nodes take the next identities in document order. It takes the work of
+/// the node's texts. Codes: PXQ0002 where too little work is left, and then nothing is copied; PXQ0003 where the evaluation would have made
+/// more than 100,000 nodes, and then no more than these are.
 pub(crate) fn copied(run: &mut Evaluation, node: NodeId) -> Result<CopiedContent, ValueFault>
     requires there { IsSome (find node (trees_of run.old)) }
     ensures { GivesIn Any (meaning.copied node) run.old result run.new }
+{
+    run.pay_copy(node)?;
+    copied_as_new(run, node)
+}
+
+/// The same, but for its work.
+fn copied_as_new(run: &mut Evaluation, node: NodeId) -> Result<CopiedContent, ValueFault>
+    requires there { IsSome (find node (trees_of run.old)) }
+    ensures { GivesIn Any (copied_as_new node) run.old result run.new }
 {
     let content = sources(run, node)?;
     numbered(run, content)
@@ -37,7 +47,7 @@ fn sources(run: &Evaluation, node: NodeId) -> Result<CopiedContent, ValueFault>
     requires there { IsSome (find node (trees_of run.now)) }
     ensures ok { IfOk result (λ us. us ≡ meaning.source_at node (trees_of run.now) (find node (trees_of run.now))) }
     ensures few { IfOk result (λ us. size us < 2 ^ 64) }
-    ensures err { IfErr result (λ fault. Fails (meaning.copied node run.now) fault) }
+    ensures err { IfErr result (λ fault. Fails (copied_as_new node run.now) fault) }
 {
     let shelf = run.shelf();
     shelf.facts();

@@ -9,12 +9,14 @@ use crate::copied::CopiedContent;
 use evaluation::Evaluation;
 use std::alloc::{AllocError, Global};
 use trees::{Content, Kind, NodeId, Tree};
-use values::ValueFault;
+use values::{ValueFault, text_work};
 
-/// A new text. Code: PXQ0003 where the evaluation would have made more than 100,000 nodes.
+/// A new text, which takes its work. Codes: PXQ0002 where too little work is left; PXQ0003 where the evaluation would have made more than
+/// 100,000 nodes.
 pub fn new_text(run: &mut Evaluation, text: &str) -> Result<CopiedContent, ValueFault>
     ensures { GivesIn (IsNew run.old) (meaning.new_text text.now) run.old result run.new }
 {
+    run.spend(text_work(text))?;
     let identity = run.new_nodes(1)?;
     Ok(text_node(run.alloc(), text, identity)?)
 }
