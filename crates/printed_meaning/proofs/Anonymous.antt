@@ -1,11 +1,11 @@
 -- What trees say but for identities, and what it decides.
-use Rattle.std.proofs.Common.{◌≡◌, ℕ, suc, ◌+◌, Bool, true, false, ◌&&◌, nat_le, if◌then◌else◌, List, length, refl, ap, ap₂, sym, ◌∙◌}
+use Rattle.std.proofs.Common.{◌≡◌, ℕ, suc, ◌+◌, ◌/◌, Bool, true, false, ◌&&◌, nat_le, if◌then◌else◌, List, length, refl, ap, ap₂, sym, ◌∙◌}
 use Rattle.data_model.specs.Changes.{renumbered}
 use Rattle.data_model.specs.Tidy.{lacks_name, has_distinct_names, begins_with_text}
-use Rattle.data_model.specs.Trees.{Trees, no_trees, tree, append, roots, size, height}
+use Rattle.data_model.specs.Trees.{Trees, no_trees, tree, append, bytes_in, roots, size, height}
 use Rattle.data_model.specs.declared.node.Kind.{Kind}
 use Rattle.query_meaning.specs.Content.{those, are_all, is_attribute, is_other, has_attributes_first, has_room, most_below, most_height}
-use Rattle.printed_meaning.specs.Made.{anonymous}
+use Rattle.printed_meaning.specs.Made.{anonymous, copy_work}
 
 pub anonymous_append : (ts us : Trees) → anonymous (append ts us) ≡ append (anonymous ts) (anonymous us)
 anonymous_append no_trees us = refl
@@ -38,6 +38,14 @@ same_size (tree c bs cs rest) = rw (same_size bs, same_size cs, same_size rest)
 pub same_height : (ts : Trees) → height (anonymous ts) ≡ height ts
 same_height no_trees = refl
 same_height (tree c bs cs rest) = rw (same_height bs, same_height cs, same_height rest)
+
+pub same_bytes : (ts : Trees) → bytes_in (anonymous ts) ≡ bytes_in ts
+same_bytes no_trees = refl
+same_bytes (tree c bs cs rest) = rw (same_bytes bs, same_bytes cs, same_bytes rest)
+
+pub same_copy_work : (ts : Trees) → copy_work (anonymous ts) ≡ copy_work ts
+same_copy_work no_trees = refl
+same_copy_work (tree c bs cs rest) = ap₂ (λ n m. n / 16 + m) (same_bytes (tree c bs cs no_trees)) (same_copy_work rest)
 
 pub same_all : (f : Kind → Bool) (ts : Trees) → are_all f (anonymous ts) ≡ are_all f ts
 same_all f no_trees = refl

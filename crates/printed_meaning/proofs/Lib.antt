@@ -1,5 +1,6 @@
 pub mod Anonymous
 pub mod Depths
+pub mod Bounds
 pub mod Tidy
 pub mod Parts
 pub mod Runs

@@ -1,5 +1,5 @@
 -- Runs in which new trees stand.
-use Rattle.std.proofs.Common.{◌≡◌, ◌⊎◌, ℕ, ◌+◌, ◌<◌, ◌≤◌, Bool, cond, eqb, if◌then◌else◌, Some, None, IsSome, Result, Ok, Err, refl, ap, sym, ◌∙◌, subst, ⊎_elim, arith}
+use Rattle.std.proofs.Common.{◌≡◌, ◌⊎◌, ℕ, ◌+◌, ◌-◌, ◌<◌, ◌≤◌, Bool, cond, eqb, if◌then◌else◌, List, length, Some, None, IsSome, Result, Ok, Err, refl, ap, sym, ◌∙◌, subst, ⊎_elim, arith}
 use Rattle.std.proofs.lemmas.Bool.{le-leb, lt-leb, cases_lt}
 use Rattle.std.proofs.lemmas.Bool.Decides.{eqb_tells}
 use Rattle.data_model.specs.Changes.{pick}
@@ -8,8 +8,9 @@ use Rattle.data_model.proofs.Climbs.{any-tells, there-counts}
 use Rattle.data_model.proofs.Weights.{weigh-append, append-append, eqb-same}
 use Rattle.trees.proofs.Lent.{find-lent, find-own, pick-lent, pick-own}
 use Rattle.fault_codes.specs.declared.code.Code.{Code}
-use Rattle.fault_codes.specs.declared.code.Code.TheVariants.{PXQ0003}
-use Rattle.query_meaning.specs.Running.{Run, M, trees_of, and_then, come_to, new_nodes, most_nodes}
+use Rattle.fault_codes.specs.declared.code.Code.TheVariants.{PXQ0002, PXQ0003}
+use Rattle.values.specs.declared.atom.Item.{Item}
+use Rattle.query_meaning.specs.Running.{Run, M, trees_of, pure, and_then, ◌>>=◌, come_to, new_nodes, work, counted, most_nodes}
 
 -- after a step that came to a value
 pub after : {A B : Type 0} {r : Result (A × Run) Code} {p : A × Run} (f : A → M B) → r ≡ Ok p → and_then r f ≡ f p.0 p.1
@@ -31,8 +32,8 @@ abbrev pub grown : Run → Trees → ℕ → Run
 grown run us n = holding run (append run.shelf.own.trees us) n
 
 -- with another next identity
-abbrev pub counted : Run → ℕ → Run
-counted run n = holding run run.shelf.own.trees n
+abbrev pub numbered : Run → ℕ → Run
+numbered run n = holding run run.shelf.own.trees n
 
 pub trees_grown : (run : Run) (us : Trees) (n : ℕ) → trees_of (grown run us n) ≡ append (trees_of run) us
 trees_grown run us n = sym (append-append run.shelf.lent.trees run.shelf.own.trees us)
@@ -49,17 +50,46 @@ pub room_or_not : (run : Run) (n : ℕ) → LacksRoom run n ⊎ HasRoom run n
 room_or_not run n = cases_lt (run.shelf.lent.next + most_nodes) (run.shelf.own.next + n)
 
 abbrev if_room : ℕ → Run → Bool → Result (ℕ × Run) Code
-if_room n run b = if b then Ok (run.shelf.own.next, counted run (run.shelf.own.next + n)) else Err PXQ0003
+if_room n run b = if b then Ok (run.shelf.own.next, numbered run (run.shelf.own.next + n)) else Err PXQ0003
 
-pub new_nodes_come : (n : ℕ) (run : Run) → HasRoom run n → new_nodes n run ≡ Ok (run.shelf.own.next, counted run (run.shelf.own.next + n))
+pub new_nodes_come : (n : ℕ) (run : Run) → HasRoom run n → new_nodes n run ≡ Ok (run.shelf.own.next, numbered run (run.shelf.own.next + n))
 new_nodes_come n run h = ap (if_room n run) (le-leb (run.shelf.own.next + n) (run.shelf.lent.next + most_nodes) h)
 
 pub new_nodes_fail : (n : ℕ) (run : Run) → LacksRoom run n → new_nodes n run ≡ Err PXQ0003
 new_nodes_fail n run h = ap (if_room n run) (lt-leb (run.shelf.own.next + n) (run.shelf.lent.next + most_nodes) h)
 
+-- after so much work
+abbrev pub spent : Run → ℕ → Run
+spent run n = record run { work = run.work - n }
+
+-- so much work may be done
+abbrev pub HasWork : Run → ℕ → Type 0
+HasWork run n = n ≤ run.work
+
+pub spent_twice : {A : Type 0} (a : A) (run : Run) (n m k : ℕ) → n + m ≡ k → (let r : Result (A × Run) Code = Ok (a, spent (spent run n) m) in r) ≡ Ok (a, spent run k)
+spent_twice {A = A} a run n m k e =
+    ap (λ w. let r : Result (A × Run) Code = Ok (a, record run { work = w }) in r) (let same : run.work - n - m ≡ run.work - k = omega (arith, e) in same)
+
+abbrev if_work : ℕ → Run → Bool → Result (Unit {0} × Run) Code
+if_work n run b = if b then Ok (tt, spent run n) else Err PXQ0002
+
+pub work_comes : (n : ℕ) (run : Run) → HasWork run n → work n run ≡ Ok (tt, spent run n)
+work_comes n run h = ap (if_work n run) (le-leb n run.work h)
+
+-- what comes to items, and is counted
+pub counted_comes : (m : M (List Item)) (items : List Item) (run last : Run) → m run ≡ Ok (items, last) → HasWork last (1 + length items)
+    → counted m run ≡ Ok (items, spent last (1 + length items))
+counted_comes m items run last e h = after (λ xs. work (1 + length xs) >>= (λ _. pure xs)) e ∙ after (λ _. pure items) (work_comes (1 + length items) last h)
+
+pub counted_fails : {code : Code} (m : M (List Item)) (run : Run) → m run ≡ Err code → counted m run ≡ Err code
+counted_fails m run e = after_fault (λ xs. work (1 + length xs) >>= (λ _. pure xs)) e
+
 -- each node's identity is below the next one
 pub record IsBelow (run : Run) : Type 0 where
   pub below : (i : ℕ) → 0 < count i (trees_of run) → i < run.shelf.own.next
+
+pub spent_below : (run : Run) (n : ℕ) → IsBelow run → IsBelow (spent run n)
+spent_below run n h = record { below = h.below }
 
 -- the identities of the trees' nodes are from n on, and below m
 pub record AreBetween (n m : ℕ) (us : Trees) : Type 0 where

@@ -11,9 +11,9 @@ use Rattle.values.specs.declared.atom.Item.TheVariants as item
 use Rattle.query_grammar.specs.declared.ast.Expr.{Expr}
 use Rattle.query_meaning.specs.Environment.{no_environment}
 use Rattle.query_meaning.specs.Meaning.{mean, evaluated, start, outcome, Outcome}
-use Rattle.query_meaning.specs.Running.{most_nodes}
+use Rattle.query_meaning.specs.Running.{most_nodes, most_work}
 use Rattle.printed_trees.specs.Constructors.{IsPrintable, IsPrintableTree, is_tidy_root, tree_expressions, place_expression, item_expression}
-use Rattle.printed_meaning.specs.Made.{anonymous, depths, have_room, tree_at, IsMade}
+use Rattle.printed_meaning.specs.Made.{anonymous, depths, have_room, tree_at, work_of, IsMade}
 use Rattle.printed_meaning.proofs.Made.{Remade, Makes}
 use Rattle.printed_meaning.proofs.Nodes.{node_makes, parts_make, trees_make}
 use Rattle.printed_meaning.proofs.Runs.{IsBelow}
@@ -45,7 +45,7 @@ place_makes c bs cs h room =
 start_below : (lent : ForestTerm) → IsForest lent → IsBelow (start lent)
 start_below lent h = record { below = λ i there. h.below i (subst (λ ts. 0 < count i ts) (append-none lent.trees) there) }
 
-of_remade : (c : Content) (bs cs : Trees) (lent : ForestTerm) (x : Expr) → Remade c bs cs (start lent) (mean x no_environment (start lent)) → (o : Outcome) × (evaluated x lent ≡ Ok o) × IsMade (tree c bs cs no_trees) lent o
+of_remade : (c : Content) (bs cs : Trees) (lent : ForestTerm) (x : Expr) → Remade (work_of (tree c bs cs no_trees)) c bs cs (start lent) (mean x no_environment (start lent)) → (o : Outcome) × (evaluated x lent ≡ Ok o) × IsMade (tree c bs cs no_trees) lent o
 unfolding evaluated
 of_remade c bs cs lent x r =
     let trees : append (append lent.trees no_trees) r.stood ≡ append lent.trees r.stood = ap (λ ts. append ts r.stood) (append-none lent.trees) in (
@@ -66,10 +66,10 @@ module _ (ts : Trees) (i : ℕ) (x : Place) (lent : ForestTerm) (found : find i 
   makes : Makes (mean (item_expression ts (item.Node i))) x.content x.attributes x.children
   makes = subst (λ o. Makes (mean (place_expression o)) x.content x.attributes x.children) (sym found) (place_makes x.content x.attributes x.children h room)
 
-  pub tree_is_made : depths 1 (tree_at x) ≤ most_nodes → (o : Outcome) × (evaluated (item_expression ts (item.Node i)) lent ≡ Ok o) × IsMade (tree_at x) lent o
-  tree_is_made few =
-      of_remade x.content x.attributes x.children lent (item_expression ts (item.Node i)) (makes.made no_environment (start lent) (start_below lent forest) (omega (arith, few)))
+  pub tree_is_made : depths 1 (tree_at x) ≤ most_nodes → work_of (tree_at x) ≤ most_work → (o : Outcome) × (evaluated (item_expression ts (item.Node i)) lent ≡ Ok o) × IsMade (tree_at x) lent o
+  tree_is_made few enough =
+      of_remade x.content x.attributes x.children lent (item_expression ts (item.Node i)) (makes.made no_environment (start lent) (start_below lent forest) (omega (arith, few)) enough)
 
-  pub tree_is_refused : most_nodes < depths 1 (tree_at x) → evaluated (item_expression ts (item.Node i)) lent ≡ Err PXQ0003
+  pub tree_is_refused : most_nodes < depths 1 (tree_at x) → work_of (tree_at x) ≤ most_work → evaluated (item_expression ts (item.Node i)) lent ≡ Err PXQ0003
   unfolding evaluated
-  tree_is_refused many = ap outcome (makes.refused no_environment (start lent) (start_below lent forest) (omega arith) (omega (arith, many)))
+  tree_is_refused many enough = ap outcome (makes.refused no_environment (start lent) (start_below lent forest) (omega arith) (omega (arith, many)) enough)

@@ -5,6 +5,6 @@ use Rattle.printed_meaning.proofs.Whole.{tree_is_made}
 use Rattle.printed_meaning.proofs.laws.printed_texts_make_their_trees.Goals as goal
 
 pub returns : goal.returns
-returns c = λ level ts i x lent found h room forest few.
-    let made = tree_is_made ts i x lent found h room forest few in
+returns c = λ level ts i x lent found h room forest few enough.
+    let made = tree_is_made ts i x lent found h room forest few enough in
     (item_expression ts (item.Node i), made.0, item_is_parsed level ts (item.Node i) (x, found, h), made.1, made.2)
