@@ -7,7 +7,7 @@ use Rattle.data_model.specs.Trees.{Trees, no_trees, tree, leaf, Content, append,
 use Rattle.data_model.specs.declared.node.Kind.{Kind}
 use Rattle.data_model.proofs.Weights.{append-append, append-none}
 use Rattle.fault_codes.specs.declared.code.Code.{Code}
-use Rattle.fault_codes.specs.declared.code.Code.TheVariants.{PXQ0003}
+use Rattle.fault_codes.specs.declared.code.Code.TheVariants.{PXQ0002, PXQ0003}
 use Rattle.values.specs.declared.atom.Item.{Item}
 use Rattle.values.specs.declared.atom.Item.TheVariants as item
 use Rattle.query_meaning.specs.Running.{Run, M, trees_of, pure, ◌>>=◌, come_to, seen, each, new_nodes, work}
@@ -16,7 +16,7 @@ use Rattle.query_meaning.specs.Content.{Part, made, parts_of, copied, source_at,
 use Rattle.query_meaning.specs.Constructors.{assembled, rooted, with_text}
 use Rattle.printed_meaning.specs.Made.{copy_work}
 use Rattle.printed_meaning.proofs.Parts.{is_no_document}
-use Rattle.printed_meaning.proofs.Runs.{after, after_fault, comes, grown, numbered, HasRoom, LacksRoom, room_or_not, new_nodes_come, new_nodes_fail, spent, HasWork, spent_twice, work_comes, StandsAlone, AllStandAlone}
+use Rattle.printed_meaning.proofs.Runs.{after, after_fault, comes, grown, numbered, HasRoom, LacksRoom, room_or_not, new_nodes_come, new_nodes_fail, spent, HasWork, LacksWork, work_or_not, spent_twice, work_comes, work_fails, StandsAlone, AllStandAlone}
 
 -- a node with a text
 pub with_text_comes : (kind : Kind) (name text : List ℕ) (run : Run) → HasRoom run 1
@@ -64,6 +64,13 @@ copied_fails run d es ds h k lack work_left =
     let t = tree d es ds no_trees in
     copied_begins run d es ds h k work_left ∙ after_fault (λ n. pure (renumbered n t)) (new_nodes_fail (size t) (begun run t) lack)
 
+-- without the work for it
+copied_dear : (run : Run) (d : Content) (es ds : Trees) → StandsAlone (trees_of run) d es ds → LacksWork run (bytes_in (tree d es ds no_trees) / 16) → copied d.identity run ≡ Err PXQ0002
+unfolding numbered_copy
+copied_dear run d es ds h lack =
+    ap (λ us. (work (bytes_in us / 16) >>= (λ _. copy_seen d.identity)) run) h.picked
+    ∙ after_fault (λ _. copy_seen d.identity) (work_fails (bytes_in (tree d es ds no_trees) / 16) run lack)
+
 abbrev put : ℕ → Trees → Part → M Trees
 put j given p = made p >>= (λ us. pure (append given us))
 
@@ -101,6 +108,21 @@ copies_fail j (tree d es ds rest) given run h k room lack work_left =
     (λ one. after others (after given_first (copied_comes run d es ds h.0 kinds.0 one (omega (arith, work_left))))
     ∙ copies_fail (suc j) rest (append given (renumbered n first)) (numbered (begun run first) (n + size first)) h.1 kinds.1 (omega (arith, one)) (omega (arith, lack)) (omega (arith, work_left)))
     (room_or_not run (size first))
+
+-- up to the copy that there is no work for
+copies_dear : (j : ℕ) (us given : Trees) (run : Run) → AllStandAlone (trees_of run) us → are_all is_no_document us ≡ true → HasRoom run (size us) → LacksWork run (copy_work us)
+    → each put j (parts_of (nodes (roots us))) given run ≡ Err PXQ0002
+copies_dear j no_trees given run h k room lack = absurd (omega (arith, lack))
+copies_dear j (tree d es ds rest) given run h k room lack =
+    let n = run.shelf.own.next in
+    let first = tree d es ds no_trees in
+    let kinds = and_parts (is_no_document d.kind) (are_all is_no_document rest) k in
+    let others = each put (suc j) (parts_of (nodes (roots rest))) in
+    let given_first = λ (us : Trees). pure (append given us) in
+    ⊎_elim (λ lacking. after_fault others (after_fault given_first (copied_dear run d es ds h.0 lacking)))
+    (λ enough. after others (after given_first (copied_comes run d es ds h.0 kinds.0 (omega (arith, room)) enough))
+    ∙ copies_dear (suc j) rest (append given (renumbered n first)) (numbered (begun run first) (n + size first)) h.1 kinds.1 (omega (arith, room)) (omega (arith, lack, enough)))
+    (work_or_not run (bytes_in first / 16))
 
 pub content_comes : (us : Trees) (run : Run) → AllStandAlone (trees_of run) us → are_all is_no_document us ≡ true → HasRoom run (size us) → HasWork run (copy_work us)
     → content (nodes (roots us)) run ≡ Ok (renumbered run.shelf.own.next us, numbered (spent run (copy_work us)) (run.shelf.own.next + size us))
@@ -140,3 +162,10 @@ module _ (kind : Kind) (name : List ℕ) (has_fault : Trees → Option Code) whe
           let n = run.shelf.own.next in
           after (λ i. content (nodes (roots us)) >>= separate i) (new_nodes_come 1 run one)
           ∙ after_fault (separate n) (copies_fail 0 us no_trees (numbered run (n + 1)) h k (omega (arith, one)) (omega (arith, lack)) work_left)
+
+  pub assembled_dear : (us : Trees) (run : Run) → AllStandAlone (trees_of run) us → are_all is_no_document us ≡ true → HasRoom run (1 + size us) → LacksWork run (copy_work us)
+      → assembled kind name has_fault (nodes (roots us)) run ≡ Err PXQ0002
+  assembled_dear us run h k room lack =
+      let n = run.shelf.own.next in
+      after (λ i. content (nodes (roots us)) >>= separate i) (new_nodes_come 1 run (omega (arith, room)))
+      ∙ after_fault (separate n) (copies_dear 0 us no_trees (numbered run (n + 1)) h k (omega (arith, room)) lack)

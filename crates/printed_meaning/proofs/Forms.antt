@@ -1,5 +1,5 @@
 -- The meanings of constructors, with a text.
-use Rattle.std.proofs.Common.{◌≡◌, ℕ, ◌+◌, ◌-◌, ◌≤◌, Bool, true, false, not, ◌||◌, ◌==◌, if◌then◌else◌, List, [], ◌∷◌, ◌++◌, codes, length, map, Result, Ok, Err, refl, ap, ◌∙◌, rules, arith}
+use Rattle.std.proofs.Common.{◌≡◌, ℕ, ◌+◌, ◌-◌, ◌≤◌, Bool, true, false, not, ◌||◌, ◌==◌, if◌then◌else◌, List, [], ◌∷◌, ◌++◌, codes, length, map, Result, Ok, Err, refl, ap, ◌∙◌, rules, ⊎_elim, arith}
 use Rattle.std.proofs.lemmas.Bool.{le-ltb, or_parts, or_from}
 use Rattle.std.specs.Str.{bytes_eq, str_to_ascii_lowercase}
 use Rattle.document_names.specs.Characters.{is_name}
@@ -26,7 +26,7 @@ use Rattle.query_meaning.specs.Meaning.{mean, meaning_of}
 use Rattle.query_meaning.specs.Running.{Run, M, and_then, pure, ◌>>=◌, come_to, each, work, atom as typed, atoms, counted}
 use Rattle.query_meaning.specs.Sequences.{Meaning, one, string, sequence}
 use Rattle.query_meaning.specs.Strings.{limited, spaced}
-use Rattle.printed_meaning.proofs.Runs.{after, comes, spent, HasWork, work_comes, counted_comes}
+use Rattle.printed_meaning.proofs.Runs.{after, after_fault, comes, spent, HasWork, LacksWork, work_or_not, work_fails, counted_dear, work_comes, counted_comes}
 
 -- its work is counted
 abbrev pub counts : Meaning → Meaning
@@ -97,6 +97,22 @@ of_literal : {A : Type 0} (f : List Atom → M A) (text : List ℕ) (env : Envir
 of_literal f text env run h =
     after (λ items. atoms items >>= f) (literal_comes text env run (omega (arith, h))) ∙ after f (value_comes text (spent run 2) (omega (arith, h)))
     ∙ ap (λ w. f (atom.String text ∷ []) (record run { work = w })) (let same : run.work - 2 - text_work text ≡ run.work - literal_work text = omega arith in same)
+
+-- for which there is no work
+value_dear : (text : List ℕ) (run : Run) → LacksWork run (text_work text) → atoms (one (atom.String text)) run ≡ Err PXQ0002
+value_dear text run h =
+    after_fault (each (λ _ given x. typed x >>= (λ a. pure (given ++ a ∷ []))) 1 []) (after_fault (λ a. pure (a ∷ []))
+    (after (λ _. work (text_work text) >>= (λ _. pure (atom.String text))) (free run) ∙ after_fault (λ _. pure (atom.String text)) (work_fails (text_work text) run h)))
+
+of_literal_dear : {A : Type 0} (f : List Atom → M A) (text : List ℕ) (env : Environment) (run : Run) → LacksWork run (literal_work text)
+    → and_then (literal text env run) (λ items. atoms items >>= f) ≡ Err PXQ0002
+of_literal_dear f text env run h =
+    ⊎_elim (λ lacking. after_fault (λ items. atoms items >>= f) (counted_dear (string text env) (one (atom.String text)) run run refl lacking))
+    (λ enough. after (λ items. atoms items >>= f) (literal_comes text env run enough) ∙ after_fault f (value_dear text (spent run 2) (omega (arith, h, enough))))
+    (work_or_not run 2)
+
+text_dear : (text : List ℕ) (env : Environment) (run : Run) → LacksWork run (literal_work text) → text_of (literal text) env run ≡ Err PXQ0002
+text_dear text env run h = of_literal_dear (λ values. come_to (spaced values)) text env run h
 
 text_comes : (text : List ℕ) (env : Environment) (run : Run) → length text ≤ most_bytes → HasWork run (literal_work text)
     → text_of (literal text) env run ≡ Ok (text, spent run (literal_work text))
@@ -169,6 +185,25 @@ module _ (env : Environment) (run : Run) where
       after (λ target. text_of (literal text) env >>= (λ given. come_to (instruction_text given) >>= with_text kind.Instruction target)) (comes run (instruction_name name named other))
       ∙ after (λ given. come_to (instruction_text given) >>= with_text kind.Instruction name) (text_comes text env run fits room)
       ∙ after (with_text kind.Instruction name) (comes (taken text) (instruction_stays text a b))
+
+  -- Where there is no work for the text, there is no node.
+
+  pub attribute_dear : (name text : List ℕ) → is_name name ≡ true → LacksWork run (literal_work text) → constructors.attribute (Written name) (literal text) env run ≡ Err PXQ0002
+  attribute_dear name text named lack =
+      after (λ given. text_of (literal text) env >>= with_text kind.Attribute given) (comes run (attribute_name name named))
+      ∙ after_fault (with_text kind.Attribute name) (text_dear text env run lack)
+
+  pub text_node_dear : (text : List ℕ) → LacksWork run (literal_work text) → constructors.text (literal text) env run ≡ Err PXQ0002
+  text_node_dear text lack = of_literal_dear constructors.text_of_values text env run lack
+
+  pub comment_dear : (text : List ℕ) → LacksWork run (literal_work text) → constructors.comment (literal text) env run ≡ Err PXQ0002
+  comment_dear text lack = after_fault (λ given. come_to (comment_text given) >>= with_text kind.Comment []) (text_dear text env run lack)
+
+  pub instruction_dear : (name text : List ℕ) → is_name name ≡ true → bytes_eq (str_to_ascii_lowercase name) (codes "xml") ≡ false → LacksWork run (literal_work text)
+      → constructors.instruction (Written name) (literal text) env run ≡ Err PXQ0002
+  instruction_dear name text named other lack =
+      after (λ target. text_of (literal text) env >>= (λ given. come_to (instruction_text given) >>= with_text kind.Instruction target)) (comes run (instruction_name name named other))
+      ∙ after_fault (λ given. come_to (instruction_text given) >>= with_text kind.Instruction name) (text_dear text env run lack)
 
   pub element_means : (name : List ℕ) (m : Meaning) → is_name name ≡ true
       → constructors.element (Written name) m env run ≡ and_then (m env run) (assembled kind.Element name element_fault)

@@ -16,7 +16,7 @@ use Rattle.query_meaning.specs.Sequences.{Meaning, and_items}
 use Rattle.printed_meaning.specs.Made.{anonymous, depths, work_of}
 use Rattle.printed_meaning.proofs.Copies.{with_text_comes}
 use Rattle.printed_meaning.proofs.Forms.{counts}
-use Rattle.printed_meaning.proofs.Runs.{after, after_fault, comes, holding, grown, HasRoom, LacksRoom, room_or_not, spent, HasWork, counted_comes, counted_fails, spent_twice, spent_below, trees_grown, IsBelow, AreBetween, none_between, both_between, leaf_between, grown_below, absent, absent_between, StandsAlone, AllStandAlone, there, last_stands, still_stands}
+use Rattle.printed_meaning.proofs.Runs.{after, after_fault, comes, holding, grown, HasRoom, LacksRoom, room_or_not, spent, HasWork, LacksWork, work_or_not, counted_comes, counted_dear, counted_fails, spent_twice, spent_below, trees_grown, IsBelow, AreBetween, none_between, both_between, leaf_between, grown_below, absent, absent_between, StandsAlone, AllStandAlone, there, last_stands, still_stands}
 
 -- A result is one new node, and with it stand new trees; so many identities are taken as its tree's depths add up to, and so much work is done.
 pub record Remade (w : ℕ) (c : Content) (bs cs : Trees) (run : Run) (r : Result (List Item × Run) Code) : Type 0 where
@@ -30,10 +30,11 @@ pub record Remade (w : ℕ) (c : Content) (bs cs : Trees) (run : Run) (r : Resul
   pub stands : StandsAlone (append (trees_of run) stood) root attributes children
   pub alike : anonymous (tree root attributes children no_trees) ≡ anonymous (tree c bs cs no_trees)
 
--- a meaning makes that tree by so much work wherever there is room, and nowhere else
+-- a meaning makes that tree by so much work wherever there is room and work for it, and nowhere else
 pub record MakesBy (w : ℕ) (m : Meaning) (c : Content) (bs cs : Trees) : Type 0 where
   pub made : (env : Environment) (run : Run) → IsBelow run → HasRoom run (depths 1 (tree c bs cs no_trees)) → HasWork run w → Remade w c bs cs run (m env run)
   pub refused : (env : Environment) (run : Run) → IsBelow run → HasRoom run 0 → LacksRoom run (depths 1 (tree c bs cs no_trees)) → HasWork run w → m env run ≡ Err PXQ0003
+  pub dear : (env : Environment) (run : Run) → IsBelow run → HasRoom run (depths 1 (tree c bs cs no_trees)) → LacksWork run w → m env run ≡ Err PXQ0002
 
 -- by the tree's work
 abbrev pub Makes : Meaning → Content → Trees → Trees → Type 0
@@ -44,8 +45,15 @@ pub counts_make : (w : ℕ) (m : Meaning) (c : Content) (bs cs : Trees) → Make
 counts_make w m c bs cs h = record {
   made = λ env run below room work_left. made env run below room work_left;
   refused = λ env run below room lack work_left. counted_fails (m env) run (h.refused env run below room lack (omega (arith, work_left)));
+  dear = λ env run below room lack. ⊎_elim (λ lacking. counted_fails (m env) run (h.dear env run below room lacking)) (λ enough. dear env run below room enough lack) (work_or_not run w);
 }
   where
+    dear : (env : Environment) (run : Run) → IsBelow run → HasRoom run (depths 1 (tree c bs cs no_trees)) → HasWork run w → LacksWork run (2 + w) → counts m env run ≡ Err PXQ0002
+    dear env run below room enough lack =
+        let one = h.made env run below room enough in
+        let last = grown run one.stood (run.shelf.own.next + depths 1 (tree c bs cs no_trees)) in
+        counted_dear (m env) (item.Node one.root.identity ∷ []) run (spent last w) one.comes (omega (arith, enough, lack))
+
     made : (env : Environment) (run : Run) → IsBelow run → HasRoom run (depths 1 (tree c bs cs no_trees)) → HasWork run (2 + w) → Remade (2 + w) c bs cs run (counts m env run)
     made env run below room work_left =
         let one = h.made env run below room (omega (arith, work_left)) in
@@ -216,3 +224,29 @@ all_refused env j (m ∷ ms) (tree c bs cs rest) h given run below room lack wor
     ∙ all_refused env (suc j) ms rest h.1 items next_run (spent_below grown_run w (grown_below run one.stood (n + d) (omega arith) below one.between))
     (omega (arith, enough)) (omega (arith, lack, sum)) (omega (arith, work_left, work_sum)) fit))
     (room_or_not run d)
+
+-- up to the part that there is no work for
+pub all_dear : (env : Environment) (j : ℕ) (ms : List Meaning) (ts : Trees) → AllMake ms ts → (given : List Item) (run : Run) → IsBelow run → HasRoom run (depths 1 ts) → LacksWork run (work_of ts)
+    → length given + length (roots ts) ≤ most_items → each (λ _. and_items env) j ms given run ≡ Err PXQ0002
+all_dear env j [] no_trees h given run below room lack few = absurd (omega (arith, lack))
+all_dear env j [] (tree c bs cs rest) h given run below room lack few = absurd h
+all_dear env j (m ∷ ms) no_trees h given run below room lack few = absurd h
+all_dear env j (m ∷ ms) (tree c bs cs rest) h given run below room lack few =
+    let n = run.shelf.own.next in
+    let d = depths 1 (tree c bs cs no_trees) in
+    let w = work_of (tree c bs cs no_trees) in
+    let sum : d + depths 1 rest ≡ depths 1 (tree c bs cs rest) = omega arith in
+    let work_sum : w + work_of rest ≡ work_of (tree c bs cs rest) = omega arith in
+    let first_room : HasRoom run d = omega (arith, room, sum) in
+    let others = each (λ _. and_items env) (suc j) ms in
+    ⊎_elim (λ lacking. after_fault others (after_fault (joined given) (h.0.dear env run below first_room lacking)))
+    (λ enough. (
+    let one = h.0.made env run below first_room enough in
+    let items = given ++ item.Node one.root.identity ∷ [] in
+    let grown_run = grown run one.stood (n + d) in
+    let next_run = spent grown_run w in
+    let fit : length items + length (roots rest) ≤ most_items = omega (arith, few, length-append given (item.Node one.root.identity ∷ [])) in
+    after others (after (joined given) one.comes ∙ joined_comes given (item.Node one.root.identity ∷ []) next_run (omega (arith, fit)))
+    ∙ all_dear env (suc j) ms rest h.1 items next_run (spent_below grown_run w (grown_below run one.stood (n + d) (omega arith) below one.between))
+    (omega (arith, room, sum)) (omega (arith, lack, work_sum, enough)) fit))
+    (work_or_not run w)

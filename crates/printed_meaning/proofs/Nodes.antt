@@ -14,7 +14,7 @@ use Rattle.data_model.specs.declared.node.Kind.TheVariants as kind
 use Rattle.data_model.proofs.Weights.{append-append}
 use Rattle.node_table.proofs.Copies.{renumbered-within}
 use Rattle.fault_codes.specs.declared.code.Code.{Code}
-use Rattle.fault_codes.specs.declared.code.Code.TheVariants.{PXQ0003}
+use Rattle.fault_codes.specs.declared.code.Code.TheVariants.{PXQ0002, PXQ0003}
 use Rattle.data_model.specs.Limits.{most_bytes}
 use Rattle.values.specs.declared.atom.Item.{Item}
 use Rattle.values.specs.declared.atom.Item.TheVariants as item
@@ -34,12 +34,12 @@ use Rattle.meaning_laws.proofs.Nodes.{two_parts}
 use Rattle.printed_trees.specs.Constructors.{constructor_of, tree_expressions, is_tidy_root}
 use Rattle.printed_meaning.specs.Made.{anonymous, depths, comma_work, copy_work, work_of, have_room}
 use Rattle.printed_meaning.proofs.Anonymous.{carried, same_all, same_copy_work, same_length, same_size, anonymous_renumbered}
-use Rattle.printed_meaning.proofs.Copies.{assembled_comes, assembled_fails, with_text_fails}
+use Rattle.printed_meaning.proofs.Copies.{assembled_comes, assembled_fails, assembled_dear, with_text_fails}
 use Rattle.printed_meaning.proofs.Depths.{depths_parts, work_append}
-use Rattle.printed_meaning.proofs.Forms.{mean_sequence, mean_document, mean_element, mean_attribute, mean_text, mean_comment, mean_instruction, attribute_means, text_means, comment_means, instruction_means, element_means, counts, literal, literal_work}
-use Rattle.printed_meaning.proofs.Made.{Remade, MakesBy, Makes, AllMake, both_make, counts_make, leaf_remade, AllRemade, grown_twice, all_remade, all_refused}
+use Rattle.printed_meaning.proofs.Forms.{mean_sequence, mean_document, mean_element, mean_attribute, mean_text, mean_comment, mean_instruction, attribute_means, text_means, comment_means, instruction_means, attribute_dear, text_node_dear, comment_dear, instruction_dear, element_means, counts, literal, literal_work}
+use Rattle.printed_meaning.proofs.Made.{Remade, MakesBy, Makes, AllMake, both_make, counts_make, leaf_remade, AllRemade, grown_twice, all_remade, all_refused, all_dear}
 use Rattle.printed_meaning.proofs.Parts.{AreParts, are_parts, is_no_document, parts_stay, same_attributes, same_others, element_faultless, document_faultless}
-use Rattle.printed_meaning.proofs.Runs.{after, after_fault, grown, HasRoom, LacksRoom, room_or_not, spent, HasWork, counted_comes, counted_fails, spent_twice, spent_below, trees_grown, IsBelow, AreBetween, both_between, grown_below, absent, StandsAlone, AllStandAlone, last_stands}
+use Rattle.printed_meaning.proofs.Runs.{after, after_fault, grown, HasRoom, LacksRoom, room_or_not, spent, HasWork, LacksWork, work_or_not, counted_comes, counted_dear, counted_fails, spent_twice, spent_below, trees_grown, IsBelow, AreBetween, both_between, grown_below, absent, StandsAlone, AllStandAlone, last_stands}
 use Rattle.printed_meaning.proofs.Tidy.{HaveShortTexts, tidy_node, fits_as_root, without_attributes, without_children, room_at}
 
 -- what a node needs
@@ -55,10 +55,11 @@ pub record IsRuled (k : Kind) (name text : List ℕ) (bs cs : Trees) : Type 0 wh
 
 -- Parts, as one expression.
 
--- a meaning makes these trees, one after the other, by so much work wherever there is room, and nowhere else
+-- a meaning makes these trees, one after the other, by so much work wherever there is room and work for them, and nowhere else
 pub record AllComeBy (w : ℕ) (m : Meaning) (ts : Trees) : Type 0 where
   pub made : (env : Environment) (run : Run) → IsBelow run → HasRoom run (depths 1 ts) → HasWork run w → AllRemade w [] ts run (m env run)
   pub refused : (env : Environment) (run : Run) → IsBelow run → HasRoom run 0 → LacksRoom run (depths 1 ts) → HasWork run w → m env run ≡ Err PXQ0003
+  pub dear : (env : Environment) (run : Run) → IsBelow run → HasRoom run (depths 1 ts) → LacksWork run w → m env run ≡ Err PXQ0002
 
 -- by the trees' work and that of a comma
 abbrev pub AllCome : Meaning → Trees → Type 0
@@ -81,7 +82,7 @@ one_comes m (tree c bs cs (tree d es ds rest)) h = absurd h.1
 one_comes m (tree c bs cs no_trees) h =
     let w = work_of (tree c bs cs no_trees) in
     subst (λ u. AllComeBy u m (tree c bs cs no_trees)) (let e : w ≡ w + 0 = omega arith in e)
-    (record { made = λ env run below room work_left. alone w c bs cs run (m env run) (h.0.made env run below room work_left); refused = h.0.refused })
+    (record { made = λ env run below room work_left. alone w c bs cs run (m env run) (h.0.made env run below room work_left); refused = h.0.refused; dear = h.0.dear })
 
 -- a comma, which is counted
 sequence_comes : (ms : List Meaning) (ts : Trees) → length (roots ts) ≤ most_items → AllMake ms ts → AllComeBy (work_of ts + (1 + length (roots ts))) (counts (sequence ms)) ts
@@ -89,15 +90,30 @@ sequence_comes ms ts few h = record {
   made = λ env run below room work_left. made env run below room work_left;
   refused = λ env run below room lack work_left. counted_fails (sequence ms env) run
       (all_refused env 0 ms ts h [] run below room lack (omega (arith, work_left)) (omega (arith, few)));
+  dear = λ env run below room lack.
+      ⊎_elim (λ lacking. counted_fails (sequence ms env) run (all_dear env 0 ms ts h [] run below room lacking (omega (arith, few)))) (λ enough. dear env run below room enough lack)
+      (work_or_not run (work_of ts));
 }
   where
+    -- as many nodes as there are trees
+    as_many : (us : Trees) → anonymous us ≡ anonymous ts → length (nodes (roots us)) ≡ length (roots ts)
+    as_many us alike = length-map (roots us) (λ i. item.Node i) ∙ carried (λ vs. length (roots vs)) same_length us ts alike
+
+    dear : (env : Environment) (run : Run) → IsBelow run → HasRoom run (depths 1 ts) → HasWork run (work_of ts) → LacksWork run (work_of ts + (1 + length (roots ts)))
+        → counts (sequence ms) env run ≡ Err PXQ0002
+    dear env run below room enough lack =
+        let all = all_remade env 0 ms ts h [] run below room enough (omega (arith, few)) in
+        let last = grown run all.stood (run.shelf.own.next + depths 1 ts) in
+        let same = as_many all.made all.alike in
+        counted_dear (sequence ms env) (nodes (roots all.made)) run (spent last (work_of ts)) all.comes (omega (arith, lack, enough, same))
+
     made : (env : Environment) (run : Run) → IsBelow run → HasRoom run (depths 1 ts) → HasWork run (work_of ts + (1 + length (roots ts)))
         → AllRemade (work_of ts + (1 + length (roots ts))) [] ts run (counts (sequence ms) env run)
     made env run below room work_left =
         let all = all_remade env 0 ms ts h [] run below room (omega (arith, work_left)) (omega (arith, few)) in
         let items = nodes (roots all.made) in
         let last = grown run all.stood (run.shelf.own.next + depths 1 ts) in
-        let same : length items ≡ length (roots ts) = length-map (roots all.made) (λ i. item.Node i) ∙ carried (λ us. length (roots us)) same_length all.made ts all.alike in
+        let same : length items ≡ length (roots ts) = as_many all.made all.alike in
         record {
           stood = all.stood;
           made = all.made;
@@ -202,6 +218,23 @@ module _ (k : Kind) (i : ℕ) (name : List ℕ) (has_fault : Trees → Option Co
           (carried (are_all is_no_document) (same_all is_no_document) us (append bs cs) all.alike ∙ parts.inner) (omega (arith, lack, parts_sum, same))
           (omega (arith, work_left, same_work))
 
+  inner_dear : (run : Run) (r : Result (List Item × Run) Code) → IsBelow run → HasRoom run (depths 1 (tree given bs cs no_trees)) → LacksWork run (parts_work + copies_work)
+      → (HasWork run parts_work → AllRemade parts_work [] (append bs cs) run r) → (LacksWork run parts_work → r ≡ Err PXQ0002) → and_then r (assembled k name has_fault) ≡ Err PXQ0002
+  inner_dear run r below room lack made dear = ⊎_elim (λ lacking. after_fault (assembled k name has_fault) (dear lacking)) of_work (work_or_not run parts_work)
+    where
+      of_work : HasWork run parts_work → and_then r (assembled k name has_fault) ≡ Err PXQ0002
+      of_work enough =
+          let all = made enough in
+          let us = all.made in
+          let n = run.shelf.own.next + depths 1 (append bs cs) in
+          let same : size us ≡ size (append bs cs) = carried size same_size us (append bs cs) all.alike in
+          let same_work : copy_work us ≡ copies_work = carried copy_work same_copy_work us (append bs cs) all.alike in
+          let parts_sum = depths_parts bs cs in
+          after (assembled k name has_fault) all.comes
+          ∙ assembled_dear k name has_fault us (spent (grown run all.stood n) parts_work) (subst (λ ts. AllStandAlone ts us) (sym (trees_grown run all.stood n)) all.stand)
+          (carried (are_all is_no_document) (same_all is_no_document) us (append bs cs) all.alike ∙ parts.inner) (omega (arith, room, parts_sum, same))
+          (omega (arith, lack, enough, same_work))
+
   pub inner_makes : (m : Meaning) → AllCome m (append bs cs) → MakesBy (parts_work + copies_work) (λ env. m env >>= assembled k name has_fault) given bs cs
   inner_makes m all =
       let parts_sum = depths_parts bs cs in
@@ -210,19 +243,23 @@ module _ (k : Kind) (i : ℕ) (name : List ℕ) (has_fault : Trees → Option Co
             (all.made env run below (omega (arith, room, parts_sum)) (omega (arith, work_left)));
         refused = λ env run below room lack work_left. inner_refused run (m env run) below lack work_left
             (λ enough. all.made env run below enough (omega (arith, work_left))) (λ lacking. all.refused env run below room lacking (omega (arith, work_left)));
+        dear = λ env run below room lack. inner_dear run (m env run) below room lack
+            (λ enough. all.made env run below (omega (arith, room, parts_sum)) enough) (λ lacking. all.dear env run below (omega (arith, room, parts_sum)) lacking);
       }
 
 -- Each kind of node.
 
 -- a node without parts
 leaf_makes : (m : Meaning) (c : Content) (bs cs : Trees) → is_inner c.kind ≡ false → bs ≡ no_trees → cs ≡ no_trees
-    → ((env : Environment) (run : Run) → HasWork run (literal_work c.text) → m env run ≡ with_text c.kind c.name c.text (spent run (literal_work c.text))) → Makes (counts m) c bs cs
-leaf_makes m c bs cs leaf a b same =
+    → ((env : Environment) (run : Run) → HasWork run (literal_work c.text) → m env run ≡ with_text c.kind c.name c.text (spent run (literal_work c.text)))
+    → ((env : Environment) (run : Run) → LacksWork run (literal_work c.text) → m env run ≡ Err PXQ0002) → Makes (counts m) c bs cs
+leaf_makes m c bs cs leaf a b same dear =
     let w = literal_work c.text in
     let sum : 2 + w ≡ work_of (tree c no_trees no_trees no_trees) = rw leaf (omega arith) in
     let one : MakesBy w m c no_trees no_trees = record {
       made = λ env run below room work_left. leaf_remade w c run (m env run) (same env run work_left) below room;
       refused = λ env run below room lack work_left. same env run work_left ∙ with_text_fails c.kind c.name c.text (spent run w) lack;
+      dear = λ env run below room lack. dear env run lack;
     } in
     subst₂ (Makes (counts m) c) (sym a) (sym b) (subst (λ u. MakesBy u (counts m) c no_trees no_trees) sum (counts_make w m c no_trees no_trees one))
 
@@ -231,6 +268,7 @@ same_makes : (w : ℕ) (m n : Meaning) (c : Content) (bs cs : Trees) → ((env :
 same_makes w m n c bs cs same h = record {
   made = λ env run below room work_left. subst (Remade w c bs cs run) (sym (same env run)) (h.made env run below room work_left);
   refused = λ env run below room lack work_left. same env run ∙ h.refused env run below room lack work_left;
+  dear = λ env run below room lack. same env run ∙ h.dear env run below room lack;
 }
 
 -- a node with parts, whose work is counted
@@ -251,14 +289,15 @@ module _ (i : ℕ) (name text : List ℕ) (bs cs : Trees) where
       let rules = and_parts (is_name name) (is_xml_text text) h.tidy in
       subst (λ m. Makes m (content kind.Attribute) bs cs) (sym (mean_attribute name text))
       (leaf_makes (constructors.attribute (Written name) (literal text)) (content kind.Attribute) bs cs refl (without_attributes kind.Attribute bs (λ j. refl) h.attributes) (without_children kind.Attribute cs refl h.children)
-      (λ env run room. attribute_means env run name text rules.0 h.short room))
+      (λ env run room. attribute_means env run name text rules.0 h.short room) (λ env run lack. attribute_dear env run name text rules.0 lack))
 
   text_makes : IsRuled kind.Text name text bs cs → Makes (mean (e.Text (e.String text))) (content kind.Text) bs cs
   text_makes h =
       let rules = and_parts (bytes_eq name []) (is_xml_text text) h.tidy in
       subst (λ m. Makes m (content kind.Text) bs cs) (sym (mean_text text))
       (leaf_makes (constructors.text (literal text)) (content kind.Text) bs cs refl (without_attributes kind.Text bs (λ j. refl) h.attributes) (without_children kind.Text cs refl h.children)
-      (λ env run room. text_means env run text h.short room ∙ ap (λ none. with_text kind.Text none text (spent run (literal_work text))) (sym ((bytes_eq-Decides name []).0 rules.0))))
+      (λ env run room. text_means env run text h.short room ∙ ap (λ none. with_text kind.Text none text (spent run (literal_work text))) (sym ((bytes_eq-Decides name []).0 rules.0)))
+      (λ env run lack. text_node_dear env run text lack))
 
   comment_makes : IsRuled kind.Comment name text bs cs → Makes (mean (e.Comment (e.String text))) (content kind.Comment) bs cs
   comment_makes h =
@@ -268,7 +307,8 @@ module _ (i : ℕ) (name text : List ℕ) (bs cs : Trees) where
       subst (λ m. Makes m (content kind.Comment) bs cs) (sym (mean_comment text))
       (leaf_makes (constructors.comment (literal text)) (content kind.Comment) bs cs refl (without_attributes kind.Comment bs (λ j. refl) h.attributes) (without_children kind.Comment cs refl h.children)
       (λ env run room. comment_means env run text h.short (not-true (holds_text (codes "--") text) two.1) (not-true (ends_in_hyphen text) three.1) room
-      ∙ ap (λ none. with_text kind.Comment none text (spent run (literal_work text))) (sym ((bytes_eq-Decides name []).0 one.0))))
+      ∙ ap (λ none. with_text kind.Comment none text (spent run (literal_work text))) (sym ((bytes_eq-Decides name []).0 one.0)))
+      (λ env run lack. comment_dear env run text lack))
 
   instruction_makes : IsRuled kind.Instruction name text bs cs → Makes (mean (e.Instruction (Written name) (e.String text))) (content kind.Instruction) bs cs
   instruction_makes h =
@@ -279,7 +319,8 @@ module _ (i : ℕ) (name text : List ℕ) (bs cs : Trees) where
       let one = and_parts (is_name name) (not (bytes_eq (str_to_ascii_lowercase name) (codes "xml"))) two.0 in
       subst (λ m. Makes m (content kind.Instruction) bs cs) (sym (mean_instruction name text))
       (leaf_makes (constructors.instruction (Written name) (literal text)) (content kind.Instruction) bs cs refl (without_attributes kind.Instruction bs (λ j. refl) h.attributes) (without_children kind.Instruction cs refl h.children)
-      (λ env run room. instruction_means env run name text one.0 (not-true (bytes_eq (str_to_ascii_lowercase name) (codes "xml")) one.1) h.short (not-true (holds_text (codes "?>") text) three.1) (not-true (begins_with_space text) four.1) room))
+      (λ env run room. instruction_means env run name text one.0 (not-true (bytes_eq (str_to_ascii_lowercase name) (codes "xml")) one.1) h.short (not-true (holds_text (codes "?>") text) three.1) (not-true (begins_with_space text) four.1) room)
+      (λ env run lack. instruction_dear env run name text one.0 (not-true (bytes_eq (str_to_ascii_lowercase name) (codes "xml")) one.1) lack))
 
   element_makes : (xs : List Expr) → AllMake (map mean xs) (append bs cs) → IsRuled kind.Element name text bs cs → Makes (mean (e.Element (Written name) (of_list xs))) (content kind.Element) bs cs
   element_makes xs make h =

@@ -66,6 +66,13 @@ spent run n = record run { work = run.work - n }
 abbrev pub HasWork : Run → ℕ → Type 0
 HasWork run n = n ≤ run.work
 
+-- it may not
+abbrev pub LacksWork : Run → ℕ → Type 0
+LacksWork run n = run.work < n
+
+pub work_or_not : (run : Run) (n : ℕ) → LacksWork run n ⊎ HasWork run n
+work_or_not run n = cases_lt run.work n
+
 pub spent_twice : {A : Type 0} (a : A) (run : Run) (n m k : ℕ) → n + m ≡ k → (let r : Result (A × Run) Code = Ok (a, spent (spent run n) m) in r) ≡ Ok (a, spent run k)
 spent_twice {A = A} a run n m k e =
     ap (λ w. let r : Result (A × Run) Code = Ok (a, record run { work = w }) in r) (let same : run.work - n - m ≡ run.work - k = omega (arith, e) in same)
@@ -76,10 +83,17 @@ if_work n run b = if b then Ok (tt, spent run n) else Err PXQ0002
 pub work_comes : (n : ℕ) (run : Run) → HasWork run n → work n run ≡ Ok (tt, spent run n)
 work_comes n run h = ap (if_work n run) (le-leb n run.work h)
 
+pub work_fails : (n : ℕ) (run : Run) → LacksWork run n → work n run ≡ Err PXQ0002
+work_fails n run h = ap (if_work n run) (lt-leb n run.work h)
+
 -- what comes to items, and is counted
 pub counted_comes : (m : M (List Item)) (items : List Item) (run last : Run) → m run ≡ Ok (items, last) → HasWork last (1 + length items)
     → counted m run ≡ Ok (items, spent last (1 + length items))
 counted_comes m items run last e h = after (λ xs. work (1 + length xs) >>= (λ _. pure xs)) e ∙ after (λ _. pure items) (work_comes (1 + length items) last h)
+
+-- for which there is no work
+pub counted_dear : (m : M (List Item)) (items : List Item) (run last : Run) → m run ≡ Ok (items, last) → LacksWork last (1 + length items) → counted m run ≡ Err PXQ0002
+counted_dear m items run last e h = after (λ xs. work (1 + length xs) >>= (λ _. pure xs)) e ∙ after_fault (λ _. pure items) (work_fails (1 + length items) last h)
 
 pub counted_fails : {code : Code} (m : M (List Item)) (run : Run) → m run ≡ Err code → counted m run ≡ Err code
 counted_fails m run e = after_fault (λ xs. work (1 + length xs) >>= (λ _. pure xs)) e

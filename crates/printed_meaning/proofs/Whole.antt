@@ -5,7 +5,7 @@ use Rattle.data_model.specs.Changes.{pick}
 use Rattle.data_model.specs.Tidy.{are_tidy, may_be_attribute, may_be_child, has_distinct_names}
 use Rattle.data_model.specs.Trees.{Trees, no_trees, tree, Content, Place, append, count, find, listing, parent_at, parent_of}
 use Rattle.data_model.proofs.Weights.{append-none}
-use Rattle.fault_codes.specs.declared.code.Code.TheVariants.{PXQ0003}
+use Rattle.fault_codes.specs.declared.code.Code.TheVariants.{PXQ0002, PXQ0003}
 use Rattle.trees.specs.Forest.{ForestTerm, IsForest}
 use Rattle.values.specs.declared.atom.Item.TheVariants as item
 use Rattle.query_grammar.specs.declared.ast.Expr.{Expr}
@@ -73,3 +73,7 @@ module _ (ts : Trees) (i : ℕ) (x : Place) (lent : ForestTerm) (found : find i 
   pub tree_is_refused : most_nodes < depths 1 (tree_at x) → work_of (tree_at x) ≤ most_work → evaluated (item_expression ts (item.Node i)) lent ≡ Err PXQ0003
   unfolding evaluated
   tree_is_refused many enough = ap outcome (makes.refused no_environment (start lent) (start_below lent forest) (omega arith) (omega (arith, many)) enough)
+
+  pub tree_is_dear : depths 1 (tree_at x) ≤ most_nodes → most_work < work_of (tree_at x) → evaluated (item_expression ts (item.Node i)) lent ≡ Err PXQ0002
+  unfolding evaluated
+  tree_is_dear few dear = ap outcome (makes.dear no_environment (start lent) (start_below lent forest) (omega (arith, few)) dear)

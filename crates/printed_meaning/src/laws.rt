@@ -26,12 +26,20 @@ pub fn printed_trees_mean_themselves()
         → (o : Outcome) × (evaluated (item_expression ts (item.Node i)) lent ≡ Ok o) × IsMade (tree_at x) lent o }
 {}
 
-/// Where they add up to more, it comes to `PXQ0003`, if its work is no more than an evaluation may do.
+/// Where the depths add up to more, it comes to `PXQ0003`, if the work is no more.
 pub fn deeper_trees_are_refused()
     ensures { (ts : Trees) (i : ℕ) (x : Place) (lent : ForestTerm)
         → find i ts ≡ Some x → IsPrintableTree x.content x.attributes x.children → have_room (tree_at x) ≡ true → IsForest lent
         → most_nodes < depths 1 (tree_at x) → work_of (tree_at x) ≤ most_work
         → evaluated (item_expression ts (item.Node i)) lent ≡ Err PXQ0003 }
+{}
+
+/// Where the work is more, it comes to `PXQ0002`, if the depths add up to no more.
+pub fn dearer_trees_are_refused()
+    ensures { (ts : Trees) (i : ℕ) (x : Place) (lent : ForestTerm)
+        → find i ts ≡ Some x → IsPrintableTree x.content x.attributes x.children → have_room (tree_at x) ≡ true → IsForest lent
+        → depths 1 (tree_at x) ≤ most_nodes → most_work < work_of (tree_at x)
+        → evaluated (item_expression ts (item.Node i)) lent ≡ Err PXQ0002 }
 {}
 
 /// So the tree's printed text, parsed at any level, makes that tree.
