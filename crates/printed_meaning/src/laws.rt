@@ -42,7 +42,7 @@ pub fn dearer_trees_are_refused()
         → evaluated (item_expression ts (item.Node i)) lent ≡ Err PXQ0002 }
 {}
 
-/// So the tree's printed text, parsed at any level, makes that tree.
+/// So the tree's printed text, parsed at any level, makes that tree, where there are identities and work for it.
 pub fn printed_texts_make_their_trees()
     ensures { (level : ℕ) (ts : Trees) (i : ℕ) (x : Place) (lent : ForestTerm)
         → find i ts ≡ Some x → IsPrintableTree x.content x.attributes x.children → have_room (tree_at x) ≡ true → IsForest lent
