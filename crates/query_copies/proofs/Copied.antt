@@ -1,16 +1,17 @@
 -- The copy of a node.
-use Rattle.std.proofs.Common.{◌≡◌, ℕ, ◌+◌, Bool, true, false, cond, nat_le, None, Option, Some, IsSome, Result, Ok, Err, refl, sym, ap, ◌∙◌, subst, arith, ⊎_elim}
+use Rattle.std.proofs.Common.{◌≡◌, ℕ, ◌+◌, ◌-◌, ◌/◌, Bool, true, false, cond, nat_le, None, Option, Some, IsSome, Result, Ok, Err, refl, sym, ap, ◌∙◌, subst, arith, ⊎_elim}
 use Rattle.chosen_drafts.specs.Chosen.{IsRoot}
 use Rattle.data_model.specs.Changes.{pick, renumbered}
-use Rattle.data_model.specs.Trees.{Trees, append, count, find, first, parent_at, Place, no_trees, size, tree}
+use Rattle.data_model.specs.Trees.{Trees, append, bytes_in, count, find, first, parent_at, Place, no_trees, size, tree}
 use Rattle.data_model.proofs.Climbs.{any-tells, find-absent}
 use Rattle.data_model.proofs.Weights.{eqb-same}
 use Rattle.trees.proofs.CallerLemmas.{find-append, picked-place}
 use Rattle.shelves.specs.Shelf.{IsShelf}
 use Rattle.fault_codes.specs.declared.code.Code.{Code}
-use Rattle.fault_codes.specs.declared.code.Code.TheVariants.{PXQ0003}
+use Rattle.fault_codes.specs.declared.code.Code.TheVariants.{PXQ0002, PXQ0003}
 use Rattle.query_meaning.specs.Copies.{copy_of}
 use Rattle.query_meaning.specs.Running.{Run, and_then, most_nodes, pure, standing, trees_of, ◌>>=◌}
+use Rattle.evaluation.specs.Copying.{standing_copy}
 use Rattle.query_copies.specs.Kept.{IsCopy}
 use Rattle.query_copies.proofs.Adding.{counts_both}
 
@@ -26,7 +27,7 @@ module _ (i : ℕ) (old : Run) where
   value_or p (Ok q) = q
   value_or p (Err code) = p
 
-  came_to : (k : ℕ) (new : Run) → copy_of i old ≡ Ok (k, new) → ◌≡◌ {A = ℕ × Run} (old.shelf.own.next, with_copy) (k, new)
+  came_to : (k : ℕ) (new : Run) → standing_copy i old ≡ Ok (k, new) → ◌≡◌ {A = ℕ × Run} (old.shelf.own.next, with_copy) (k, new)
   came_to k new e = by (nat_le (old.shelf.own.next + size us) (old.shelf.lent.next + most_nodes)) e
     where
       by : (b : Bool)
@@ -65,7 +66,17 @@ module _ (i : ℕ) (old : Run) where
       is_new = nowhere;
     }
 
-pub copy_stands : (i : ℕ) (old new : Run) (k : ℕ) → IsShelf old.shelf → IsSome (find i (trees_of old)) → copy_of i old ≡ Ok (k, new) → IsCopy old k new
-copy_stands i old new k shelf there e =
+unpaid_stands : (i : ℕ) (old new : Run) (k : ℕ) → IsShelf old.shelf → IsSome (find i (trees_of old)) → standing_copy i old ≡ Ok (k, new) → IsCopy old k new
+unpaid_stands i old new k shelf there e =
     let P : ℕ × Run → Type 0 = λ p. IsCopy old p.0 p.1 in
     subst P (came_to i old k new e) (made i old shelf there)
+
+-- the work that it takes changes no trees
+pub copy_stands : (i : ℕ) (old new : Run) (k : ℕ) → IsShelf old.shelf → IsSome (find i (trees_of old)) → copy_of i old ≡ Ok (k, new) → IsCopy old k new
+copy_stands i old new k shelf there e = paid (bytes_in (pick i (trees_of old)) / 16) (nat_le (bytes_in (pick i (trees_of old)) / 16) old.work) e
+  where
+    paid : (n : ℕ) (b : Bool) → and_then {A = Unit {0}} (cond b (Ok (tt, record old { work = old.work - n })) (Err PXQ0002)) (λ _. standing_copy i) ≡ Ok (k, new) → IsCopy old k new
+    paid n true h =
+        let c = unpaid_stands i (record old { work = old.work - n }) new k shelf there h in
+        record { adds = record { lent = c.adds.lent; more = c.adds.more; own = c.adds.own }; stands = c.stands; is_new = c.is_new }
+    paid n false h = cc
