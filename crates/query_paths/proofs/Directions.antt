@@ -1,5 +1,5 @@
 -- What a step gives, by what its predicates keep.
-use Rattle.std.proofs.Common.{◌≡◌, ℕ, zero, suc, List, [], ◌∷◌, reverse, Bool, true, false, ◌&&◌, cond, refl, ap, sym, ◌∙◌, subst, arith, Result, Ok, Err}
+use Rattle.std.proofs.Common.{◌≡◌, ℕ, zero, suc, List, [], ◌∷◌, reverse, Bool, true, false, ◌&&◌, cond, ap, sym, ◌∙◌, subst, arith, Result, Ok, Err}
 use Rattle.std.proofs.lemmas.List.{reverse-append}
 use Rattle.std.proofs.lemmas.List.Elements.{All-append}
 use Rattle.data_model.specs.Axes.{is_on}
@@ -14,13 +14,13 @@ use Rattle.query_grammar.specs.declared.ast.NodeTest.{NodeTest}
 use Rattle.query_meaning.specs.Environment.{Environment}
 use Rattle.query_meaning.specs.Operators.{nodes}
 use Rattle.query_meaning.specs.Paths.{tested_nodes, passes_at, predicates, in_direction, is_reverse}
-use Rattle.query_meaning.specs.Running.{Run, ◌>>=◌, come_to, trees_of, within}
+use Rattle.query_meaning.specs.Running.{Run, come_to, trees_of, within}
 use Rattle.query_meaning.specs.Sequences.{Meaning}
 use Rattle.evaluation.specs.Gives.{Gives, Says, Stand}
 use Rattle.evaluation.proofs.Each.{grows_refl, then_gives}
 use Rattle.query_steps.proofs.Lists.{filter-both}
 use Rattle.query_steps.proofs.Members.{filtered-stand, within-is}
-use Rattle.query_paths.specs.Steps.{step_at}
+use Rattle.query_paths.specs.Steps.{listed_at}
 
 -- the items of a list stand in any order
 single_there : (ts : Trees) (x : Item) → IsThere ts x → AreThere ts (x ∷ [])
@@ -58,21 +58,12 @@ within_gives xs run (Ok ys) stand says = let P : List Item → Type 0 = λ zs. S
 within_gives xs run (Err fault.Memory) stand says = tt
 within_gives xs run (Err (fault.Code code)) stand says = ap (λ o. come_to o run) says
 
-pub step_gives : (a : Axis) (t : NodeTest) (ms : List Meaning) (i : ℕ) (env : Environment) (old mid : Run) (is seen : List ℕ) (xs left turned : List Item) (r : Result (List Item) ValueFault)
+pub listed_gives : (a : Axis) (t : NodeTest) (ms : List Meaning) (i : ℕ) (env : Environment) (old mid : Run) (is seen : List ℕ) (xs left turned : List Item) (r : Result (List Item) ValueFault)
     → is ≡ tested_nodes a t i (trees_of old) → seen ≡ is → xs ≡ in_direction a (nodes seen) → Gives (predicates ms env xs) old (Ok left) mid → turned ≡ in_direction a left → Says (within turned) r
-    → Gives (step_at a t ms i env) old r mid
-step_gives a t ms i env old mid is seen xs left turned r found same directed kept back says =
+    → Gives (listed_at a t ms i env) old r mid
+listed_gives a t ms i env old mid is seen xs left turned r found same directed kept back says =
     let P : List Item → Type 0 = λ ys. Gives (predicates ms env ys) old (Ok left) mid in
     let Q : List Item → Type 0 = λ ys. Says (within ys) r in
     then_gives Stand Stand (predicates ms env (in_direction a (nodes (tested_nodes a t i (trees_of old))))) (λ ys. come_to (within (in_direction a ys))) old mid mid left r
     (subst P (directed ∙ ap (λ js. in_direction a (nodes js)) (same ∙ found)) kept)
     (within_gives (in_direction a left) mid r (directed_stand a left mid kept.1.1) (subst Q back says))
-
-pub step_fails : (a : Axis) (t : NodeTest) (ms : List Meaning) (i : ℕ) (env : Environment) (old mid : Run) (is seen : List ℕ) (xs : List Item) (e : ValueFault)
-    → is ≡ tested_nodes a t i (trees_of old) → seen ≡ is → xs ≡ in_direction a (nodes seen) → Gives (predicates ms env xs) old (Err e) mid → Gives (step_at a t ms i env) old (Err e) mid
-step_fails a t ms i env old mid is seen xs fault.Memory found same directed failed = tt
-step_fails a t ms i env old mid is seen xs (fault.Code code) found same directed failed =
-    ap (λ ys. (predicates ms env ys >>= (λ zs. come_to (within (in_direction a zs)))) old) (sym (directed ∙ ap (λ js. in_direction a (nodes js)) (same ∙ found))) ∙ fails
-  where
-    fails : (predicates ms env xs >>= (λ zs. come_to (within (in_direction a zs)))) old ≡ Err code
-    fails = rw failed refl

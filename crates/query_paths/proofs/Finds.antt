@@ -16,7 +16,7 @@ use Rattle.query_meaning.specs.Environment.{Environment, with_focus}
 use Rattle.query_meaning.specs.Operators.{all_nodes, nodes}
 use Rattle.query_meaning.specs.Meaning.{mean}
 use Rattle.query_meaning.specs.Paths.{Found, all_found, and_found, found_within, concluded, mixed_code, segment}
-use Rattle.query_meaning.specs.Running.{M, Run, and_then, ◌>>=◌, come_to, each, trees_of, turn, within, most_items}
+use Rattle.query_meaning.specs.Running.{M, Run, and_then, ◌>>=◌, come_to, counted, each, trees_of, turn, within, most_items}
 use Rattle.query_meaning.specs.Sequences.{Meaning}
 use Rattle.evaluation.specs.Gives.{Fails, Gives, GivesIn, Says, Stand, Turns}
 use Rattle.evaluation.proofs.Each.{grows_refl, then_gives}
@@ -139,5 +139,5 @@ some_items (x ∷ xs) n b long e h none = cc
 
 -- ---- the parts of a path are as many as their meanings
 pub followed_gives : (parts : List Expr) (env : Environment) (items : List Item) (old new : Run) (r : Result (List Item) ValueFault)
-    → Gives (each (λ i. segment (mixed_code (length parts) i) env) 0 (map mean parts) items) old r new → Gives (followed env items (map mean parts)) old r new
-followed_gives parts env items old new r h = subst (λ k. Gives (each (λ i. segment (mixed_code k i) env) 0 (map mean parts) items) old r new) (sym (length-map parts mean)) h
+    → Gives (each (λ i given m. counted (segment (mixed_code (length parts) i) env given m)) 0 (map mean parts) items) old r new → Gives (followed env items (map mean parts)) old r new
+followed_gives parts env items old new r h = subst (λ k. Gives (each (λ i given m. counted (segment (mixed_code k i) env given m)) 0 (map mean parts) items) old r new) (sym (length-map parts mean)) h

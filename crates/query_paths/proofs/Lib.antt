@@ -3,3 +3,4 @@ pub mod Counts
 pub mod Directions
 pub mod Finds
 pub mod Numbers
+pub mod Work

@@ -6,7 +6,7 @@ use Rattle.values.specs.declared.atom.Atom.{Atom}
 use Rattle.values.specs.declared.atom.Item.{Item}
 use Rattle.query_meaning.specs.Environment.{Environment, with_focus}
 use Rattle.query_meaning.specs.Paths.{Found, all_found, and_found, found_within, segment, mixed_code}
-use Rattle.query_meaning.specs.Running.{M, Run, ◌>>=◌, come_to, each, turn, most_items}
+use Rattle.query_meaning.specs.Running.{M, Run, ◌>>=◌, come_to, counted, each, turn, most_items}
 use Rattle.query_meaning.specs.Sequences.{Meaning}
 
 -- how a proof tells what is found apart
@@ -33,6 +33,6 @@ found_in m env n i f x = turn (m (with_focus x (i + 1) n env) >>= all_found f)
 abbrev pub gathered : Environment → List Item → Meaning → M Found
 gathered env items m = each (found_in m env (length items)) 0 items (record { nodes = []; atoms = [] })
 
--- one segment after the other
+-- one segment after the other, each with its work
 abbrev pub followed : Environment → List Item → List Meaning → M (List Item)
-followed env items ms = each (λ i. segment (mixed_code (length ms) i) env) 0 ms items
+followed env items ms = each (λ i given m. counted (segment (mixed_code (length ms) i) env given m)) 0 ms items

@@ -6,8 +6,8 @@ use Rattle.data_model.specs.declared.axis.Axis.{Axis}
 use Rattle.query_grammar.specs.declared.ast.NodeTest.{NodeTest}
 use Rattle.query_meaning.specs.Environment.{Environment, Focus}
 use Rattle.query_meaning.specs.Operators.{nodes}
-use Rattle.query_meaning.specs.Paths.{tested_nodes, predicates, in_direction, node_of}
-use Rattle.query_meaning.specs.Running.{M, ◌>>=◌, come_to, seen, within}
+use Rattle.query_meaning.specs.Paths.{looked_at, tested_nodes, predicates, in_direction, node_of}
+use Rattle.query_meaning.specs.Running.{M, ◌>>=◌, come_to, seen, work, within}
 use Rattle.query_meaning.specs.Sequences.{Meaning, focus_of}
 
 abbrev pub node_in : Result Focus Code → Result ℕ Code
@@ -18,9 +18,13 @@ node_in (Err code) = Err code
 abbrev pub context_node : Environment → Result ℕ Code
 context_node env = node_in (focus_of env)
 
--- what the step gives from a node
-abbrev pub step_at : Axis → NodeTest → List Meaning → (node : ℕ) → Environment → M (List Item)
-step_at a t ms i env = do
+-- what the step gives from a node, but for the work of looking
+abbrev pub listed_at : Axis → NodeTest → List Meaning → (node : ℕ) → Environment → M (List Item)
+listed_at a t ms i env = do
   is ← seen (tested_nodes a t i)
   left ← predicates ms env (in_direction a (nodes is))
   come_to (within (in_direction a left))
+
+-- what the step gives from a node
+abbrev pub step_at : Axis → NodeTest → List Meaning → (node : ℕ) → Environment → M (List Item)
+step_at a t ms i env = (seen (looked_at a i) >>= work) >>= (λ _. listed_at a t ms i env)

@@ -16,6 +16,9 @@ use query_grammar::{Expr, IntegerLiteral};
 use sqlite_items::{Boxed, Items};
 use values::{Atom, Code, Item, ValueFault, truth};
 
+/// The work of a number that is written: a unit, and one for the item that it gives.
+const NUMBER_WORK: u64 = 2;
+
 /// Steps, filters and paths, over a function that evaluates their parts.
 #[derive(Clone, Copy)]
 pub struct Paths<F> {
@@ -40,7 +43,7 @@ impl<F: Fn(&mut Evaluation, &Expr, &Environment) -> Result<Sequence, ValueFault>
 
     /// `a[b][c]`: the items of `a` that each predicate keeps, whose positions count forward (XQuery 1.0, section 3.3.2). Codes: that of the
     /// first part that has one; FORG0006 where a predicate's value is no single number and has no effective boolean value; PXQ0002 where
-    /// no turn is left.
+    /// no turn or less work is left.
     pub fn filter(
         &self,
         run: &mut Evaluation,
@@ -94,7 +97,7 @@ impl<F: Fn(&mut Evaluation, &Expr, &Environment) -> Result<Sequence, ValueFault>
     }
 
     /// The items, however many, that each predicate keeps. Codes: that of the first predicate that has one; FORG0006 where a predicate's
-    /// value is no single number and has no effective boolean value; PXQ0002 where no turn is left.
+    /// value is no single number and has no effective boolean value; PXQ0002 where no turn or less work is left.
     pub(crate) fn filtered_by_all(
         &self,
         run: &mut Evaluation,
@@ -178,7 +181,8 @@ impl<F: Fn(&mut Evaluation, &Expr, &Environment) -> Result<Sequence, ValueFault>
         Ok(given.and_if(is_kept, item)?)
     }
 
-    /// Whether a predicate selects a position (XQuery 1.0, section 3.2.2). A number that is written is not evaluated.
+    /// Whether a predicate selects a position (XQuery 1.0, section 3.2.2). A number that is written is not evaluated, but takes the work of its
+    /// value.
     fn selects(
         &self,
         run: &mut Evaluation,
@@ -191,7 +195,9 @@ impl<F: Fn(&mut Evaluation, &Expr, &Environment) -> Result<Sequence, ValueFault>
         ensures { GivesIn Any (selected position (mean predicate.now) env.now) run.old result run.new }
     {
         if let Expr::Integer(literal) = predicate {
-            return Ok(is_position(*literal, position));
+            let is_selected = is_position(*literal, position);
+            run.spend(NUMBER_WORK)?;
+            return Ok(is_selected);
         }
         let items = self.value_of(run, predicate, env)?;
         Ok(selects(position, items.as_slice())?)

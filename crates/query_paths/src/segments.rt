@@ -6,7 +6,7 @@ ghost use Rattle.values.specs.Items.{IsThere};
 ghost use Rattle.query_meaning.specs.Meaning.{mean};
 ghost use Rattle.query_meaning.specs.Operators.{all_nodes};
 ghost use Rattle.query_meaning.specs.Paths as meaning;
-ghost use Rattle.query_meaning.specs.Running.{trees_of};
+ghost use Rattle.query_meaning.specs.Running.{counted, trees_of};
 ghost use Rattle.evaluation.specs.Evaluates.{Evaluates};
 ghost use Rattle.evaluation.specs.Gives.{Gives, GivesIn, IsReady, Stand};
 ghost use Rattle.query_paths.specs.Gathered.{IsFew, IsFewIn, followed, found_in, gathered};
@@ -20,9 +20,10 @@ use values::{Code, Item, ValueFault};
 
 impl<F: Fn(&mut Evaluation, &Expr, &Environment) -> Result<Sequence, ValueFault>> Paths<F> {
     /// `a/b/c`: what each part gives for each of the nodes that the parts before it give, which are its context items: nodes in document
-    /// order, each once, or atomic values in the order in which they come (XQuery 1.0, section 3.2). Codes: that of the first part that
-    /// has one; XPTY0019 where an item that another part is evaluated for is no node, or a part that is not the last gives both nodes and
-    /// atomic values; XPTY0018 where the last gives both; PXQ0002 where no turn is left, or where a part gives more than 10,000 nodes and values.
+    /// order, each once, or atomic values in the order in which they come (XQuery 1.0, section 3.2). Each part but the first takes a unit of
+    /// work, and one for each item of what it gives for all of them. Codes: that of the first part that has one; XPTY0019 where an item that
+    /// another part is evaluated for is no node, or a part that is not the last gives both nodes and atomic values; XPTY0018 where the last
+    /// gives both; PXQ0002 where no turn or less work is left, or where a part gives more than 10,000 nodes and values.
     pub fn path(
         &self,
         run: &mut Evaluation,
@@ -55,13 +56,33 @@ impl<F: Fn(&mut Evaluation, &Expr, &Environment) -> Result<Sequence, ValueFault>
         let mut index = 0;
         for part in parts {
             let mixed = mixed_code(parts.len(), index);
-            left = self.segment(run, left, part, mixed, env)?;
+            left = self.counted_segment(run, left, part, mixed, env)?;
             index += 1;
         }
         Ok(left)
     }
 
-    /// What a part gives for some items. Codes: XPTY0019 where one of them is no node; `mixed` where it gives both nodes and atomic values.
+    /// What a part gives for some items, with its work: a unit, and one for each item that is given. Codes: XPTY0019 where one of them is no
+    /// node; `mixed` where it gives both nodes and atomic values; PXQ0002 where less work is left.
+    fn counted_segment(
+        &self,
+        run: &mut Evaluation,
+        items: Sequence,
+        part: &Expr,
+        mixed: Code,
+        env: &Environment,
+    ) -> Result<Sequence, ValueFault>
+        requires evaluates { Evaluates (F.pre self.now.value_of) (F.post self.now.value_of) (part.now ∷ []) }
+        requires ready { IsReady env.now run.old }
+        requires stand { Stand items run.old }
+        ensures { Gives (counted (meaning.segment mixed env.now items (mean part.now))) run.old result run.new }
+    {
+        let given = self.segment(run, items, part, mixed, env)?;
+        run.count(&given)?;
+        Ok(given)
+    }
+
+    /// The same, but for its work.
     fn segment(
         &self,
         run: &mut Evaluation,
