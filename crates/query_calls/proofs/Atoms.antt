@@ -1,30 +1,31 @@
 -- How many typed values there are.
-use Rattle.std.proofs.Common.{◌≡◌, ℕ, suc, ◌+◌, ◌≤◌, Bool, true, false, cond, List, [], ◌∷◌, ◌++◌, length, refl, sym, ap, ◌∙◌, subst, arith, Result, Ok, Err, length-append}
+use Rattle.std.proofs.Common.{◌≡◌, ℕ, suc, ◌+◌, ◌≤◌, Bool, true, false, cond, List, [], ◌∷◌, ◌++◌, length, sym, ap, subst, arith, Result, Ok, Err, length-append}
 use Rattle.std.specs.List.{list_any}
 use Rattle.fault_codes.specs.declared.code.Code.{Code}
-use Rattle.data_model.specs.Trees.{Trees}
-use Rattle.values.specs.Atoms.{atomized, atom_of, ◌>>=◌}
 use Rattle.values.specs.Comparisons.{as_string, same_type_cmp}
 use Rattle.values.specs.declared.atom.Atom.{Atom}
 use Rattle.values.specs.declared.atom.Item.{Item}
 use Rattle.query_meaning.specs.Functions.{are_equal, distinct}
-use Rattle.query_meaning.specs.Running.{most_items}
+use Rattle.query_meaning.specs.Running.{Run, and_then, atom, atoms, each, most_items, pure}
+use Rattle.evaluation.specs.Atoms.{and_atom}
+
+-- how many values are come to
+abbrev width_of : Result (List Atom × Run) Code → ℕ
+width_of (Ok p) = length p.0
+width_of (Err code) = 0
 
 -- as many as there are items
-pub atoms_width : (ts : Trees) (xs : List Item) (vs : List Atom) → atomized ts xs ≡ Ok vs → length vs ≡ length xs
-atoms_width ts [] vs e = let same : [] ≡ vs = cc in ap length (sym same)
-atoms_width ts (x ∷ xs) vs e = first (atom_of ts x) (atoms_width ts xs) e
+width_then : (n : ℕ) (xs : List Item) (given vs : List Atom) (old new : Run) → each (λ _. and_atom) n xs given old ≡ Ok (vs, new) → length vs ≡ length given + length xs
+width_then n [] given vs old new e = let as_many : length given ≡ length vs = ap width_of e in omega (arith, as_many)
+width_then n (x ∷ xs) given vs old new e = first (atom x old) (λ a mid. width_then (suc n) xs (given ++ a ∷ []) vs mid new) e
   where
-    with_rest : (a : Atom) (r : Result (List Atom) Code) → ((ys : List Atom) → r ≡ Ok ys → length ys ≡ length xs) → (r >>= (λ rest. Ok (a ∷ rest))) ≡ Ok vs → length vs ≡ length (x ∷ xs)
-    with_rest a (Ok rest) width e = let same : a ∷ rest ≡ vs = cc in ap length (sym same) ∙ ap suc (width rest refl)
-    with_rest a (Err code) width e = cc
+    first : (r : Result (Atom × Run) Code) → ((a : Atom) (mid : Run) → each (λ _. and_atom) (suc n) xs (given ++ a ∷ []) mid ≡ Ok (vs, new) → length vs ≡ length (given ++ a ∷ []) + length xs)
+        → and_then (and_then r (λ a. pure (given ++ a ∷ []))) (each (λ _. and_atom) (suc n) xs) ≡ Ok (vs, new) → length vs ≡ length given + length (x ∷ xs)
+    first (Ok p) rest e = let k = rest p.0 p.1 e in omega (arith, k, length-append given (p.0 ∷ []))
+    first (Err code) rest e = cc
 
-    first : (r : Result Atom Code) → ((ys : List Atom) → atomized ts xs ≡ Ok ys → length ys ≡ length xs) → (r >>= (λ a. atomized ts xs >>= (λ rest. Ok (a ∷ rest)))) ≡ Ok vs → length vs ≡ length (x ∷ xs)
-    first (Ok a) width e = with_rest a (atomized ts xs) width e
-    first (Err code) width e = cc
-
-pub atoms_within : (ts : Trees) (xs : List Item) (vs : List Atom) → atomized ts xs ≡ Ok vs → length xs ≤ most_items → length vs ≤ most_items
-atoms_within ts xs vs e h = let P : ℕ → Type 0 = λ n. n ≤ most_items in subst P (sym (atoms_width ts xs vs e)) h
+pub atoms_within : (xs : List Item) (vs : List Atom) (old new : Run) → atoms xs old ≡ Ok (vs, new) → length xs ≤ most_items → length vs ≤ most_items
+atoms_within xs vs old new e h = let k = width_then 0 xs [] vs old new e in omega (arith, k, h)
 
 -- those that are distinct are no more
 pub distinct_width : (given xs : List Atom) → length (distinct given xs) ≤ length given + length xs

@@ -1,7 +1,6 @@
 -- What functions give, by what their parts give.
-use Rattle.std.proofs.Common.{◌≡◌, ℕ, ℤ, zero, suc, pos, List, [], ◌∷◌, ◌≤◌, length, map, refl, sym, ap, ◌∙◌, subst, arith, Option, Result, Ok, Err}
+use Rattle.std.proofs.Common.{◌≡◌, ℕ, ℤ, zero, suc, pos, List, [], ◌∷◌, ◌≤◌, ◌<◌, length, map, refl, sym, ap, ◌∙◌, subst, arith, Option, Result, Ok, Err}
 use Rattle.fault_codes.specs.declared.code.Code.{Code}
-use Rattle.values.specs.Atoms.{atomized}
 use Rattle.values.specs.declared.atom.Atom.{Atom}
 use Rattle.values.specs.declared.atom.Item.{Item}
 use Rattle.values.specs.declared.fault.ValueFault.{ValueFault}
@@ -9,12 +8,11 @@ use Rattle.values.specs.declared.fault.ValueFault.TheVariants as fault
 use Rattle.query_grammar.specs.declared.ast.Expr.{Expr}
 use Rattle.query_grammar.specs.declared.functions.Function.{Function}
 use Rattle.query_meaning.specs.Environment.{Environment}
-use Rattle.query_meaning.specs.Functions.{all_texts, and_addend, application, applied, arguments, call, integer, items_of, string, string_join}
+use Rattle.query_meaning.specs.Functions.{all_texts, and_addend, application, applied, arguments, call, first_printed, integer, items_of, string, string_join, string_of}
 use Rattle.query_meaning.specs.Meaning.{mean}
-use Rattle.query_meaning.specs.Operators.{between_atoms}
-use Rattle.query_meaning.specs.Running.{M, Run, and_then, pure, ◌>>=◌, come_to, each, atoms, trees_of}
+use Rattle.query_meaning.specs.Running.{M, Run, and_then, pure, ◌>>=◌, come_to, each, atoms}
 use Rattle.query_meaning.specs.Strings.{limited, one_text, separated}
-use Rattle.evaluation.specs.Gives.{Any, Fails, Gives, GivesIn, Says, Stand}
+use Rattle.evaluation.specs.Gives.{Any, Fails, Gives, GivesIn, Grows, Says, Stand}
 use Rattle.evaluation.proofs.Each.{grows_refl, then_gives}
 use Rattle.query_calls.specs.Arguments.{AllStand}
 use Rattle.query_calls.specs.Parts.{sum_of}
@@ -27,17 +25,33 @@ gives_same m q old new (Ok a) e g = (e ∙ g.0, g.1)
 gives_same m q old new (Err fault.Memory) e g = tt
 gives_same m q old new (Err (fault.Code code)) e g = e ∙ g
 
--- after the typed values of an argument
-pub atoms_then : (f : List Atom → M (List Item)) (items : List Item) (values seen : List Atom) (old new : Run) (r : Result (List Item) ValueFault)
-    → atomized (trees_of old) items ≡ Ok values → seen ≡ values → Gives (f seen) old r new → Gives (atoms items >>= f) old r new
-atoms_then f items values seen old new r are same g =
-    gives_same (atoms items >>= f) (f seen) old new r (ap (λ o. and_then (come_to o old) f) are ∙ ap (λ vs. f vs old) (sym same)) g
+-- no node is lost where nothing but the work is another
+pub grows_spent : (old new : Run) → new ≡ record old { work = new.work } → Grows old new
+grows_spent old new same = subst (λ run. Grows old run) (sym same) (record { kept = λ i there. there })
 
--- of two arguments
-pub atoms_both : (f : List Atom → List Atom → M (List Item)) (left right : List Item) (xs ys seen others : List Atom) (old new : Run) (r : Result (List Item) ValueFault)
-    → atomized (trees_of old) left ≡ Ok xs → atomized (trees_of old) right ≡ Ok ys → seen ≡ xs → others ≡ ys → Gives (f seen others) old r new → Gives (between_atoms f left right) old r new
-atoms_both f left right xs ys seen others old new r are too same also g =
-    atoms_then (λ vs. atoms right >>= f vs) left xs seen old new r are same (atoms_then (f seen) right ys others old new r too also g)
+-- the typed values of an argument
+pub atoms_give : (items : List Item) (values : List Atom) (old new : Run) → atoms items old ≡ Ok (values, new) → new ≡ record old { work = new.work } → GivesIn Any (atoms items) old (Ok values) new
+atoms_give items values old new are same = (are, (grows_spent old new same, tt))
+
+pub atoms_fail : {A : Type 0} (f : List Atom → M A) (items : List Item) (old : Run) (found : ValueFault) → Fails (atoms items old) found → Fails ((atoms items >>= f) old) found
+atoms_fail f items old fault.Memory h = tt
+atoms_fail f items old (fault.Code code) h = ap (λ r. and_then r f) h
+
+pub atoms_then : (f : List Atom → M (List Item)) (items : List Item) (values seen : List Atom) (old mid new : Run) (r : Result (List Item) ValueFault)
+    → GivesIn Any (atoms items) old (Ok values) mid → seen ≡ values → Gives (f seen) mid r new → Gives (atoms items >>= f) old r new
+atoms_then f items values seen old mid new r are same g =
+    then_gives Any Stand (atoms items) f old mid new values r are (subst (λ vs. Gives (f vs) mid r new) same g)
+
+-- the string of one item
+pub string_of_one : (items lent : List Item) (run : Run) → lent ≡ items → 1 ≤ length lent → length lent < 2 → string_of items run ≡ (atoms items >>= (λ values. string (first_printed values))) run
+string_of_one [] lent run same some few = absurd (let none = ap length same in omega (arith, none, some))
+string_of_one (x ∷ []) lent run same some few = refl
+string_of_one (x ∷ y ∷ more) lent run same some few = absurd (let many = ap length same in omega (arith, many, few))
+
+pub string_stops : (items lent : List Item) (run : Run) (found : ValueFault) → lent ≡ items → 1 ≤ length lent → length lent < 2 → Fails (atoms items run) found → Fails (string_of items run) found
+string_stops items lent run fault.Memory same some few h = tt
+string_stops items lent run (fault.Code code) same some few h =
+    string_of_one items lent run same some few ∙ atoms_fail (λ values. string (first_printed values)) items run (fault.Code code) h
 
 -- atomic values stand anywhere
 stand_anywhere : (values : List Atom) (run : Run) → Stand (items_of values) run
@@ -46,15 +60,15 @@ stand_anywhere (a ∷ more) run zero d below = tt
 stand_anywhere (a ∷ more) run (suc k) d below = stand_anywhere more run k d (omega (arith, below))
 
 -- items of values that are made of those of an argument
-pub items_give : (f : List Atom → List Atom) (items : List Item) (values made : List Atom) (run : Run) (r : Result (List Item) ValueFault)
-    → atomized (trees_of run) items ≡ Ok values → made ≡ f values → Says (Ok (items_of made)) r → Gives (atoms items >>= (λ vs. pure (items_of (f vs)))) run r run
-items_give f items values made run r are is h = atoms_then (λ vs. pure (items_of (f vs))) items values values run run r are refl (by r h)
+pub items_give : (f : List Atom → List Atom) (items : List Item) (values made : List Atom) (old new : Run) (r : Result (List Item) ValueFault)
+    → GivesIn Any (atoms items) old (Ok values) new → made ≡ f values → Says (Ok (items_of made)) r → Gives (atoms items >>= (λ vs. pure (items_of (f vs)))) old r new
+items_give f items values made old new r are is h = then_gives Any Stand (atoms items) (λ vs. pure (items_of (f vs))) old new new values r are (by r h)
   where
-    by : (r : Result (List Item) ValueFault) → Says (Ok (items_of made)) r → Gives (pure (items_of (f values))) run r run
+    by : (r : Result (List Item) ValueFault) → Says (Ok (items_of made)) r → Gives (pure (items_of (f values))) new r new
     by (Ok given) h =
-        let P : List Item → Type 0 = λ xs. Stand xs run in
+        let P : List Item → Type 0 = λ xs. Stand xs new in
         let same : items_of made ≡ given = cc in
-        (ap (λ vs. Ok (items_of vs, run)) (sym is) ∙ ap (λ xs. Ok (xs, run)) same, (grows_refl run, subst P same (stand_anywhere made run)))
+        (ap (λ vs. Ok (items_of vs, new)) (sym is) ∙ ap (λ xs. Ok (xs, new)) same, (grows_refl new, subst P same (stand_anywhere made new)))
     by (Err fault.Memory) h = tt
     by (Err (fault.Code code)) h = absurd (let no : Ok (items_of made) ≡ Err code = h in cc)
 

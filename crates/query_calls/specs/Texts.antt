@@ -4,10 +4,10 @@ use Rattle.std.specs.List.{flat_map, list_any, starts_with, ends_with}
 use Rattle.fault_codes.specs.declared.code.Code.TheVariants.{XPTY0004}
 use Rattle.values.specs.declared.atom.Atom.{Atom}
 use Rattle.values.specs.declared.atom.Item.{Item}
-use Rattle.values.specs.Atoms.{atomized}
 use Rattle.query_meaning.specs.Functions.{all_atoms, contains, integer, string, string_argument}
-use Rattle.query_meaning.specs.Running.{M, Run, fault, ◌>>=◌, come_to, trees_of}
+use Rattle.query_meaning.specs.Running.{M, Run, fault, ◌>>=◌, come_to, atoms}
 use Rattle.query_meaning.specs.Strings.{limited, printed}
+use Rattle.evaluation.specs.Gives.{Any, GivesIn}
 use Rattle.query_calls.specs.declared.strings.ArgumentValues.{ArgumentValues}
 use Rattle.query_calls.specs.declared.strings.Test.{Test}
 use Rattle.query_calls.specs.declared.strings.Test.TheVariants.{Contains, StartsWith, EndsWith}
@@ -28,17 +28,18 @@ length_of values = do
 abbrev pub is_several : List Atom → Bool
 is_several values = nat_lt 1 (length values)
 
--- the values of an argument come after those of the others
-pub record IsGatheredMore (items : List Item) (run : Run) (before after : ArgumentValues) : Type 0 where
+-- the values of an argument come after those of the others, and nothing but the work is another
+pub record IsGatheredMore (items : List Item) (old new : Run) (before after : ArgumentValues) : Type 0 where
   pub values : List Atom
-  pub are : atomized (trees_of run) items ≡ Ok values
+  pub are : atoms items old ≡ Ok (values, new)
+  pub same : new ≡ record old { work = new.work }
   pub all : after.values.items ≡ before.values.items ++ values
   pub several : after.has_several ≡ (before.has_several || is_several values)
 
 -- the values of all arguments, one after the other
-pub record IsGathered (arguments : List (List Item)) (run : Run) (g : ArgumentValues) : Type 0 where
+pub record IsGathered (arguments : List (List Item)) (old new : Run) (g : ArgumentValues) : Type 0 where
   pub values : List (List Atom)
-  pub are : all_atoms arguments run ≡ Ok (values, run)
+  pub are : GivesIn Any (all_atoms arguments) old (Ok values) new
   pub all : g.values.items ≡ flat_map (λ vs. vs) values
   pub several : g.has_several ≡ list_any is_several values
 

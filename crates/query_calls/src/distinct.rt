@@ -14,7 +14,7 @@ use std::marker::Model;
 use values::{Atom, ValueFault};
 
 /// `distinct-values`: of each type and value the first, where an untyped value is a string (Functions and Operators, section 15.1.6).
-/// Code: PXQ0002 where a string value is too long.
+/// It takes the work of the typed values. Code: PXQ0002 where a string value is too long or too little work is left.
 pub fn distinct_values(run: &mut Evaluation, items: &Sequence) -> Result<Sequence, ValueFault>
     requires stand { Stand items.now run.old }
     ensures { Gives (functions.distinct_values items.now) run.old result run.new }

@@ -67,7 +67,8 @@ fn reversed(alloc: Global, items: &[Item]) -> Result<Sequence, ValueFault>
     Ok(given)
 }
 
-/// `data`: the typed values (Functions and Operators, section 2.4). Code: PXQ0002 where the string value of a node is too long.
+/// `data`: the typed values, which take their work (Functions and Operators, section 2.4). Code: PXQ0002 where the string value of a node is
+/// too long or too little work is left.
 pub fn data(run: &mut Evaluation, items: &Sequence) -> Result<Sequence, ValueFault>
     requires stand { Stand items.now run.old }
     ensures { Gives (functions.data_of items.now) run.old result run.new }

@@ -16,8 +16,8 @@ use shelves::Shelf;
 use trees::NodeId;
 use values::{Atom, Code, Item, Text, ValueFault};
 
-/// `doc`: the document of that name (Functions and Operators, section 15.5.4). Codes: PXQ0002 where a string value is too long;
-/// XPTY0004 where there is more than one value, or an integer or a boolean; FODC0002 where no document has that name.
+/// `doc`: the document of that name (Functions and Operators, section 15.5.4). Codes: PXQ0002 where a string value is too long or too
+/// little work is left; XPTY0004 where there is more than one value, or an integer or a boolean; FODC0002 where no document has that name.
 pub fn doc(run: &mut Evaluation, items: &Sequence) -> Result<Sequence, ValueFault>
     requires stand { Stand items.now run.old }
     ensures { Gives (functions.doc items.now) run.old result run.new }
@@ -78,8 +78,8 @@ fn root_of(shelf: &Shelf, id: NodeId) -> NodeId
     root
 }
 
-/// `name`: the name of a node, empty where its kind has none (Functions and Operators, section 14.1). Code: XPTY0004 where there is more
-/// than one item, or an atomic value.
+/// `name`: the name of a node, empty where its kind has none (Functions and Operators, section 14.1). It takes its work. Codes: XPTY0004
+/// where there is more than one item, or an atomic value; PXQ0002 where too little work is left.
 pub fn name(run: &mut Evaluation, items: &Sequence) -> Result<Sequence, ValueFault>
     requires stand { Stand items.now run.old }
     ensures { Gives (functions.name items.now) run.old result run.new }
@@ -99,8 +99,8 @@ fn name_of(run: &mut Evaluation, id: NodeId) -> Result<Sequence, ValueFault>
     string_of(run, Text::new(name))
 }
 
-/// `string`: an item as a string (Functions and Operators, section 2.3). Codes: XPTY0004 where there is more than one item; PXQ0002
-/// where a string value is too long.
+/// `string`: an item as a string (Functions and Operators, section 2.3). It takes the work of the typed value, and that of the string.
+/// Codes: XPTY0004 where there is more than one item; PXQ0002 where a string value is too long or too little work is left.
 pub fn string(run: &mut Evaluation, items: &Sequence) -> Result<Sequence, ValueFault>
     requires stand { Stand items.now run.old }
     ensures { Gives (functions.string_of items.now) run.old result run.new }

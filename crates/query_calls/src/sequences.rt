@@ -8,7 +8,7 @@ ghost use Rattle.values.specs.declared.atom.Item.TheVariants as item;
 
 use evaluation::{Evaluation, Sequence};
 use std::alloc::Global;
-use values::{Atom, Item, Text, ValueFault};
+use values::{Atom, Item, Text, ValueFault, text_work};
 
 /// One boolean. It fails only where memory is refused.
 pub(crate) fn boolean_of(run: &mut Evaluation, value: bool) -> Result<Sequence, ValueFault>
@@ -24,10 +24,11 @@ pub(crate) fn integer_of(run: &mut Evaluation, value: i64) -> Result<Sequence, V
     Ok(Sequence::one(run.alloc(), Item::Atomic(Atom::Integer(value)))?)
 }
 
-/// One string. It fails only where memory is refused.
+/// One string that is made, which takes its work. Code: PXQ0002 where less work is left.
 pub(crate) fn string_of(run: &mut Evaluation, text: Text) -> Result<Sequence, ValueFault>
     ensures { Gives (functions.string text) run.old result run.new }
 {
+    run.spend(text_work(text.as_str()))?;
     Ok(Sequence::one(run.alloc(), Item::Atomic(Atom::String(text)))?)
 }
 

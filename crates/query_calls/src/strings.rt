@@ -3,11 +3,10 @@
 ghost use Rattle.std.specs.Prelude.{◌≡◌, ◌==◌, ◌++◌, map, length, chars, IfOk, IfErr, OnOk, Ok, Err};
 ghost use Rattle.std.specs.List as list;
 ghost use Rattle.std.specs.List.{All, flat_map};
-ghost use Rattle.values.specs.Atoms.{atomized};
 ghost use Rattle.query_meaning.specs.Environment.{no_environment};
 ghost use Rattle.query_meaning.specs.Functions as functions;
 ghost use Rattle.query_meaning.specs.Operators.{between_atoms};
-ghost use Rattle.query_meaning.specs.Running.{Run, trees_of};
+ghost use Rattle.query_meaning.specs.Running.{Run, atoms};
 ghost use Rattle.query_meaning.specs.Strings as meaning;
 ghost use Rattle.evaluation.specs.Gives.{Fails, Gives, Says, Stand};
 ghost use Rattle.query_calls.specs.Texts.{IsGathered, IsGatheredMore, concatenated_of, holds_by, length_of};
@@ -68,7 +67,7 @@ fn tested(
 }
 
 /// `contains`: whether the first text holds the second (Functions and Operators, section 7.5.1). Codes: PXQ0002 where a string value is
-/// too long; XPTY0004 where an argument has more than one value, or an integer or a boolean.
+/// too long or too little work is left; XPTY0004 where an argument has more than one value, or an integer or a boolean.
 pub fn contains(
     run: &mut Evaluation,
     text: &Sequence,
@@ -114,7 +113,7 @@ pub fn ends_with(
 }
 
 /// `string-length`: how many characters a text has (Functions and Operators, section 7.4.4). Codes: PXQ0002 where a string value is too
-/// long; XPTY0004 where there is more than one value, or an integer or a boolean.
+/// long or too little work is left; XPTY0004 where there is more than one value, or an integer or a boolean.
 pub fn string_length(run: &mut Evaluation, items: &Sequence) -> Result<Sequence, ValueFault>
     requires stand { Stand items.now run.old }
     ensures { Gives (functions.string_length items.now) run.old result run.new }
@@ -141,8 +140,9 @@ fn characters(text: &str) -> usize
     text.chars().count()
 }
 
-/// `string-join`: the texts of values, with a separator between each two (Functions and Operators, section 7.4.2). Codes: PXQ0002 where a
-/// string value or the result is too long; XPTY0004 where there is an integer or a boolean, or not just one separator.
+/// `string-join`: the texts of values, with a separator between each two (Functions and Operators, section 7.4.2). It takes the work of the
+/// typed values, and that of the result. Codes: PXQ0002 where a string value or the result is too long, or too little work is left;
+/// XPTY0004 where there is an integer or a boolean, or not just one separator.
 pub fn string_join(
     run: &mut Evaluation,
     items: &Sequence,
@@ -190,8 +190,9 @@ struct ArgumentValues {
     has_several: bool,
 }
 
-/// `concat`: the texts of arguments that have at most one value each (Functions and Operators, section 7.4.1). Codes: PXQ0002 where a
-/// string value or the result is too long; XPTY0004 where an argument has more than one value.
+/// `concat`: the texts of arguments that have at most one value each (Functions and Operators, section 7.4.1). It takes the work of the typed
+/// values, and that of the result. Codes: PXQ0002 where a string value or the result is too long, or too little work is left; XPTY0004
+/// where an argument has more than one value.
 pub fn concat(run: &mut Evaluation, arguments: &[Sequence]) -> Result<Sequence, ValueFault>
     requires stand { All (λ s. Stand s run.old) arguments.now }
     ensures { Gives (functions.concatenated no_environment arguments.now) run.old result run.new }
@@ -200,10 +201,10 @@ pub fn concat(run: &mut Evaluation, arguments: &[Sequence]) -> Result<Sequence, 
     concatenated(run, &gathered)
 }
 
-fn gathered(run: &Evaluation, arguments: &[Sequence]) -> Result<ArgumentValues, ValueFault>
-    requires stand { All (λ s. Stand s run.now) arguments.now }
-    ensures ok { IfOk result (λ g. IsGathered arguments.now run.now g) }
-    ensures code { IfErr result (λ fault. Fails (functions.all_atoms arguments.now run.now) fault) }
+fn gathered(run: &mut Evaluation, arguments: &[Sequence]) -> Result<ArgumentValues, ValueFault>
+    requires stand { All (λ s. Stand s run.old) arguments.now }
+    ensures ok { IfOk result (λ g. IsGathered arguments.now run.old run.new g) }
+    ensures code { IfErr result (λ fault. Fails (functions.all_atoms arguments.now run.old) fault) }
 {
     let mut gathered = ArgumentValues {
         values: Vec::new(run.alloc()),
@@ -217,13 +218,13 @@ fn gathered(run: &Evaluation, arguments: &[Sequence]) -> Result<ArgumentValues, 
 
 /// The values before, and then those of an argument.
 fn and_argument(
-    run: &Evaluation,
+    run: &mut Evaluation,
     gathered: ArgumentValues,
     argument: &Sequence,
 ) -> Result<ArgumentValues, ValueFault>
-    requires stand { Stand argument.now run.now }
-    ensures ok { IfOk result (λ g. IsGatheredMore argument.now run.now gathered g) }
-    ensures code { IfErr result (λ fault. Fails (atomized (trees_of run.now) argument.now) fault) }
+    requires stand { Stand argument.now run.old }
+    ensures ok { IfOk result (λ g. IsGatheredMore argument.now run.old run.new gathered g) }
+    ensures code { IfErr result (λ fault. Fails (atoms argument.now run.old) fault) }
 {
     let ArgumentValues {
         mut values,

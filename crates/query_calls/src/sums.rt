@@ -11,8 +11,8 @@ use evaluation::{Evaluation, Sequence};
 use values::{Atom, Code, ValueFault, read_integer};
 
 /// `sum`: the sum of integers from the left, 0 where there are none; an untyped value is read as one (Functions and Operators, section
-/// 15.4.5). Codes: PXQ0002 where a string value is too long; FORG0006 at a string or a boolean; FORG0001 where an untyped value doesn't
-/// read as an integer; FOAR0002 where a sum on the way is out of range.
+/// 15.4.5). Codes: PXQ0002 where a string value is too long or too little work is left; FORG0006 at a string or a boolean; FORG0001 where
+/// an untyped value doesn't read as an integer; FOAR0002 where a sum on the way is out of range.
 pub fn sum(run: &mut Evaluation, items: &Sequence) -> Result<Sequence, ValueFault>
     requires stand { Stand items.now run.old }
     ensures { Gives (functions.sum items.now) run.old result run.new }
