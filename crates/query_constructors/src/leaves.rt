@@ -37,9 +37,9 @@ impl<F: Fn(&mut Evaluation, &Expr, &Environment) -> Result<Sequence, ValueFault>
         (self.value_of)(run, x, env)
     }
 
-    /// `attribute n {..}`: a new attribute, with the typed values of its content joined by single spaces (XQuery 1.0, section 3.7.3.2).
-    /// Codes: those of the name, then of the content; PXQ0002 where a string value or the text is too long; PXQ0003 where the evaluation
-    /// would have made more than 100,000 nodes.
+    /// `attribute n {..}`: a new attribute, with the typed values of its content joined by single spaces (XQuery 1.0, section 3.7.3.2). It
+    /// takes the work of the typed values. Codes: those of the name, then of the content; PXQ0002 where a string value or the text is too
+    /// long, or too little work is left; PXQ0003 where the evaluation would have made more than 100,000 nodes.
     pub fn attribute(
         &self,
         run: &mut Evaluation,
@@ -57,8 +57,9 @@ impl<F: Fn(&mut Evaluation, &Expr, &Environment) -> Result<Sequence, ValueFault>
         with_text(run, Kind::Attribute, name.as_str(), text.as_str())
     }
 
-    /// `text {..}`: a new text, or nothing of nothing (XQuery 1.0, section 3.7.3.4). Codes: those of the content; PXQ0002 where a string
-    /// value or the text is too long; PXQ0003 where the evaluation would have made more than 100,000 nodes.
+    /// `text {..}`: a new text, or nothing of nothing (XQuery 1.0, section 3.7.3.4). It takes the work of the typed values. Codes: those of
+    /// the content; PXQ0002 where a string value or the text is too long, or too little work is left; PXQ0003 where the evaluation would have
+    /// made more than 100,000 nodes.
     pub fn text(
         &self,
         run: &mut Evaluation,
@@ -74,9 +75,9 @@ impl<F: Fn(&mut Evaluation, &Expr, &Environment) -> Result<Sequence, ValueFault>
         text_of_values(run, &values)
     }
 
-    /// `comment {..}`: a new comment (XQuery 1.0, section 3.7.3.6). Codes: those of the content; PXQ0002 where a string value or the text
-    /// is too long; XQDY0072 where the text holds two hyphens or ends in one; PXQ0003 where the evaluation would have made more than
-    /// 100,000 nodes.
+    /// `comment {..}`: a new comment (XQuery 1.0, section 3.7.3.6). It takes the work of the typed values. Codes: those of the content;
+    /// PXQ0002 where a string value or the text is too long, or too little work is left; XQDY0072 where the text holds two hyphens or ends in
+    /// one; PXQ0003 where the evaluation would have made more than 100,000 nodes.
     pub fn comment(
         &self,
         run: &mut Evaluation,
@@ -93,8 +94,9 @@ impl<F: Fn(&mut Evaluation, &Expr, &Environment) -> Result<Sequence, ValueFault>
     }
 
     /// `processing-instruction n {..}`: a new processing instruction, without the white space that its text begins with (XQuery 1.0,
-    /// section 3.7.3.5). Codes: those of the name, then of the content; PXQ0002 where a string value or the text is too long; XQDY0026
-    /// where the text holds `?>`; PXQ0003 where the evaluation would have made more than 100,000 nodes.
+    /// section 3.7.3.5). It takes the work of the typed values. Codes: those of the name, then of the content; PXQ0002 where a string value or
+    /// the text is too long, or too little work is left; XQDY0026 where the text holds `?>`; PXQ0003 where the evaluation would have made more
+    /// than 100,000 nodes.
     pub fn instruction(
         &self,
         run: &mut Evaluation,
@@ -113,7 +115,7 @@ impl<F: Fn(&mut Evaluation, &Expr, &Environment) -> Result<Sequence, ValueFault>
         with_text(run, Kind::Instruction, name.as_str(), text)
     }
 
-    /// The typed values of an expression's items, joined by single spaces.
+    /// The typed values of an expression's items, which take their work, joined by single spaces.
     fn text_of(
         &self,
         run: &mut Evaluation,

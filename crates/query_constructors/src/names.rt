@@ -20,8 +20,9 @@ use trees::Kind;
 use values::{Atom, Code, Text, ValueFault};
 
 impl<F: Fn(&mut Evaluation, &Expr, &Environment) -> Result<Sequence, ValueFault>> Constructors<F> {
-    /// The name of a new node of that kind. Codes: that of the expression which gives it; XPTY0004 where that is not one string or
-    /// untyped value; XQDY0041 and XQDY0064 for a processing instruction, and XQDY0074 for other kinds, where it is no name for one.
+    /// The name of a new node of that kind. Codes: that of the expression which gives it; PXQ0002 where a string value is too long or too
+    /// little work is left; XPTY0004 where there is not one string or untyped value; XQDY0041 and XQDY0064 for a processing instruction,
+    /// and XQDY0074 for other kinds, where it is no name for one.
     pub fn name_of(
         &self,
         run: &mut Evaluation,
@@ -39,7 +40,7 @@ impl<F: Fn(&mut Evaluation, &Expr, &Environment) -> Result<Sequence, ValueFault>
         }
     }
 
-    /// The name that an expression gives.
+    /// The name that an expression gives, whose typed values take their work.
     fn named(
         &self,
         run: &mut Evaluation,
