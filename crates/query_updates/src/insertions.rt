@@ -25,11 +25,12 @@ use values::{Code, ValueFault};
 
 impl<F: Fn(&mut Evaluation, &Expr, &Environment) -> Result<Sequence, ValueFault>> Updates<F> {
     /// `insert node a into b`, or beside `b`: copies of what `a` gives are to stand there, attributes in the list of the element that they
-    /// stand below (XQuery Update Facility 1.0, section 2.4.1). Codes: those of `a`; PXQ0002 where a text is too long; PXQ0003 where the
-    /// evaluation would have made more than 100,000 nodes; XUTY0004 where an attribute comes after what is none; then those of `b`; XUDY0027
-    /// where it is empty; XUTY0005 where it is anything else than a document or an element, or beside it, XUTY0006 where it is anything else
-    /// than one node that is neither a document nor an attribute, and XUDY0029 where that has no parent; XUTY0022, or beside `b` XUDY0030, where
-    /// attributes would stand below a document; PXQ0002 where there would be more than 10,000 primitives.
+    /// stand below (XQuery Update Facility 1.0, section 2.4.1). Codes: those of `a`; PXQ0002 where a text is too long or too little work is
+    /// left; PXQ0003 where the evaluation would have made more than 100,000 nodes; XUTY0004 where an attribute comes after what is none;
+    /// then those of `b`; XUDY0027 where it is empty; XUTY0005 where it is anything else than a document or an element, or beside it,
+    /// XUTY0006 where it is anything else than one node that is neither a document nor an attribute, and XUDY0029 where that has no parent;
+    /// XUTY0022, or beside `b` XUDY0030, where attributes would stand below a document; PXQ0002 where there would be more than 10,000
+    /// primitives.
     pub fn insert(
         &self,
         run: &mut Evaluation,

@@ -18,9 +18,10 @@ use values::ValueFault;
 
 impl<F: Fn(&mut Evaluation, &Expr, &Environment) -> Result<Sequence, ValueFault>> Updates<F> {
     /// `rename node a as b`: its element, attribute or processing instruction is to have that name (XQuery Update Facility 1.0, section
-    /// 2.4.4). Codes: those of the target; XUDY0027 where it is empty; XUTY0012 where it is anything else than one such node; then
-    /// those of the name; XPTY0004 where that is not one string or untyped value; XQDY0041 and XQDY0064 for a processing instruction,
-    /// and XQDY0074 for other kinds, where it is no name for one; PXQ0002 where there would be more than 10,000 primitives.
+    /// 2.4.4). Codes: those of the target; XUDY0027 where it is empty; XUTY0012 where it is anything else than one such node; then those of
+    /// the name; PXQ0002 where a string value is too long or too little work is left; XPTY0004 where there is not one string or untyped
+    /// value; XQDY0041 and XQDY0064 for a processing instruction, and XQDY0074 for other kinds, where it is no name for one; PXQ0002 where
+    /// there would be more than 10,000 primitives.
     pub fn rename(
         &self,
         run: &mut Evaluation,

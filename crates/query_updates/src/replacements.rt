@@ -18,14 +18,14 @@ use query_grammar::Expr;
 use query_strings::spaced;
 use sqlite_items::Boxed;
 use trees::Kind;
-use values::{Atom, Code, ValueFault};
+use values::{Atom, Code, ValueFault, text_work};
 
 impl<F: Fn(&mut Evaluation, &Expr, &Environment) -> Result<Sequence, ValueFault>> Updates<F> {
     /// `replace node a with b`: copies of what `b` gives are to stand in the place of `a` (XQuery Update Facility 1.0, section 2.4.3.1).
     /// Codes: those of the target; XUDY0027 where it is empty; XUTY0008 where it is anything else than one node that is no document;
-    /// XUDY0009 where that has no parent; then those of `b`; PXQ0002 where a text is too long; PXQ0003 where the evaluation would have made
-    /// more than 100,000 nodes; XUTY0011 where the target is an attribute and a new node is none; XUTY0010 where a new node is an attribute
-    /// and the target is none; PXQ0002 where there would be more than 10,000 primitives.
+    /// XUDY0009 where that has no parent; then those of `b`; PXQ0002 where a text is too long or too little work is left; PXQ0003 where the
+    /// evaluation would have made more than 100,000 nodes; XUTY0011 where the target is an attribute and a new node is none; XUTY0010 where
+    /// a new node is an attribute and the target is none; PXQ0002 where there would be more than 10,000 primitives.
     pub fn replace_node(
         &self,
         run: &mut Evaluation,
@@ -67,8 +67,8 @@ impl<F: Fn(&mut Evaluation, &Expr, &Environment) -> Result<Sequence, ValueFault>
     /// `replace value of node a with b`: the typed values of `b`, joined by single spaces, are to be the text of `a`, or of an element's
     /// only child, where there is a value (XQuery Update Facility 1.0, section 2.4.3.2). Codes: those of the target; XUDY0027 where it is
     /// empty; XUTY0008 where it is anything else than one node that is no document; then those of `b`; PXQ0002 where a string value or the
-    /// text is too long; PXQ0003 where the evaluation would have made more than 100,000 nodes; XQDY0072 and XQDY0026 where the text is none
-    /// for a comment or a processing instruction; PXQ0002 where there would be more than 10,000 primitives.
+    /// text is too long, or too little work is left; PXQ0003 where the evaluation would have made more than 100,000 nodes; XQDY0072 and
+    /// XQDY0026 where the text is none for a comment or a processing instruction; PXQ0002 where there would be more than 10,000 primitives.
     pub fn replace_value(
         &self,
         run: &mut Evaluation,
@@ -145,7 +145,7 @@ fn text_of_values(run: &mut Evaluation, values: &[Atom]) -> Result<CopiedContent
     }
 }
 
-/// Replaces the text of a node that is no element. A text takes an identity also here, as the definition has it.
+/// Replaces the text of a node that is no element. A text takes its work and an identity also here, as the definition has it.
 fn replace_text(
     run: &mut Evaluation,
     target: Target,
@@ -157,6 +157,7 @@ fn replace_text(
         [] => set_text(run, target, ""),
         _ => {
             let text = spaced(run.alloc(), values)?;
+            run.spend(text_work(text.as_str()))?;
             run.new_nodes(1)?;
             set_text(run, target, text.as_str())
         }
