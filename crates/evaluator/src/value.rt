@@ -3,6 +3,7 @@
 ghost use Rattle.query_meaning.specs.Meaning.{mean};
 ghost use Rattle.evaluation.specs.Gives.{Gives, IsReady, Stand};
 ghost use Rattle.query_control.specs.Operations.{set_operated};
+ghost use Rattle.evaluator.specs.Uncounted.{uncounted};
 
 use evaluation::{Environment, Evaluation, Sequence};
 use query_calls::Calls;
@@ -16,12 +17,25 @@ use query_steps::{except, intersect, union};
 use query_updates::Updates;
 use values::ValueFault;
 
-/// The items of an expression, in an environment whose nodes stand among the trees.
+/// The items of an expression, in an environment whose nodes stand among the trees. Its work is counted.
 ///
-/// Faults: `Memory`; `Code` with the code of the first fault of the evaluation. Nothing is said then of what the evaluation has made.
+/// Faults: `Memory`; `Code` with the code of the first fault of the evaluation, PXQ0002 where too little work is left. Nothing is said then
+/// of what the evaluation has made.
+#[cycle(value_of)]
 pub fn value_of(run: &mut Evaluation, x: &Expr, env: &Environment) -> Result<Sequence, ValueFault>
     requires ready { IsReady env.now run.old }
     ensures { Gives (mean x.now env.now) run.old result run.new }
+{
+    let items = value_by_form(run, x, env)?;
+    run.count(&items)?;
+    Ok(items)
+}
+
+/// The same, by the form of the expression and before its work is counted.
+#[cycle(value_of)]
+fn value_by_form(run: &mut Evaluation, x: &Expr, env: &Environment) -> Result<Sequence, ValueFault>
+    requires ready { IsReady env.now run.old }
+    ensures { Gives (uncounted x.now env.now) run.old result run.new }
 {
     let forms = Forms { value_of };
     let paths = Paths { value_of };
