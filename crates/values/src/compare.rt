@@ -1,6 +1,6 @@
 //! Comparisons of atomic values (XQuery 1.0, section 3.5).
 
-ghost use Rattle.std.specs.Prelude.{◌≡◌, ◌-◌, ◌&&◌, nat_le, if◌then◌else◌, Ok, Err, IfOk, IfErr, OnOk, length, map, take};
+ghost use Rattle.std.specs.Prelude.{◌≡◌, ◌-◌, ◌&&◌, nat_le, if◌then◌else◌, Ok, Err, IfOk, IfErr, OnOk, map, take};
 ghost use Rattle.std.specs.List.{sum};
 ghost use Rattle.fault_codes.specs.declared.code.Code.{Code};
 ghost use Rattle.values.specs.declared.fault.ValueFault.{ValueFault};
@@ -10,7 +10,6 @@ ghost use Rattle.values.specs.Comparisons.{holds, string_cmp, same_type_cmp, as_
 use super::atom::Atom;
 use super::fault::ValueFault;
 use super::operand::{Operand, Types, operands};
-use super::work::text_work;
 use fault_codes::Code;
 use std::alloc::Global;
 use std::cmp::Ordering;
@@ -119,23 +118,7 @@ fn compare_pair(op: Comparison, left: &Operand, right: &Operand) -> Result<bool,
 fn pair_work(left: &Operand, right: &Operand) -> u64
     ensures { result ≡ pair_work left.now right.now }
 {
-    match (left.atom(), right.atom()) {
-        (Atom::String(left) | Atom::Untyped(left), Atom::String(right) | Atom::Untyped(right)) => {
-            text_work(shorter(left.as_str(), right.as_str()))
-        }
-        _ => 0,
-    }
-}
-
-/// The text of the two that has fewer bytes, or the first where they have as many.
-fn shorter<'a>(left: &'a str, right: &'a str) -> &'a str
-    ensures { result.now ≡ (if nat_le (length left.now) (length right.now) then left.now else right.now) }
-{
-    if left.len() <= right.len() {
-        left
-    } else {
-        right
-    }
+    left.work().min(right.work())
 }
 
 /// One value of a general comparison's left side with each of the right side, as long as there are turns and work.

@@ -3,12 +3,14 @@
 ghost use Rattle.std.specs.Prelude.{◌≡◌, IfOk};
 ghost use Rattle.values.specs.Readings.{integer_of, boolean_of};
 ghost use Rattle.values.specs.Atoms.{or_fault};
+ghost use Rattle.values.specs.Work.{text_work, text_of};
 ghost use Rattle.values.specs.declared.atom.Atom.TheVariants.{Untyped};
 ghost use Rattle.fault_codes.specs.declared.code.Code.TheVariants.{FORG0001};
 
 use super::atom::Atom;
 use super::readings::{cast_boolean, cast_integer, read_boolean, read_integer};
 use super::text::Text;
+use super::work::atom_work;
 use fault_codes::Code;
 use std::alloc::{AllocError, Global};
 use std::marker::Model;
@@ -38,12 +40,14 @@ impl Types {
     }
 }
 
-/// An atomic value with what it reads as, where it is untyped and that was read: a text is read once, and not beside each other value.
+/// An atomic value with the work of its text, and with what it reads as, where it is untyped and that was read: a text is read once,
+/// and not beside each other value.
 #[derive(Drop)]
 pub(super) struct Operand<'a> {
     atom: &'a Atom,
     integer: Option<Option<i64>>,
     boolean: Option<Option<bool>>,
+    work: u64,
 }
 
 impl<'a> Model for Operand<'a> {
@@ -69,11 +73,13 @@ impl<'a> Operand<'a> {
                 atom,
                 integer: types.integer.then(|| read_integer(text.as_str())),
                 boolean: types.boolean.then(|| read_boolean(text.as_str())),
+                work: atom_work(atom),
             },
             _ => Operand {
                 atom,
                 integer: None,
                 boolean: None,
+                work: atom_work(atom),
             },
         }
     }
@@ -83,6 +89,13 @@ impl<'a> Operand<'a> {
         ensures { result.now ≡ self.now }
     {
         self.atom
+    }
+
+    /// The work of its text; 0 where it has none.
+    pub(super) fn work(&self) -> u64
+        ensures { result ≡ text_work (text_of self.now) }
+    {
+        self.work
     }
 
     /// The integer that its text reads as. Code: FORG0001 where it reads as none.
