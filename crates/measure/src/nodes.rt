@@ -277,7 +277,7 @@ pub fn compared(alloc: Global, count: u32) -> Option<u32> {
 /// The same on a shelf.
 fn compare_on(alloc: Global, shelf: &Shelf) -> Option<u32> {
     let other = [Atom::String(Text::new(String::from_str(alloc, "other").ok()?))];
-    let mut turns = 1_000_000;
+    let (mut turns, mut work) = (1_000_000, 100_000_000);
     let mut equal: u32 = 0;
     let document = shelf.document("db")?;
     if !shelf.has(document) {
@@ -286,7 +286,16 @@ fn compare_on(alloc: Global, shelf: &Shelf) -> Option<u32> {
     for id in shelf.children(document) {
         if shelf.has(*id) {
             let atoms = typed_value(alloc, shelf, *id)?;
-            if compare_general(alloc, Comparison::Equal, &atoms, &other, &mut turns).ok()? {
+            if compare_general(
+                alloc,
+                Comparison::Equal,
+                &atoms,
+                &other,
+                &mut turns,
+                &mut work,
+            )
+            .ok()?
+            {
                 equal = equal.saturating_add(1);
             }
         }

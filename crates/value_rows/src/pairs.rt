@@ -24,31 +24,32 @@ fn read_pair<'a>(alloc: Global, words: &mut Words<'a>) -> Result<Pair<'a>, RowFa
     Ok(Pair { left, name, right })
 }
 
-/// `turns N`: a number of turns.
-fn turns(words: &mut Words<'_>) -> Result<u64, RowFault> {
-    if words.plain()? == "turns" {
+/// A number after that word.
+fn number_after(words: &mut Words<'_>, word: &str) -> Result<u64, RowFault> {
+    if words.plain()? == word {
         words.number()
     } else {
         Err(RowFault::NotARow)
     }
 }
 
-/// The result of an operation on two sequences: of a `value` comparison, or of `each` of them; of a `general` comparison with so many turns;
-/// of `arithmetic`, and of what it reads as its `operands`.
+/// The result of an operation on two sequences: of a `value` comparison, or of `each` of them; of a `general` comparison with so many turns,
+/// or `paid` for by so much work; of `arithmetic`, and of what it reads as its `operands`.
 pub(super) fn result_of(
     alloc: Global,
     operation: &str,
     words: &mut Words<'_>,
 ) -> Result<String, RowFault> {
     let pair = read_pair(alloc, words)?;
-    let turns = if operation == "general" {
-        turns(words)
-    } else {
-        Ok(0)
+    let left = match operation {
+        "general" => number_after(words, "turns"),
+        "paid" => number_after(words, "work"),
+        _ => Ok(0),
     };
     match operation {
         "value" => by_value(alloc, pair.name, &pair.left, &pair.right),
-        "general" => in_general(alloc, pair.name, &pair.left, &pair.right, turns),
+        "general" => in_general(alloc, pair.name, &pair.left, &pair.right, left),
+        "paid" => paid(alloc, pair.name, &pair.left, &pair.right, left),
         "each" => each(alloc, pair.name, &pair.left, &pair.right),
         "arithmetic" => calculated(alloc, pair.name, &pair.left, &pair.right),
         "operands" => operands(alloc, pair.name, &pair.left, &pair.right),
@@ -74,7 +75,10 @@ fn by_value(alloc: Global, name: &str, left: &[Atom], right: &[Atom]) -> Result<
     Ok(shown(alloc, compare_value(comparison(name)?, left, right))?)
 }
 
-/// `general LEFT = RIGHT turns N`: a general comparison with so many turns, and how many of them are left.
+/// More turns, or more work, than any row takes.
+const PLENTY: u64 = 1_000_000;
+
+/// `general LEFT = RIGHT turns N`: a general comparison with so many turns, and how many of them are left; after a code nothing says that.
 fn in_general(
     alloc: Global,
     name: &str,
@@ -82,10 +86,26 @@ fn in_general(
     right: &[Atom],
     turns: Result<u64, RowFault>,
 ) -> Result<String, RowFault> {
-    let mut turns = turns?;
-    match compare_general(alloc, comparison(name)?, left, right, &mut turns) {
+    let (mut turns, mut work) = (turns?, PLENTY);
+    match compare_general(alloc, comparison(name)?, left, right, &mut turns, &mut work) {
         Ok(truth) => Ok(format!(in alloc; "{truth}, {turns} left")?),
-        Err(ValueFault::Code(code)) => Ok(format!(in alloc; "{code}, {turns} left")?),
+        Err(ValueFault::Code(code)) => Ok(format!(in alloc; "{code}")?),
+        Err(ValueFault::Memory) => Err(RowFault::Memory),
+    }
+}
+
+/// `paid LEFT = RIGHT work N`: a general comparison with so much work, and how much of it is left; after a code nothing says that.
+fn paid(
+    alloc: Global,
+    name: &str,
+    left: &[Atom],
+    right: &[Atom],
+    work: Result<u64, RowFault>,
+) -> Result<String, RowFault> {
+    let (mut turns, mut work) = (PLENTY, work?);
+    match compare_general(alloc, comparison(name)?, left, right, &mut turns, &mut work) {
+        Ok(truth) => Ok(format!(in alloc; "{truth}, {work} left")?),
+        Err(ValueFault::Code(code)) => Ok(format!(in alloc; "{code}")?),
         Err(ValueFault::Memory) => Err(RowFault::Memory),
     }
 }
