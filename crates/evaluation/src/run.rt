@@ -11,6 +11,7 @@ ghost use Rattle.values.specs.Items.{IsThere};
 ghost use Rattle.query_meaning.specs.Copies.{copy_of};
 ghost use Rattle.query_meaning.specs.Environment.{looked_at};
 ghost use Rattle.query_meaning.specs.Meaning.{start};
+ghost use Rattle.query_meaning.specs.Operators.{ordering};
 ghost use Rattle.query_meaning.specs.Running.{Run, trees_of, adding, atom, atoms, copying, most_nodes, nodes_of, new_nodes, standing, work};
 ghost use Rattle.evaluation.specs.Copying.{standing_copy};
 ghost use Rattle.evaluation.specs.Gives.{Any, Fails, GivesIn, Says, Stand, Turns};
@@ -30,6 +31,9 @@ const MOST_TURNS: u64 = 1_000_000;
 
 /// The most work in an evaluation (our own limit).
 const MOST_WORK: u64 = 100_000_000;
+
+/// The work of a node that is put in document order, where it is not the only one.
+const ORDERING: u64 = 16;
 
 /// How many bytes of a copied text are one unit of work.
 const BYTES_A_UNIT: u64 = 16;
@@ -137,6 +141,22 @@ impl<'a> Evaluation<'a> {
                 Ok(())
             }
             None => Err(ValueFault::Code(Code::PXQ0002)),
+        }
+    }
+
+    /// Takes the work of putting so many nodes in document order: 16 units for each but one. Code: PXQ0002 where less is left.
+    #[tactic(auto, unfolding(query_meaning::specs::Running::most_work))]
+    pub fn order(&mut self, nodes: usize) -> Result<(), ValueFault>
+        ensures ordered { GivesIn Any (ordering nodes) self.old result self.new }
+        ensures same { self.new ≡ record self.old { work = self.new.work } }
+    {
+        let left = self.work;
+        match (nodes.saturating_sub(1) as u64).checked_mul(ORDERING) {
+            Some(units) if units <= left => {
+                self.work = left - units;
+                Ok(())
+            }
+            _ => Err(ValueFault::Code(Code::PXQ0002)),
         }
     }
 

@@ -1,5 +1,5 @@
 -- Each form keeps what its parts keep.
-use Rattle.std.proofs.Common.{ℕ, suc, ◌+◌, ℤ, pos, neg_ℤ, ◌+ℤ◌, Bool, true, false, not, ◌&&◌, ◌||◌, List, [], ◌∷◌, ◌++◌, length, map, reverse, filter, Option, Some, None, Result, Err}
+use Rattle.std.proofs.Common.{ℕ, suc, ◌+◌, ◌-◌, ◌*◌, ℤ, pos, neg_ℤ, ◌+ℤ◌, Bool, true, false, not, ◌&&◌, ◌||◌, List, [], ◌∷◌, ◌++◌, length, map, reverse, filter, Option, Some, None, Result, Err}
 use Rattle.std.specs.List.{starts_with, ends_with, concat}
 use Rattle.std.specs.Prelude.{◌==◌, chars}
 use Rattle.data_model.specs.Order.{identities, precedes}
@@ -196,7 +196,7 @@ module _ (R : Run → Run → Type 0) (s : IsQuiet R) where
   set_of : (belongs : Bool → Bool → Bool) (left right : List Item) → K (operators.set_of belongs left right)
   set_of belongs left right =
       step (come (operators.all_nodes code.XPTY0004 left)) (λ xs. step (come (operators.all_nodes code.XPTY0004 right)) (λ ys.
-      step (seen_keeps R s (λ ts. filter (λ i. belongs (is_in i xs) (is_in i ys)) (identities ts))) (λ is. come (within (operators.nodes is)))))
+      step (work_keeps R s (16 * (length xs + length ys - 1))) (λ _. step (seen_keeps R s (λ ts. filter (λ i. belongs (is_in i xs) (is_in i ys)) (identities ts))) (λ is. come (within (operators.nodes is))))))
 
   truth_of : (m : M (List Item)) → K m → K (operators.truth_of m)
   truth_of m k = step k (λ items. step (come (truth items)) (λ b. pure_ (one (atom.Boolean b))))
@@ -270,7 +270,7 @@ module _ (R : Run → Run → Type 0) (s : IsQuiet R) where
   all_found found xs = each_keeps R s {f = λ _ given x. come_to (paths.found_within (paths.and_found given x))} (λ n given x. come (paths.found_within (paths.and_found given x))) 0 xs found
 
   concluded : (mixed : Code) (is : List ℕ) (values : List Atom) → K (paths.concluded mixed is values)
-  concluded mixed is [] = seen_keeps R s (λ ts. operators.nodes (filter (λ i. is_in i is) (identities ts)))
+  concluded mixed is [] = step (work_keeps R s (16 * (length is - 1))) (λ _. seen_keeps R s (λ ts. operators.nodes (filter (λ i. is_in i is) (identities ts))))
   concluded mixed [] (a ∷ more) = pure_ (map (λ x. item.Atomic x) (a ∷ more))
   concluded mixed (i ∷ is) (a ∷ more) = come (Err mixed)
 

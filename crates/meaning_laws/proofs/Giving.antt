@@ -1,5 +1,5 @@
 -- Each form gives at most as many items as there may be, and nodes that stand, where its parts do.
-use Rattle.std.proofs.Common.{◌≡◌, ℕ, suc, ◌+◌, ◌≤◌, ◌<◌, ℤ, pos, neg_ℤ, ◌+ℤ◌, Bool, true, false, not, ◌&&◌, ◌||◌, nat_le, nat_lt, if◌then◌else◌, Option, Some, None}
+use Rattle.std.proofs.Common.{◌≡◌, ℕ, suc, ◌+◌, ◌-◌, ◌*◌, ◌≤◌, ◌<◌, ℤ, pos, neg_ℤ, ◌+ℤ◌, Bool, true, false, not, ◌&&◌, ◌||◌, nat_le, nat_lt, if◌then◌else◌, Option, Some, None}
 use Rattle.std.proofs.Common.{List, [], ◌∷◌, ◌++◌, length, map, reverse, filter, Option, Some, None, Ok, Err, refl, ap, subst, sym, arith}
 use Rattle.std.proofs.lemmas.Bool.{ltb-false, leb-true}
 use Rattle.std.proofs.lemmas.Grind.{reverse_onto}
@@ -399,9 +399,9 @@ between_nodes holds left right = bind (come_any (operators.one_node left)) (λ b
 set_of : {r : Run} (belongs : Bool → Bool → Bool) (left right : List Item) → Holds r (List Item) Given (operators.set_of belongs left right)
 set_of belongs left right =
     bind (come_any (operators.all_nodes code.XPTY0004 left)) (λ b _ xs _. bind (come_any (operators.all_nodes code.XPTY0004 right)) (λ c _ ys _.
-    bind (see {Q = λ d is. AllStand (trees_of d) (operators.nodes is)} (λ ts. filter (λ i. belongs (is_in i xs) (is_in i ys)) (identities ts))
+    bind (work_ (16 * (length xs + length ys - 1))) (λ d _ u _. bind (see {Q = λ d is. AllStand (trees_of d) (operators.nodes is)} (λ ts. filter (λ i. belongs (is_in i xs) (is_in i ys)) (identities ts))
     (λ d s j. nodes_stand (trees_of d) _ (in_filter (trees_of d) (λ i. belongs (is_in i xs) (is_in i ys)) (identities (trees_of d)) (listed (trees_of d)))))
-    (λ d _ is q. limit (operators.nodes is) q)))
+    (λ d _ is q. limit (operators.nodes is) q))))
 
 truth_of : {r : Run} (m : M (List Item)) → Holds r (List Item) Given m → Holds r (List Item) Given (operators.truth_of m)
 truth_of m k = bind k (λ b _ items _. bind (come_any (truth items)) (λ c _ t _. one_atom (atom.Boolean t)))
@@ -523,12 +523,12 @@ all_found {r = r} found xs h =
     (λ n b given x q p. come (paths.found_within (paths.and_found given x)) (λ g e c k. found_if (paths.and_found given x) g (nat_le (length (paths.and_found given x).nodes + length (paths.and_found given x).atoms) most_items) refl e)) 0 r xs (all_any r xs) found h
 
 concluded : {r : Run} (mixed : Code) (is : List ℕ) (values : List Atom) → length is + length values ≤ most_items → Holds r (List Item) Given (paths.concluded mixed is values)
-concluded mixed is [] h = see (λ ts. operators.nodes (filter (λ i. is_in i is) (identities ts))) (λ b s k. record {
+concluded mixed is [] h = bind (work_ (16 * (length is - 1))) (λ c _ u _. see (λ ts. operators.nodes (filter (λ i. is_in i is) (identities ts))) (λ b s k. record {
   few =
       (let m = members is (identities (trees_of b)) (λ i. subst (λ n. n ≤ 1) (sym (held-identities i (trees_of b))) (s i)) in
       let l = length-map (filter (λ i. is_in i is) (identities (trees_of b))) (λ i. item.Node i) in omega (arith, m, l, h));
   stand = nodes_stand (trees_of b) _ (in_filter (trees_of b) (λ i. is_in i is) (identities (trees_of b)) (listed (trees_of b)));
-})
+}))
 concluded mixed [] (a ∷ more) h = pure_ (map (λ x. item.Atomic x) (a ∷ more)) (λ b k. record { few = (let l = length-map (a ∷ more) (λ x. item.Atomic x) in omega (arith, l, h)); stand = atoms_stand (trees_of b) (λ x. x) (a ∷ more) })
 concluded mixed (i ∷ is) (a ∷ more) h = come (Err mixed) (λ x e c k. absurd (no_value mixed x e))
 

@@ -1,5 +1,5 @@
 -- What the last segment of a path gives, and what set operators give.
-use Rattle.std.proofs.Common.{◌≡◌, ◌⊎◌, inl, inr, ℕ, suc, ◌+◌, ◌-◌, Bool, true, false, nat_le, if◌then◌else◌, List, [], ◌∷◌, map, filter, length, Result, Ok, Err, refl, ap, sym, subst, ◌∙◌}
+use Rattle.std.proofs.Common.{◌≡◌, ◌⊎◌, inl, inr, ℕ, suc, ◌+◌, ◌-◌, ◌*◌, Bool, true, false, nat_le, if◌then◌else◌, List, [], ◌∷◌, map, filter, length, Result, Ok, Err, refl, ap, sym, subst, ◌∙◌}
 use Rattle.data_model.specs.Axes.{is_in}
 use Rattle.data_model.specs.Order.{identities}
 use Rattle.fault_codes.specs.declared.code.Code.{Code}
@@ -7,7 +7,7 @@ use Rattle.fault_codes.specs.declared.code.Code.TheVariants as code
 use Rattle.values.specs.declared.atom.Atom.{Atom}
 use Rattle.values.specs.declared.atom.Item.{Item}
 use Rattle.values.specs.declared.atom.Item.TheVariants as item
-use Rattle.query_meaning.specs.Running.{Run, M, trees_of, pure, and_then, ◌>>=◌, come_to, each, turn, work, counted}
+use Rattle.query_meaning.specs.Running.{Run, M, trees_of, pure, and_then, ◌>>=◌, come_to, seen, each, turn, work, counted}
 use Rattle.query_meaning.specs.Environment.{Environment, with_focus}
 use Rattle.query_meaning.specs.Sequences.{Meaning}
 use Rattle.query_meaning.specs.Operators as operators
@@ -38,8 +38,11 @@ after_step {A = A} {B = B} Q m f holds run p h = of (m run) h
 abbrev pub IsConcluded : List Item × Run → Type 0
 IsConcluded p = IsInOrder (trees_of p.1) p.0 ⊎ IsAtomic p.0
 
+listed : (is : List ℕ) → Gives IsConcluded (seen (λ ts. operators.nodes (filter (λ i. is_in i is) (identities ts))))
+listed is run q h = is_value IsConcluded (operators.nodes (filter (λ i. is_in i is) (identities (trees_of run))), run) q (Ok (operators.nodes (filter (λ i. is_in i is) (identities (trees_of run))), run)) (inl (is, refl)) refl h
+
 concluded : (mixed : Code) (is : List ℕ) (values : List Atom) → Gives IsConcluded (paths.concluded mixed is values)
-concluded mixed is [] run q h = is_value IsConcluded (operators.nodes (filter (λ i. is_in i is) (identities (trees_of run))), run) q (Ok (operators.nodes (filter (λ i. is_in i is) (identities (trees_of run))), run)) (inl (is, refl)) refl h
+concluded mixed is [] = after_step IsConcluded (work (16 * (length is - 1))) (λ _. seen (λ ts. operators.nodes (filter (λ i. is_in i is) (identities ts)))) (λ _. listed is)
 concluded mixed [] (a ∷ more) run q h = is_value IsConcluded (map (λ x. item.Atomic x) (a ∷ more), run) q (Ok (map (λ x. item.Atomic x) (a ∷ more), run)) (inr (a ∷ more, refl)) refl h
 concluded mixed (i ∷ is) (a ∷ more) run q h = absurd (no_value mixed q h)
 

@@ -23,7 +23,7 @@ use Rattle.query_grammar.specs.declared.ast.NodeTest.{NodeTest}
 use Rattle.query_grammar.specs.declared.ast.NodeTest.TheVariants as node_test
 use Rattle.query_meaning.specs.Running.{M, pure, ◌>>=◌, come_to, seen, turn, work, counted, within, each, most_items}
 use Rattle.query_meaning.specs.Environment.{Environment, with_focus}
-use Rattle.query_meaning.specs.Operators.{all_nodes, nodes}
+use Rattle.query_meaning.specs.Operators.{all_nodes, nodes, ordering}
 use Rattle.query_meaning.specs.Sequences.{Meaning, focus_of}
 
 -- A predicate (section 3.2.2): a single integer selects that position, any other value by its effective boolean value.
@@ -133,7 +133,9 @@ all_found f xs = each (λ _ given x. come_to (found_within (and_found given x)))
 
 -- nodes in document order, or atomic values in their order; both are a fault of this code
 abbrev pub concluded : (mixed : Code) → List ℕ → List Atom → M (List Item)
-concluded mixed is [] = seen (λ ts. nodes (filter (λ i. is_in i is) (identities ts)))
+concluded mixed is [] = do
+  _ ← ordering (length is)
+  seen (λ ts. nodes (filter (λ i. is_in i is) (identities ts)))
 concluded mixed [] (a ∷ more) = pure (map (λ x. item.Atomic x) (a ∷ more))
 concluded mixed (i ∷ is) (a ∷ more) = come_to (Err mixed)
 

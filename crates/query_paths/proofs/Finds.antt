@@ -24,7 +24,7 @@ use Rattle.query_steps.proofs.Ancestors.{held-once}
 use Rattle.query_steps.proofs.Members.{filtered-stand, not-too-many, within-is}
 use Rattle.query_paths.proofs.Counts.{members}
 use Rattle.query_grammar.specs.declared.ast.Expr.{Expr}
-use Rattle.query_paths.specs.Gathered.{IsFew, IsFewIn, followed, one_found, found_in, gathered}
+use Rattle.query_paths.specs.Gathered.{IsFew, IsFewIn, followed, listed, one_found, found_in, gathered}
 
 -- one item more
 pub one_gives : (f : Found) (x : Item) (run : Run) (r : Result Found ValueFault) → Says (found_within (and_found f x)) r → IfOk r IsFew → GivesIn IsFewIn (one_found f x) run r run
@@ -70,9 +70,9 @@ module _ (mixed : Code) (env : Environment) (items : List Item) (m : Meaning) (o
       by (Ok is) h = refl
       by (Err code) h = cc
 
-  pub segment_gives : (mid : Run) (f : Found) (r : Result (List Item) ValueFault) → GivesIn IsFewIn (gathered env items m) old (Ok f) mid → Gives (concluded mixed f.nodes f.atoms) mid r mid → Gives (segment mixed env items m) old r mid
-  segment_gives mid f r found end =
-      same_gives Stand (segment mixed env items m) rest old mid r same (then_gives IsFewIn Stand (gathered env items m) (λ f. concluded mixed f.nodes f.atoms) old mid mid f r found end)
+  pub segment_gives : (mid new : Run) (f : Found) (r : Result (List Item) ValueFault) → GivesIn IsFewIn (gathered env items m) old (Ok f) mid → Gives (concluded mixed f.nodes f.atoms) mid r new → Gives (segment mixed env items m) old r new
+  segment_gives mid new f r found end =
+      same_gives Stand (segment mixed env items m) rest old new r same (then_gives IsFewIn Stand (gathered env items m) (λ f. concluded mixed f.nodes f.atoms) old mid new f r found end)
 
   pub segment_fails : (e : ValueFault) → Fails (gathered env items m old) e → Fails (segment mixed env items m old) e
   segment_fails fault.Memory failed = tt
@@ -88,22 +88,22 @@ few_gives m xs run (Err fault.Memory) to stand few says = tt
 few_gives m xs run (Err (fault.Code code)) to stand few says = absurd (not-too-many xs code few says)
 
 -- nodes that are found, in document order
-abbrev listed : List ℕ → Run → List ℕ
-listed ns run = filter (λ i. is_in i ns) (identities (trees_of run))
+abbrev in_order : List ℕ → Run → List ℕ
+in_order ns run = filter (λ i. is_in i ns) (identities (trees_of run))
 
-nodes_few : (ns : List ℕ) (vs : List Atom) (run : Run) → AreDistinct (trees_of run) → length ns + length vs ≤ most_items → length (nodes (listed ns run)) ≤ 10000
+nodes_few : (ns : List ℕ) (vs : List Atom) (run : Run) → AreDistinct (trees_of run) → length ns + length vs ≤ most_items → length (nodes (in_order ns run)) ≤ 10000
 unfolding most_items
 nodes_few ns vs run d few =
     let fewer = members ns (identities (trees_of run)) (held-once (trees_of run) d) in
-    let whole : length (nodes (listed ns run)) ≡ length (listed ns run) = length-map (listed ns run) (λ i. item.Node i) in
+    let whole : length (nodes (in_order ns run)) ≡ length (in_order ns run) = length-map (in_order ns run) (λ i. item.Node i) in
     omega (arith, few, fewer, whole)
 
 pub nodes_give : (mixed : Code) (ns : List ℕ) (vs : List Atom) (run : Run) (ordered seen : List ℕ) (xs : List Item) (r : Result (List Item) ValueFault)
     → AreDistinct (trees_of run) → vs ≡ [] → length ns + length vs ≤ most_items → ordered ≡ filter (λ i. is_in i ns) (identities (trees_of run)) → seen ≡ ordered → xs ≡ nodes seen → Says (within xs) r
-    → Gives (concluded mixed ns vs) run r run
+    → Gives (listed mixed ns vs) run r run
 nodes_give mixed ns vs run ordered seen xs r d none few found same items says =
     let P : List Item → Type 0 = λ ys. Says (within ys) r in
-    few_gives (concluded mixed ns vs) (nodes (listed ns run)) run r (ap (λ bs. concluded mixed ns bs run) none) (filtered-stand (λ i. is_in i ns) run) (nodes_few ns vs run d few) (subst P (items ∙ ap nodes (same ∙ found)) says)
+    few_gives (listed mixed ns vs) (nodes (in_order ns run)) run r (ap (λ bs. listed mixed ns bs run) none) (filtered-stand (λ i. is_in i ns) run) (nodes_few ns vs run d few) (subst P (items ∙ ap nodes (same ∙ found)) says)
 
 -- atomic values that are found
 abbrev values : List Atom → List Item
@@ -118,15 +118,15 @@ values_few : (ns : List ℕ) (vs : List Atom) → length ns + length vs ≤ most
 unfolding most_items
 values_few ns vs few = let whole : length (values vs) ≡ length vs = length-map vs (λ a. item.Atomic a) in omega (arith, few, whole)
 
-some_values : (mixed : Code) (vs : List Atom) (run : Run) → (vs ≡ [] → ⊥) → concluded mixed [] vs run ≡ Ok (values vs, run)
+some_values : (mixed : Code) (vs : List Atom) (run : Run) → (vs ≡ [] → ⊥) → listed mixed [] vs run ≡ Ok (values vs, run)
 some_values mixed [] run some = absurd (some refl)
 some_values mixed (a ∷ vs) run some = refl
 
 pub values_give : (mixed : Code) (ns : List ℕ) (vs seen : List Atom) (run : Run) (xs : List Item) (r : Result (List Item) ValueFault)
-    → ns ≡ [] → (vs ≡ [] → ⊥) → length ns + length vs ≤ most_items → seen ≡ vs → xs ≡ map (λ a. item.Atomic a) seen → Says (within xs) r → Gives (concluded mixed ns vs) run r run
+    → ns ≡ [] → (vs ≡ [] → ⊥) → length ns + length vs ≤ most_items → seen ≡ vs → xs ≡ map (λ a. item.Atomic a) seen → Says (within xs) r → Gives (listed mixed ns vs) run r run
 values_give mixed ns vs seen run xs r none some few same items says =
     let P : List Item → Type 0 = λ ys. Says (within ys) r in
-    few_gives (concluded mixed ns vs) (values vs) run r (ap (λ is. concluded mixed is vs run) none ∙ some_values mixed vs run some) (values_there vs run) (values_few ns vs few) (subst P (items ∙ ap values same) says)
+    few_gives (listed mixed ns vs) (values vs) run r (ap (λ is. listed mixed is vs run) none ∙ some_values mixed vs run some) (values_there vs run) (values_few ns vs few) (subst P (items ∙ ap values same) says)
 
 -- whether a list has items, by its length
 pub no_items : {A : Type 0} (xs : List A) (n : ℕ) (b : Bool) → n ≡ length xs → b ≡ (n == 0) → b ≡ true → xs ≡ []

@@ -5,7 +5,7 @@ ghost use Rattle.values.specs.declared.atom.Item.TheVariants as item;
 ghost use Rattle.query_meaning.specs.Paths as meaning;
 ghost use Rattle.query_meaning.specs.Running.{Run};
 ghost use Rattle.evaluation.specs.Gives.{Gives, GivesIn, Says};
-ghost use Rattle.query_paths.specs.Gathered.{IsFew, IsFewIn};
+ghost use Rattle.query_paths.specs.Gathered.{IsFew, IsFewIn, listed};
 
 use crate::kept::Kept;
 use evaluation::{Evaluation, MOST_ITEMS, Sequence};
@@ -120,10 +120,22 @@ impl Found {
         Ok(self)
     }
 
-    /// The nodes in document order, or the atomic values as they were found. Code: `mixed` where there are both.
-    pub(crate) fn concluded(self, run: &Evaluation, mixed: Code) -> Result<Sequence, ValueFault>
+    /// The nodes in document order, or the atomic values as they were found. It takes the work of putting the nodes in order. Codes: `mixed`
+    /// where there are both; PXQ0002 where less work is left.
+    pub(crate) fn concluded(self, run: &mut Evaluation, mixed: Code) -> Result<Sequence, ValueFault>
         requires few { IsFew self }
-        ensures { Gives (meaning.concluded mixed self.nodes self.atoms) run.now result run.now }
+        ensures { Gives (meaning.concluded mixed self.nodes self.atoms) run.old result run.new }
+    {
+        if self.atoms.is_empty() {
+            run.order(self.nodes.len())?;
+        }
+        self.listed(run, mixed)
+    }
+
+    /// The same, but for that work.
+    fn listed(self, run: &Evaluation, mixed: Code) -> Result<Sequence, ValueFault>
+        requires few { IsFew self }
+        ensures { Gives (listed mixed self.nodes self.atoms) run.now result run.now }
     {
         let Found { nodes, atoms, .. } = self;
         if atoms.is_empty() {

@@ -20,10 +20,10 @@ use Rattle.values.specs.declared.atom.Item.TheVariants as item
 use Rattle.values.specs.declared.fault.ValueFault.{ValueFault}
 use Rattle.values.specs.declared.fault.ValueFault.TheVariants as fault
 use Rattle.values.specs.Items.{AreThere}
-use Rattle.query_meaning.specs.Running.{Run, come_to, trees_of, within, most_items}
-use Rattle.query_meaning.specs.Operators.{all_nodes, nodes, set_of}
-use Rattle.evaluation.specs.Gives.{Fails, Gives, Says, Stand}
-use Rattle.evaluation.proofs.Each.{drop_item, drop_all, grows_refl}
+use Rattle.query_meaning.specs.Running.{M, Run, and_then, come_to, seen, trees_of, within, most_items, ◌>>=◌}
+use Rattle.query_meaning.specs.Operators.{all_nodes, nodes, ordering, set_of}
+use Rattle.evaluation.specs.Gives.{Any, Fails, Gives, GivesIn, Says, Stand}
+use Rattle.evaluation.proofs.Each.{drop_item, drop_all, grows_refl, then_gives}
 use Rattle.query_steps.proofs.Lists.{in-filter, and-turned}
 use Rattle.query_steps.specs.Sets.{in_order, is_as_wanted}
 
@@ -130,17 +130,34 @@ not-too-many xs code few h = by (nat_le (length xs) 10000) (grind (arith, nat_te
     by true e h = cc
     by false e h = cc
 
--- an operator between sets
-pub set-gives : (belongs : Bool → Bool → Bool) (left right : List Item) (xs ys ids : List ℕ) (run new : Run) (r : Result (List Item) ValueFault)
-    → all_nodes XPTY0004 left ≡ Ok xs → all_nodes XPTY0004 right ≡ Ok ys → ((i : ℕ) → is_in i ids ≡ belongs (is_in i xs) (is_in i ys)) → Gives (in_order ids) run r new → Gives (set_of belongs left right) run r new
-set-gives belongs left right xs ys ids run new r at_left at_right members g =
-    let same : set_of belongs left right run ≡ in_order ids run = rw (at_left, at_right) (ap (λ zs. come_to (within (nodes zs)) run) (filter-same (λ i. belongs (is_in i xs) (is_in i ys)) (λ i. is_in i ids) (identities (trees_of run)) (λ i _. sym (members i)))) in
-    gives-same r g same
-  where
-    gives-same : (r : Result (List Item) ValueFault) → Gives (in_order ids) run r new → set_of belongs left right run ≡ in_order ids run → Gives (set_of belongs left right) run r new
-    gives-same (Ok items) g e = (e ∙ g.0, g.1)
-    gives-same (Err fault.Memory) g e = tt
-    gives-same (Err (fault.Code code)) g e = e ∙ g
+-- an operator between sets, whose nodes are put in order
+abbrev set-listed : (Bool → Bool → Bool) → List ℕ → List ℕ → M (List Item)
+set-listed belongs xs ys = seen (λ ts. filter (λ i. belongs (is_in i xs) (is_in i ys)) (identities ts)) >>= (λ is. come_to (within (nodes is)))
+
+gives-same : (m n : M (List Item)) (run k new : Run) (r : Result (List Item) ValueFault) → m run ≡ n run → Gives n run r new → Gives m run r new
+gives-same m n run k new (Ok items) e g = (e ∙ g.0, g.1)
+gives-same m n run k new (Err fault.Memory) e g = tt
+gives-same m n run k new (Err (fault.Code code)) e g = e ∙ g
+
+pub set-gives : (belongs : Bool → Bool → Bool) (left right : List Item) (xs ys ids : List ℕ) (n : ℕ) (run mid new : Run) (u : Unit {0}) (r : Result (List Item) ValueFault)
+    → all_nodes XPTY0004 left ≡ Ok xs → all_nodes XPTY0004 right ≡ Ok ys → n ≡ length xs + length ys → GivesIn Any (ordering n) run (Ok u) mid
+    → ((i : ℕ) → is_in i ids ≡ belongs (is_in i xs) (is_in i ys)) → Gives (in_order ids) mid r new → Gives (set_of belongs left right) run r new
+set-gives belongs left right xs ys ids n run mid new u r at_left at_right count ordered members g =
+    let same : set-listed belongs xs ys mid ≡ in_order ids mid =
+    ap (λ zs. come_to (within (nodes zs)) mid) (filter-same (λ i. belongs (is_in i xs) (is_in i ys)) (λ i. is_in i ids) (identities (trees_of mid)) (λ i _. sym (members i))) in
+    let rest = gives-same (set-listed belongs xs ys) (in_order ids) mid mid new r same g in
+    let paid = subst (λ k. GivesIn Any (ordering k) run (Ok u) mid) count ordered in
+    let whole : set_of belongs left right run ≡ (ordering (length xs + length ys) >>= (λ _. set-listed belongs xs ys)) run = rw (at_left, at_right) refl in
+    gives-same (set_of belongs left right) (ordering (length xs + length ys) >>= (λ _. set-listed belongs xs ys)) run run new r whole
+    (then_gives Any Stand (ordering (length xs + length ys)) (λ _. set-listed belongs xs ys) run mid new u r paid rest)
+
+-- no work is left for it
+pub set-unpaid : (belongs : Bool → Bool → Bool) (left right : List Item) (xs ys : List ℕ) (n : ℕ) (run : Run) (e : ValueFault)
+    → all_nodes XPTY0004 left ≡ Ok xs → all_nodes XPTY0004 right ≡ Ok ys → n ≡ length xs + length ys → Fails (ordering n run) e → Fails (set_of belongs left right run) e
+set-unpaid belongs left right xs ys n run fault.Memory at_left at_right count h = tt
+set-unpaid belongs left right xs ys n run (fault.Code code) at_left at_right count h =
+    let whole : set_of belongs left right run ≡ (ordering (length xs + length ys) >>= (λ _. set-listed belongs xs ys)) run = rw (at_left, at_right) refl in
+    whole ∙ ap (λ r. and_then r (λ (_ : Unit {0}). set-listed belongs xs ys)) (ap (λ k. ordering k run) (sym count) ∙ h)
 
 -- the first operand that isn't of nodes
 pub set-fails : (belongs : Bool → Bool → Bool) (left right : List Item) (run : Run) (e : ValueFault) → Fails (all_nodes XPTY0004 left) e → Fails (set_of belongs left right run) e

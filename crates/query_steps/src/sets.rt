@@ -13,8 +13,9 @@ use std::alloc::{AllocError, Global};
 use trees::NodeId;
 use values::{Code, Item, ValueFault};
 
-/// `union`, `|`: the nodes on either side, each once, in document order (XQuery 1.0, section 3.3.3). Codes: XPTY0004 where a side has an
-/// atomic value; PXQ0002 where there would be more than 10,000.
+/// `union`, `|`: the nodes on either side, each once, in document order (XQuery 1.0, section 3.3.3). It takes the work of putting the nodes of
+/// both sides in order. Codes: XPTY0004 where a side has an atomic value; PXQ0002 where too little work is left, or where there would be more
+/// than 10,000.
 pub fn union(
     run: &mut Evaluation,
     left: &Sequence,
@@ -26,12 +27,13 @@ pub fn union(
 {
     let nodes = all_nodes(run.alloc(), left.as_slice(), Code::XPTY0004)?;
     let others = all_nodes(run.alloc(), right.as_slice(), Code::XPTY0004)?;
+    run.order(nodes.len() + others.len())?;
     let all = joined(nodes, others)?;
     in_order(run, all)
 }
 
-/// `intersect`: the nodes that are on both sides, each once, in document order (XQuery 1.0, section 3.3.3). Code: XPTY0004 where a side has
-/// an atomic value.
+/// `intersect`: the nodes that are on both sides, each once, in document order (XQuery 1.0, section 3.3.3). It takes the same work. Codes:
+/// XPTY0004 where a side has an atomic value; PXQ0002 where too little work is left.
 pub fn intersect(
     run: &mut Evaluation,
     left: &Sequence,
@@ -43,13 +45,14 @@ pub fn intersect(
 {
     let nodes = all_nodes(run.alloc(), left.as_slice(), Code::XPTY0004)?;
     let others = all_nodes(run.alloc(), right.as_slice(), Code::XPTY0004)?;
+    run.order(nodes.len() + others.len())?;
     let set = set_of(run.alloc(), &others)?;
     let both = chosen(run.alloc(), &nodes, &set, true)?;
     in_order(run, both)
 }
 
-/// `except`: the nodes on the left that are not on the right, each once, in document order (XQuery 1.0, section 3.3.3). Code: XPTY0004 where
-/// a side has an atomic value.
+/// `except`: the nodes on the left that are not on the right, each once, in document order (XQuery 1.0, section 3.3.3). It takes the same work.
+/// Codes: XPTY0004 where a side has an atomic value; PXQ0002 where too little work is left.
 pub fn except(
     run: &mut Evaluation,
     left: &Sequence,
@@ -61,6 +64,7 @@ pub fn except(
 {
     let nodes = all_nodes(run.alloc(), left.as_slice(), Code::XPTY0004)?;
     let others = all_nodes(run.alloc(), right.as_slice(), Code::XPTY0004)?;
+    run.order(nodes.len() + others.len())?;
     let set = set_of(run.alloc(), &others)?;
     let rest = chosen(run.alloc(), &nodes, &set, false)?;
     in_order(run, rest)

@@ -20,5 +20,5 @@ pub returns : goal.returns
 returns g c =
     let P : List Item → Type 0 = λ xs. GivesIn IsFewIn (gathered c.args.env.now xs (mean c.args.part.now)) c.args.run.now (Ok c.in_ok-found.found) c.gathered.new.run in
     let Q : List Item → Type 0 = λ xs. IsOk (all_nodes XPTY0019 xs) in
-    segment_gives c.args.mixed c.args.env.now c.args.items (mean c.args.part.now) c.args.run.now (subst Q c.as_slice.ensures.items c.in_ok-are_nodes.ensures.nodes) c.gathered.new.run c.in_ok-found.found c.concluded.result
+    segment_gives c.args.mixed c.args.env.now c.args.items (mean c.args.part.now) c.args.run.now (subst Q c.as_slice.ensures.items c.in_ok-are_nodes.ensures.nodes) c.gathered.new.run c.concluded.new.run c.in_ok-found.found c.concluded.result
     (subst P c.as_slice-2.ensures.items c.in_ok-found.ensures) c.concluded.ensures

@@ -5,7 +5,7 @@ use Rattle.data_model.proofs.Climbs.{AreDistinct}
 use Rattle.query_meaning.specs.Running.{trees_of}
 use Rattle.shelves.specs.Shelf.{ShelfTerm, shelf_trees}
 use Rattle.query_paths.proofs.Finds.{nodes_give, values_give, no_items, some_items}
-use Rattle.query_paths.proofs.found.Found.concluded.Goals as goal
+use Rattle.query_paths.proofs.found.Found.listed.Goals as goal
 
 pub returns-then-is_empty : goal.returns-then-is_empty
 returns-then-is_empty c =
