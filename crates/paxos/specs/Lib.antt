@@ -1,6 +1,7 @@
 pub mod Lists
 pub mod Application
 pub mod Records
+pub mod Batches
 pub mod Knowledge
 pub mod Proposing
 pub mod Step

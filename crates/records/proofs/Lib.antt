@@ -1,2 +1,3 @@
 pub mod Votes
 pub mod Plans
+pub mod Groups

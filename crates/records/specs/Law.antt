@@ -1,6 +1,6 @@
 -- The law of records: what a write leaves, whatever happens to the member then.
 -- "Paxos Made Simple", section 2.5: an acceptor keeps what it has promised and accepted in stable storage, before it answers.
-use Rattle.std.specs.Prelude.{◌≡◌, ◌+◌, ◌-◌, ◌≤◌, ◌^◌, ℕ, suc, Bool, true, false, cond, min, Option, Some, None, Result, Ok, Err}
+use Rattle.std.specs.Prelude.{◌≡◌, ◌+◌, ◌-◌, ◌^◌, ℕ, suc, Bool, true, false, cond, min, Option, Some, None, Result, Ok, Err}
 use Rattle.paxos.specs.Records.{Record, Write, Nothing, NewPromise, NewVote, NewLearnt, written}
 use Rattle.records.specs.declared.records.RecordsFault.{RecordsFault}
 use Rattle.records.specs.declared.records.RecordsFault.TheVariants.{Memory, Store}

@@ -1,3 +1,4 @@
 pub mod Law
 pub mod Kept
 pub mod Script
+pub mod Group

@@ -1,9 +1,11 @@
 //! A record in memory.
 
-ghost use Rattle.std.specs.Prelude.{◌≡◌, ◌⊎◌, ◌≤◌, ◌<◌, length, None, Some, false, IfErr, OnErr, OnOk};
+ghost use Rattle.std.specs.Prelude.{◌≡◌, ◌⊎◌, ◌≤◌, ◌<◌, length, None, Some, false, IfErr, IfOk, OnErr, OnOk};
 ghost use Rattle.ballots.specs.Values.{positions};
 ghost use Rattle.paxos.specs.Records.{NewVote, NewLearnt, empty_record, written};
+ghost use Rattle.records.specs.Group.{AreWrites, HasRoom, IsWrite, MayBeWritten, after, write_of};
 
+use super::group::{GroupRecords, Write};
 use super::kept::Record;
 use super::records::{PlannedRecords, Records, RecordsFault};
 use ballots::{Ballot, Value, Vote};
@@ -87,6 +89,62 @@ impl Records for MemRecords {
 
 impl PlannedRecords for MemRecords {
     fn let_pass(&mut self) {}
+}
+
+/// It makes the writes on a copy of the record, which takes its place: so several writes at once cost as much as the whole record does.
+impl GroupRecords for MemRecords {
+    fn put_all(&mut self, alloc: Global, writes: &[Write]) -> Result<(), RecordsFault> {
+        if writes.is_empty() {
+            return Ok(());
+        }
+        copy_all(&mut self.kept, writes)
+    }
+}
+
+/// Makes several writes on a copy of the record, which takes its place. Where memory is refused, nothing changes.
+pub(super) fn copy_all(kept: &mut Record, writes: &[Write]) -> Result<(), RecordsFault>
+    requires writes { AreWrites writes.now }
+    requires due { MayBeWritten writes.now kept.old }
+    ensures made { OnOk result (kept.new ≡ after writes.now kept.old) }
+    ensures refused { OnErr result (kept.new ≡ kept.old) }
+    ensures memory { IfErr result (λ fault. fault ≡ RecordsFault.Memory) }
+{
+    *kept = with_all(kept, writes)?;
+    Ok(())
+}
+
+/// A copy of a record with those writes made on it. It fails for want of memory alone.
+fn with_all(kept: &Record, writes: &[Write]) -> Result<Record, RecordsFault>
+    requires writes { AreWrites writes.now }
+    requires due { MayBeWritten writes.now kept.now }
+    ensures made { IfOk result (λ r. r ≡ after writes.now kept.now) }
+    ensures memory { IfErr result (λ fault. fault ≡ RecordsFault.Memory) }
+{
+    let Ok(mut next) = kept.clone() else {
+        return Err(RecordsFault::Memory);
+    };
+    for write in writes.iter() {
+        copy_write(&mut next, write)?;
+    }
+    Ok(next)
+}
+
+/// Makes a write with a copy of its value. Where memory is refused, nothing changes.
+pub(super) fn copy_write(kept: &mut Record, write: &Write) -> Result<(), RecordsFault>
+    requires write { IsWrite write.now }
+    requires room { HasRoom write.now kept.old }
+    ensures made { OnOk result (kept.new ≡ written (write_of write.now) kept.old) }
+    ensures refused { OnErr result (kept.new ≡ kept.old) }
+    ensures memory { IfErr result (λ fault. fault ≡ RecordsFault.Memory) }
+{
+    match write {
+        Write::Promise(ballot) => {
+            kept.set_promise(*ballot);
+            Ok(())
+        }
+        Write::Vote(position, vote) => copy_vote(kept, vote.ballot, *position, &vote.value),
+        Write::Learnt(_, value) => copy_learnt(kept, value),
+    }
 }
 
 /// Records a vote for a copy of a value. Where memory is refused, nothing changes.

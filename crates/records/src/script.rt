@@ -5,11 +5,13 @@ ghost use Rattle.ballots.specs.Ballot.{below};
 ghost use Rattle.ballots.specs.Values.{positions};
 ghost use Rattle.position_map.specs.Slots.{value_at};
 ghost use Rattle.paxos.specs.Records.{Record as RecordTerm, NewPromise, NewVote, NewLearnt, empty_record, written};
+ghost use Rattle.records.specs.Group.{AreWrites, MayBeWritten, after};
 ghost use Rattle.records.specs.Law.{Counts, Goes, Puts};
 ghost use Rattle.records.specs.Script.{Script, GoesBy, IsKept, Stands, fails_at, fates_of, first_of, next_fate, one_more, stopping};
 
+use super::group::{GroupRecords, Write};
 use super::kept::Record;
-use super::memory::{copy_learnt, copy_vote};
+use super::memory::{copy_all, copy_learnt, copy_vote};
 use super::records::{PlannedRecords, Records, RecordsFault};
 use ballots::{Ballot, Value, Vote};
 use std::alloc::{AllocError, Global};
@@ -98,6 +100,23 @@ impl ScriptRecords {
             return None;
         }
         self.fails_at(self.writes.saturating_add(1))
+    }
+
+    /// Makes several writes as one write of the plan.
+    fn put_some(&mut self, writes: &[Write]) -> Result<(), RecordsFault>
+        requires writes { AreWrites writes.now }
+        requires due { MayBeWritten writes.now self.old.kept }
+        ensures law { (last : RecordTerm) → Stands self.old last last → Puts (Stands self.new) last (after writes.now last) result }
+        ensures goes { (last : RecordTerm) → Stands self.old last last
+            → Goes (Stands self.new) (fates_of self.old) (fates_of self.new) self.old.passes last (after writes.now last) result }
+        ensures counts { Counts self.old.failures self.new.failures result }
+        ensures passes { self.new.passes ≡ false }
+    {
+        let fate = self.take_fate();
+        if fate.unwrap_or(true) {
+            copy_all(&mut self.kept, writes)?;
+        }
+        self.end_write(fate)
     }
 
     /// Counts a write, and answers it.
@@ -218,6 +237,17 @@ impl Records for ScriptRecords {
 
     fn failures(&self) -> u64 {
         self.failures
+    }
+}
+
+/// Several writes at once are one write of the plan.
+impl GroupRecords for ScriptRecords {
+    fn put_all(&mut self, alloc: Global, writes: &[Write]) -> Result<(), RecordsFault> {
+        if writes.is_empty() {
+            self.passes = false;
+            return Ok(());
+        }
+        self.put_some(writes)
     }
 }
 

@@ -1,0 +1,79 @@
+-- Writes one after another.
+use Rattle.std.proofs.Common.{◌≡◌, ℕ, arith, refl, sym, ap, ◌∙◌, subst, Bool, false, List, [], ◌∷◌, ◌++◌, Some, None, Result, Ok, Err, ◌⊎◌, ⊎_elim}
+use Rattle.std.specs.Prelude.{IfErr}
+use Rattle.paxos.specs.Records.{Record, written}
+use Rattle.records.specs.Group.{after, write_of, AreWrites, Behind, GoTogether, HasRoom, IsDue, IsWrite, MayBeWritten}
+use Rattle.records.specs.Law.{Fate, Goes}
+use Rattle.records.specs.declared.records.RecordsFault.{RecordsFault}
+use Rattle.records.specs.declared.records.RecordsFault.TheVariants.{Memory, Store}
+use Rattle.records.specs.declared.group.Write.{Write}
+use Rattle.records.specs.declared.group.Write.TheVariants as write
+
+-- a learnt value that comes just behind the others, at a position, has room
+pub has_room : (w : Write) (r : Record) → IsWrite w → IsDue w r → HasRoom w r
+has_room (write.Promise ballot) r a d = tt
+has_room (write.Vote position vote) r a d = tt
+has_room (write.Learnt position value) r a d = omega arith
+
+-- one write more, behind the others
+pub writes_more : (ws : List Write) (w : Write) → AreWrites ws → IsWrite w → AreWrites (ws ++ w ∷ [])
+writes_more [] w h a = (a, tt)
+writes_more (v ∷ vs) w h a = (h.0, writes_more vs w h.1 a)
+
+pub after_more : (ws : List Write) (w : Write) (r : Record) → after (ws ++ w ∷ []) r ≡ written (write_of w) (after ws r)
+after_more [] w r = refl
+after_more (v ∷ vs) w r = after_more vs w (written (write_of v) r)
+
+may_more : (ws : List Write) (w : Write) (r : Record) → MayBeWritten ws r → IsDue w (after ws r) → MayBeWritten (ws ++ w ∷ []) r
+may_more [] w r m d = (d, tt)
+may_more (v ∷ vs) w r m d = (m.0, may_more vs w (written (write_of v) r) m.1 d)
+
+-- The store is one write more behind.
+pub behind_more : {R : Type 0} (stands : R → Record → Record → Type 0) (store : R) (ws : List Write) (w : Write) (taken : Record) → Behind stands store ws taken → IsDue w taken → Behind stands store (ws ++ w ∷ []) (written (write_of w) taken)
+behind_more stands store ws w taken b d =
+    let may = may_more ws w b.0 b.2 (subst (IsDue w) b.3 d) in
+    (b.0, b.1, may, ap (written (write_of w)) b.3 ∙ sym (after_more ws w b.0))
+
+-- So far as a loop over writes has come: the rest may be written over the record now, and makes of it what all of them make of the first.
+pub record Left (writes rest : List Write) (first now : Record) : Type 0 where
+  pub are : AreWrites rest
+  pub due : MayBeWritten rest now
+  pub same : after rest now ≡ after writes first
+
+-- all of them are left
+pub left_all : (ws : List Write) (r : Record) → AreWrites ws → MayBeWritten ws r → Left ws ws r r
+left_all ws r a d = record { are = a; due = d; same = refl }
+
+left_rest : (ws : List Write) (w : Write) (more : List Write) (first now : Record) → Left ws (w ∷ more) first now → IsWrite w × IsDue w now × Left ws more first (written (write_of w) now)
+left_rest ws w more first now l = (l.are.0, l.due.0, record { are = l.are.1; due = l.due.1; same = l.same })
+
+-- the next of them is written
+pub left_next : (ws rest : List Write) (w : Write) (more : List Write) (first now : Record) → rest ≡ w ∷ more → Left ws rest first now → IsWrite w × IsDue w now × Left ws more first (written (write_of w) now)
+left_next ws rest w more first now e l = left_rest ws w more first now (subst (λ r. Left ws r first now) e l)
+
+-- none is left
+pub left_none : (ws rest : List Write) (first now : Record) → rest ≡ [] → Left ws rest first now → now ≡ after ws first
+left_none ws rest first now e l = subst (λ r. after r now ≡ after ws first) e l.same
+
+-- of writes of which nothing is known
+pub unknown_goes : (stands : Record → Record → Type 0) (p : Bool) (last : Record) (ws : List Write) (result : Result (Unit {0}) RecordsFault) → GoTogether stands (λ _. None) (λ _. None) p last ws result
+unknown_goes stands p last [] result = λ k. refl
+unknown_goes stands p last (w ∷ ws) (Ok t) = (λ f e. absurd cc, λ k. refl)
+unknown_goes stands p last (w ∷ ws) (Err Memory) = λ k. refl
+unknown_goes stands p last (w ∷ ws) (Err Store) = (λ f e. absurd cc, λ k. refl)
+
+-- of writes of which none fails
+pub sure_goes : (stands : Record → Record → Type 0) (last : Record) (ws : List Write) (result : Result (Unit {0}) RecordsFault) → IfErr result (λ f. f ≡ Memory) → GoTogether stands (λ _. Some None) (λ _. Some None) false last ws result
+sure_goes stands last [] result h = λ k. refl
+sure_goes stands last (w ∷ ws) (Ok t) h = (λ f e. cc, λ k. refl)
+sure_goes stands last (w ∷ ws) (Err Memory) h = λ k. refl
+sure_goes stands last (w ∷ ws) (Err Store) h = absurd cc
+
+-- of writes that are made as one
+pub goes_together : (stands : Record → Record → Type 0) (old new : ℕ → Fate) (p : Bool) (last : Record) (ws : List Write) (result : Result (Unit {0}) RecordsFault) → (ws ≡ [] → ⊥) → Goes stands old new p last (after ws last) result → GoTogether stands old new p last ws result
+goes_together stands old new p last [] result some h = absurd (some refl)
+goes_together stands old new p last (w ∷ ws) result some h = h
+
+-- What a flush of records leaves, for one that knows which record they leave as they are: that one alone.
+pub flushed : {R : Type 0} (stands : R → Record → Record → Type 0) (store : R) (taken kept : Record) → (taken ≡ kept) ⊎ (taken ≡ kept) → stands store taken taken → stands store kept kept
+flushed stands store taken kept same h = subst (λ r. stands store r r) (⊎_elim (λ e. e) (λ e. e) same) h
