@@ -1,11 +1,9 @@
 -- Writes one after another.
-use Rattle.std.proofs.Common.{◌≡◌, ℕ, arith, refl, sym, ap, ◌∙◌, subst, Bool, false, List, [], ◌∷◌, ◌++◌, Some, None, Result, Ok, Err, ◌⊎◌, ⊎_elim}
-use Rattle.std.specs.Prelude.{IfErr}
+use Rattle.std.proofs.Common.{◌≡◌, ℕ, arith, refl, sym, ap, ◌∙◌, subst, Bool, List, [], ◌∷◌, ◌++◌, Result, ◌⊎◌, ⊎_elim}
 use Rattle.paxos.specs.Records.{Record, written}
 use Rattle.records.specs.Group.{after, write_of, AreWrites, Behind, GoTogether, HasRoom, IsDue, IsWrite, MayBeWritten}
 use Rattle.records.specs.Law.{Fate, Goes}
 use Rattle.records.specs.declared.records.RecordsFault.{RecordsFault}
-use Rattle.records.specs.declared.records.RecordsFault.TheVariants.{Memory, Store}
 use Rattle.records.specs.declared.group.Write.{Write}
 use Rattle.records.specs.declared.group.Write.TheVariants as write
 
@@ -54,20 +52,6 @@ left_next ws rest w more first now e l = left_rest ws w more first now (subst (�
 -- none is left
 pub left_none : (ws rest : List Write) (first now : Record) → rest ≡ [] → Left ws rest first now → now ≡ after ws first
 left_none ws rest first now e l = subst (λ r. after r now ≡ after ws first) e l.same
-
--- of writes of which nothing is known
-pub unknown_goes : (stands : Record → Record → Type 0) (p : Bool) (last : Record) (ws : List Write) (result : Result (Unit {0}) RecordsFault) → GoTogether stands (λ _. None) (λ _. None) p last ws result
-unknown_goes stands p last [] result = λ k. refl
-unknown_goes stands p last (w ∷ ws) (Ok t) = (λ f e. absurd cc, λ k. refl)
-unknown_goes stands p last (w ∷ ws) (Err Memory) = λ k. refl
-unknown_goes stands p last (w ∷ ws) (Err Store) = (λ f e. absurd cc, λ k. refl)
-
--- of writes of which none fails
-pub sure_goes : (stands : Record → Record → Type 0) (last : Record) (ws : List Write) (result : Result (Unit {0}) RecordsFault) → IfErr result (λ f. f ≡ Memory) → GoTogether stands (λ _. Some None) (λ _. Some None) false last ws result
-sure_goes stands last [] result h = λ k. refl
-sure_goes stands last (w ∷ ws) (Ok t) h = (λ f e. cc, λ k. refl)
-sure_goes stands last (w ∷ ws) (Err Memory) h = λ k. refl
-sure_goes stands last (w ∷ ws) (Err Store) h = absurd cc
 
 -- of writes that are made as one
 pub goes_together : (stands : Record → Record → Type 0) (old new : ℕ → Fate) (p : Bool) (last : Record) (ws : List Write) (result : Result (Unit {0}) RecordsFault) → (ws ≡ [] → ⊥) → Goes stands old new p last (after ws last) result → GoTogether stands old new p last ws result

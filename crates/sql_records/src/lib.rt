@@ -3,6 +3,7 @@
 
 mod creation;
 mod docs;
+mod group;
 mod keep;
 mod learnt;
 mod load;

@@ -2,8 +2,10 @@
 
 ghost use Rattle.std.specs.Prelude.{◌≡◌, ◌≤◌, ◌↔◌, None, Some, false, IsTrue};
 ghost use Rattle.records.specs.Law.{Counts, Grew};
+ghost use Rattle.sql_records.specs.Members.{HasMember, HasMembers};
 ghost use Rattle.sql_records.specs.Opened.{IsCurrent, connection_of};
 
+use super::group::put_all;
 use super::keep::put_learnt;
 use super::load::load;
 use super::promise::put_promise;
@@ -11,7 +13,7 @@ use super::reading::OpenFault;
 use super::vote::put_vote;
 use ballots::laws::spellings;
 use ballots::{Ballot, Setup, Value, put_value};
-use records::{PlannedRecords, Record, Records, RecordsFault};
+use records::{GroupRecords, PlannedRecords, Record, Records, RecordsFault, Write};
 use sqlite::{Alter, Connection};
 use std::alloc::Global;
 use std::marker::Model;
@@ -98,6 +100,29 @@ fn has_member(setup: &Setup, ballot: Ballot) -> bool
     ballot.member <= setup.members().count()
 }
 
+/// Whether there is the member of a write's ballot.
+fn is_of_member(setup: &Setup, write: &Write) -> bool
+    ensures { IsTrue result → HasMember setup.now.members write.now }
+{
+    match write {
+        Write::Promise(ballot) => has_member(setup, *ballot),
+        Write::Vote(_, vote) => has_member(setup, vote.ballot),
+        Write::Learnt(_, _) => true,
+    }
+}
+
+/// Whether there is the member of each ballot.
+fn are_of_members(setup: &Setup, writes: &[Write]) -> bool
+    ensures { IsTrue result → HasMembers setup.now.members writes.now }
+{
+    for write in writes.iter() {
+        if !is_of_member(setup, write) {
+            return false;
+        }
+    }
+    true
+}
+
 impl<S: Alter> Records for SqlRecords<S> {
     ghost use Rattle.sqlite.specs.State.{HasCleanDisk};
     ghost use Rattle.sqlite.specs.Held.{state};
@@ -174,5 +199,21 @@ impl<S: Alter> Records for SqlRecords<S> {
 
     fn failures(&self) -> u64 {
         self.failures
+    }
+}
+
+/// The writes are one transaction, so that the disk is synced once for all of them.
+impl<S: Alter> GroupRecords for SqlRecords<S> {
+    fn put_all(&mut self, alloc: Global, writes: &[Write]) -> Result<(), RecordsFault> {
+        spellings();
+        if writes.is_empty() {
+            return Ok(());
+        }
+        self.read = None;
+        if !are_of_members(&self.setup, writes) {
+            return Err(count(&mut self.failures));
+        }
+        let done = put_all(alloc, &mut self.connection, writes);
+        answer(&mut self.failures, done)
     }
 }

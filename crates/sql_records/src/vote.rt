@@ -19,11 +19,11 @@ use records::RecordsFault;
 use sqlite::{Alter, Connection, Error, Transaction, params};
 
 /// Writes the ballot as the promise, in the transaction.
-fn first<S: Alter>(tx: &mut Transaction<'_, S>, ballot: Ballot) -> Result<usize, Error>
+pub(super) fn first<S: Alter>(tx: &mut Transaction<'_, S>, ballot: Ballot) -> Result<usize, Error>
     requires { IsBallot ballot }
     ensures same_reference { tx.new.conn.ghost_name ≡ tx.old.conn.ghost_name }
-    ensures law { HasCleanDisk (state S.Store tx.new.conn.now) → (o : Setup) (last : Record) → ballot.member ≤ o.members → below ballot last.promise ≡ false → Under (state S.Store tx.old.conn.now) o last → Sees (state S.Store tx.old.conn.now) o last
-        → Under (state S.Store tx.new.conn.now) o last × OnOk result (Sees (state S.Store tx.new.conn.now) o (written (NewPromise ballot) last)) }
+    ensures law { HasCleanDisk (state S.Store tx.new.conn.now) → (o : Setup) (last now : Record) → ballot.member ≤ o.members → below ballot now.promise ≡ false → Under (state S.Store tx.old.conn.now) o last → Sees (state S.Store tx.old.conn.now) o now
+        → Under (state S.Store tx.new.conn.now) o last × OnOk result (Sees (state S.Store tx.new.conn.now) o (written (NewPromise ballot) now)) }
     ensures clean { doubt (state S.Store tx.old.conn.now).is_clean ≤ doubt (state S.Store tx.new.conn.now).is_clean }
 {
     let round = round_of(ballot);
@@ -35,7 +35,7 @@ fn first<S: Alter>(tx: &mut Transaction<'_, S>, ballot: Ballot) -> Result<usize,
 }
 
 /// Writes the vote in the place of one at its position, in the transaction.
-fn second<S: Alter>(
+pub(super) fn second<S: Alter>(
     tx: &mut Transaction<'_, S>,
     ballot: Ballot,
     position: u32,
@@ -45,8 +45,8 @@ fn second<S: Alter>(
     requires least { 1 ≤ position }
     requires most { position ≤ positions }
     ensures same_reference { tx.new.conn.ghost_name ≡ tx.old.conn.ghost_name }
-    ensures law { HasCleanDisk (state S.Store tx.new.conn.now) → (o : Setup) (last : Record) → ballot.member ≤ o.members → (v : Value) → value.now ≡ value_spelling v → IsValue v → Under (state S.Store tx.old.conn.now) o last → Sees (state S.Store tx.old.conn.now) o (written (NewPromise ballot) last)
-        → Under (state S.Store tx.new.conn.now) o last × OnOk result (Sees (state S.Store tx.new.conn.now) o (written (NewVote position (record { ballot = ballot; value = v })) last)) }
+    ensures law { HasCleanDisk (state S.Store tx.new.conn.now) → (o : Setup) (last now : Record) → ballot.member ≤ o.members → (v : Value) → value.now ≡ value_spelling v → IsValue v → Under (state S.Store tx.old.conn.now) o last → Sees (state S.Store tx.old.conn.now) o (written (NewPromise ballot) now)
+        → Under (state S.Store tx.new.conn.now) o last × OnOk result (Sees (state S.Store tx.new.conn.now) o (written (NewVote position (record { ballot = ballot; value = v })) now)) }
     ensures clean { doubt (state S.Store tx.old.conn.now).is_clean ≤ doubt (state S.Store tx.new.conn.now).is_clean }
 {
     let round = round_of(ballot);
