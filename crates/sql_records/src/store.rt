@@ -102,7 +102,7 @@ fn has_member(setup: &Setup, ballot: Ballot) -> bool
 
 /// Whether there is the member of a write's ballot.
 fn is_of_member(setup: &Setup, write: &Write) -> bool
-    ensures { IsTrue result → HasMember setup.now.members write.now }
+    ensures { IsTrue result ↔ HasMember setup.now.members write.now }
 {
     match write {
         Write::Promise(ballot) => has_member(setup, *ballot),
@@ -113,7 +113,7 @@ fn is_of_member(setup: &Setup, write: &Write) -> bool
 
 /// Whether there is the member of each ballot.
 fn are_of_members(setup: &Setup, writes: &[Write]) -> bool
-    ensures { IsTrue result → HasMembers setup.now.members writes.now }
+    ensures { IsTrue result ↔ HasMembers setup.now.members writes.now }
 {
     for write in writes.iter() {
         if !is_of_member(setup, write) {
