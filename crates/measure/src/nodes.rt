@@ -277,7 +277,8 @@ pub fn compared(alloc: Global, count: u32) -> Option<u32> {
 /// The same on a shelf.
 fn compare_on(alloc: Global, shelf: &Shelf) -> Option<u32> {
     let other = [Atom::String(Text::new(String::from_str(alloc, "other").ok()?))];
-    let (mut turns, mut work) = (1_000_000, 100_000_000);
+    let mut turns = 1_000_000;
+    let mut work = 100_000_000;
     let mut equal: u32 = 0;
     let document = shelf.document("db")?;
     if !shelf.has(document) {
