@@ -136,6 +136,8 @@ impl<S: Alter> Records for SqlRecords<S> {
 
     ghost passes = { λ s. false };
 
+    ghost base = { λ s a. ⊥ };
+
     fn load(&mut self, alloc: Global) -> Result<Record, RecordsFault> {
         spellings();
         if let Some(record) = self.read.take() {
