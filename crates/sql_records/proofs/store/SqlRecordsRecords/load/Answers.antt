@@ -24,6 +24,7 @@ returns-in-Err g c = rw (← c.self.view_is) (record {
   found = λ _. tt;
   crash = λ clean a b h. c.load.ensures.crash clean c.self.inside.setup a b h;
   kept = λ clean. omega (arith, c.load.ensures.clean);
+  base = λ clean a h. absurd h;
   counts = rw c.count.ensures.fault (subst (λ (s : Opened _). Grew s.failures c.count.new.failures) c.self.view_is c.count.ensures.counted);
   fates = λ _. refl;
   passes = refl;
