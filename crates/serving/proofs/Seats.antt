@@ -27,8 +27,11 @@ sender_byte s bytes k from = ap (λ bs. slice_get bs 8) from.spelt_so
 
 module _ {R A : Type 0} (has_applied : List (List ℕ) → List Value → A → Type 0) (app : List (List ℕ) → Application) (failed : R → ℕ) where
   -- nothing has changed where nothing was done
+  pub stays_node : (x : Node R A) → IsUnchanged has_applied failed x x
+  stays_node x = record { setup = refl; acceptor = record { kept = refl; failures = refl }; runs_as = λ u r. r }
+
   pub stays : (x : Seat R A) → Stays has_applied app failed x x
-  stays x = record { node = record { setup = refl; acceptor = record { kept = refl; failures = refl }; runs_as = λ u r. r }; lost = refl }
+  stays x = record { node = stays_node x.node; lost = refl }
 
   module _ {D : Type 0} (eq : D → D → Bool) (p : Place D) (d : Carried D) (x y : Seat R A) (n : Node R A) (is_left : y.node ≡ n) where
     -- what the node was left as is what sits there

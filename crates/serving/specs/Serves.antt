@@ -1,10 +1,11 @@
 -- What a server does: it goes on by steps of its node, and is as good as its wire.
-use Rattle.std.specs.Prelude.{◌≡◌, ℕ, Bool, List, [], ◌++◌, Result, Ok, Err}
+use Rattle.std.specs.Prelude.{◌≡◌, ◌⊎◌, ℕ, Bool, List, [], ◌++◌, Result, Ok, Err}
 use Rattle.ballots.specs.declared.value.Value.{Value}
 use Rattle.paxos.specs.Application.{Application}
 use Rattle.paxos.specs.Lists.{Has}
 use Rattle.paxos.specs.Records.{Record}
 use Rattle.serving.specs.Held.{held_in}
+use Rattle.serving.specs.Hold.{held_by}
 use Rattle.serving.specs.Leading.{is_told}
 use Rattle.serving.specs.Serving.{AreDone, BeginsIfTold, Deed, Halts, Move, Place, came_by, deeds_of, given_in, seat_after}
 use Rattle.serving.specs.declared.fault.ServeFault.{ServeFault}
@@ -14,16 +15,17 @@ use Rattle.serving.specs.declared.seat.Seat.{Seat}
 use Rattle.serving.specs.declared.state.State.{State}
 use Rattle.wires.specs.Wires.{Carried}
 
--- its node, where it stands, the datagrams that wait for a reply, and how far the word to lead has come
+-- its node, where it stands, the datagrams that it holds for the wire, those that wait for a reply, and how far the word to lead has come
 pub record Server (R A D : Type 0) : Type 0 where
   pub seat : Seat R A
   pub place : Place D
+  pub held : List (Carried D)
   pub waiting : List (Carried D)
   pub word : Word
 
--- the server that is held
+-- the server of a state
 abbrev pub shown : {R A D : Type 0} → State R A D → Server R A D
-shown x = record { seat = x.seat; place = x.place; waiting = held_in x.waiting.requests.entries; word = x.word }
+shown x = record { seat = x.seat; place = x.hold.place; held = held_by x.hold.place x.hold.outboxes.items; waiting = held_in x.waiting.requests.entries; word = x.word }
 
 -- it is told to lead
 abbrev pub told_to_lead : {R A D : Type 0} → Server R A D → Server R A D
@@ -83,3 +85,19 @@ module _ {R A D W : Type 0} (has_applied : List (List ℕ) → List Value → A 
     abbrev pub Passed : {T : Type 0} → (AreSo : T → List (Deed D) → Type 0) → Result T ServeFault → (x y : Server R A D) (v w : W) → Type 0
     Passed AreSo (Ok done) x y v w = (deeds : List (Deed D)) × AreSo done deeds × BeginsIfTold (is_told x.word) deeds × Goes x y v w deeds (came_by deeds)
     Passed AreSo (Err fault) x y v w = (brought : List (Carried D)) × Halted brought x y v w
+
+-- What a server holds is, as its steps see it, a wire that was given just that, and that brings nothing of which anything is said.
+abbrev pub AreHeld : {D : Type 0} → (held ds : List (Carried D)) → Type 0
+AreHeld held ds = held ≡ ds
+
+abbrev pub AreAny : {D : Type 0} → (held ds : List (Carried D)) → Type 0
+AreAny held ds = Unit {0}
+
+module _ {R A D : Type 0} (has_applied : List (List ℕ) → List Value → A → Type 0) (app : List (List ℕ) → Application) (failed : R → ℕ) (eq : D → D → Bool) (stands : R → Record → Record → Type 0) (is_kept : R → Type 0) where
+  -- The server went on, by these deeds first, or until its node stopped; all that its moves send is held, behind what was held before.
+  abbrev pub WentHolding : {T : Type 0} → Result T ServeFault → (first : List (Deed D)) (came : List (Carried D)) (x y : Server R A D) → Type 0
+  WentHolding r first came x y = Went has_applied app failed eq AreHeld AreAny stands is_kept r first came [] x y x.held y.held
+
+  -- the same, by just these deeds
+  abbrev pub WentByHolding : {T : Type 0} → Result T ServeFault → (deeds : List (Deed D)) → (x y : Server R A D) → Type 0
+  WentByHolding r deeds x y = WentBy has_applied app failed eq AreHeld AreAny stands is_kept r deeds x y x.held y.held

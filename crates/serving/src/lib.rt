@@ -4,6 +4,7 @@
 #![tactic(auto)]
 
 mod fault;
+mod hold;
 mod leading;
 mod place;
 mod requests;

@@ -5,7 +5,7 @@ ghost use Rattle.serving.specs.Serves.{Passed, Went, WentBy, told_to_lead};
 ghost use Rattle.serving.specs.Serving.{AreTurns, Ticked, Took};
 ghost use Rattle.wires.specs.Wires.{Carried};
 
-use super::fault::ServeFault;
+use super::hold::Hold;
 use super::leading::Word;
 use super::place::Place;
 use super::seat::Seat;
@@ -46,6 +46,7 @@ impl<R: Records + Drop, A: Application + Drop, D: Copy + Eq + Drop> Server<R, A,
         ensures node { result.seat.node ≡ node }
         ensures lost { result.seat.has_lost ≡ false }
         ensures place { result.place ≡ record { end = end; peers = peers.items } }
+        ensures held { result.held ≡ [] }
         ensures waiting { result.waiting ≡ [] }
         ensures word { result.word ≡ Word.Unsaid }
     {
@@ -57,7 +58,7 @@ impl<R: Records + Drop, A: Application + Drop, D: Copy + Eq + Drop> Server<R, A,
                     node,
                     has_lost: false,
                 },
-                place: Place { end, peers },
+                hold: Hold::new(alloc, Place { end, peers }),
                 waiting: Waiting::new(alloc),
             },
         }
@@ -86,70 +87,5 @@ impl<R: Records + Drop, A: Application + Drop, D: Copy + Eq + Drop> Server<R, A,
         ensures { self.new ≡ told_to_lead self.old }
     {
         self.state.word = Word::Said;
-    }
-
-    /// Begins a ballot, so that the node leads once a majority has promised it; nothing happens where positions or rounds are spent.
-    ///
-    /// The fault: the store failed, and the node has stopped. Nothing was sent.
-    pub fn begin<W: Wire<Address = D>>(
-        &mut self,
-        alloc: Global,
-        wire: &mut W,
-    ) -> Result<(), ServeFault>
-        ensures went { WentBy A.has_applied A.meaning R.failed D.eq W.was_given W.has_brought R.stands R.is_kept result (Ticked Tick.Begin ∷ []) self.old self.new wire.old wire.new }
-        ensures brought { (ds : List (Carried D)) → W.has_brought wire.old ds → W.has_brought wire.new ds }
-    {
-        self.state.begin(alloc, wire)
-    }
-
-    /// Ticks: the node sends again what it waits for where it leads, and asks the others for what it has not learnt. Where another member leads
-    /// now, clients whose requests wait are told so. Where it was told to lead, a ballot may begin. At last what is learnt is kept in its record.
-    ///
-    /// The fault: the store failed, and the node has stopped. Nothing was sent since.
-    pub fn tick<W: Wire<Address = D>>(
-        &mut self,
-        alloc: Global,
-        wire: &mut W,
-    ) -> Result<(), ServeFault>
-        ensures went { Went A.has_applied A.meaning R.failed D.eq W.was_given W.has_brought R.stands R.is_kept result (Ticked Tick.Resend ∷ Ticked Tick.CatchUp ∷ []) [] [] self.old self.new wire.old wire.new }
-        ensures brought { (ds : List (Carried D)) → W.has_brought wire.old ds → W.has_brought wire.new ds }
-    {
-        self.state.tick_and_keep(alloc, wire)
-    }
-
-    /// Takes a datagram that a wire has brought: the node takes the step of its message, and what it sends is put on the wire. At last what is
-    /// learnt is kept in its record, so that no reply waits for that.
-    ///
-    /// The fault: the store failed, and the node has stopped. Nothing was sent since.
-    pub fn take<W: Wire<Address = D>>(
-        &mut self,
-        alloc: Global,
-        wire: &mut W,
-        arrival: Arrival<D>,
-        bytes: &[u8],
-    ) -> Result<(), ServeFault>
-        ensures went { Went A.has_applied A.meaning R.failed D.eq W.was_given W.has_brought R.stands R.is_kept result (Took (record { end = arrival.end; peer = arrival.from; bytes = bytes.now }) ∷ []) (record { end = arrival.end; peer = arrival.from; bytes = bytes.now } ∷ []) [] self.old self.new wire.old wire.new }
-        ensures brought { (ds : List (Carried D)) → W.has_brought wire.old ds → W.has_brought wire.new ds }
-    {
-        self.state.take_and_keep(alloc, wire, arrival, bytes)
-    }
-
-    /// Serves for so many turns. In each it takes one datagram, or ticks where the wire brought none for a while; and it ticks too where a while has
-    /// passed since it last did; at the end of each what is learnt is kept in its record. Says how many turns it took: all of them, unless the wire fails to say what came more often
-    /// than can be.
-    ///
-    /// The buffer holds one datagram, [`MOST_BYTES`] of it. The fault: the store failed, and the node has stopped.
-    /// Nothing was sent since.
-    pub fn serve<W: Wire<Address = D>>(
-        &mut self,
-        alloc: Global,
-        wire: &mut W,
-        buffer: &mut [u8],
-        turns: u64,
-    ) -> Result<u64, ServeFault>
-        ensures took { Passed A.has_applied A.meaning R.failed D.eq W.was_given W.has_brought R.stands R.is_kept AreTurns result self.old self.new wire.old wire.new }
-        ensures most { IfOk result (λ taken. taken ≤ turns) }
-    {
-        self.state.serve(alloc, wire, buffer, turns)
     }
 }

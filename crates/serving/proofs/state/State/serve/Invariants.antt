@@ -1,9 +1,0 @@
-use Rattle.std.proofs.Common.{◌≤◌, Ok}
-use Rattle.serving.specs.Serves.{Passed, shown}
-use Rattle.serving.specs.Serving.{AreTurns}
-use Rattle.serving.proofs.state.State.serve.Given as goal
-
-abbrev pub invariant-loop-try : goal.invariant-loop-try
-invariant-loop-try g l =
-    (l.taken ≤ l.fn.turns)
-    × Passed g.A.Application.has_applied g.A.Application.meaning g.R.Records.failed g.D.PartialEq.eq g.W.Wire.was_given g.W.Wire.has_brought g.R.Records.stands g.R.Records.is_kept AreTurns (Ok l.taken) (shown l.fn.self) (shown l.self) l.fn.wire l.wire
