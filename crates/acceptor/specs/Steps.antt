@@ -42,3 +42,9 @@ pub record Stopped {R : Type 0} (stands : R → Record → Record → Type 0) (i
 pub record IsAsWas {R : Type 0} (failed : R → ℕ) (old new : Acceptor R) : Type 0 where
   pub kept : new ≡ record { records = new.records; kept = old.kept; is_stopped = old.is_stopped }
   pub failures : failed new.records ≡ failed old.records
+
+-- Its store has failed in a flush and it has stopped: a crash leaves what one before the flush did, or the record with all that was written.
+pub record FlushFailed {R : Type 0} (base : R → Record → Type 0) (leaves : R → Record → Record → Type 0) (is_kept : R → Type 0) (failed : R → ℕ) (old new : Acceptor R) : Type 0 where
+  pub stopped : new ≡ record { records = new.records; kept = old.kept; is_stopped = true }
+  pub failures : Grew (failed old.records) (failed new.records)
+  pub crash : is_kept new.records → (a : Record) → base old.records a → leaves new.records a old.kept

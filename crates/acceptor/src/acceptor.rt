@@ -10,11 +10,11 @@ ghost use Rattle.paxos.specs.Records.{Record as RecordTerm, NewPromise, NewLearn
 ghost use Rattle.records.specs.Kept.{IsRising};
 ghost use Rattle.records.specs.Law.{Counts, Puts, Went};
 ghost use Rattle.acceptor.specs.Drafts.{IsDue, IsRefused, write_of};
-ghost use Rattle.acceptor.specs.Steps.{Took, Stopped, IsAsWas, on_prepare_writes, on_prepare_answers, on_accept_writes, on_accept_answers};
+ghost use Rattle.acceptor.specs.Steps.{FlushFailed, Took, Stopped, IsAsWas, on_prepare_writes, on_prepare_answers, on_accept_writes, on_accept_answers};
 
 use super::draft::{Draft, Write};
 use ballots::{Ballot, Value, Vote, Window};
-use records::{PlannedRecords, Record, Records, RecordsFault};
+use records::{FlushRecords, PlannedRecords, Record, Records, RecordsFault};
 use std::alloc::Global;
 use std::marker::Model;
 
@@ -50,6 +50,7 @@ impl<R: Records + Drop> Acceptor<R> {
         ensures stands { IfOk result (λ a. R.is_kept a.records → R.stands a.records a.kept a.kept) }
         ensures crash { IfOk result (λ a. R.is_kept a.records → (x y : RecordTerm) → R.stands records x y → R.stands a.records x y) }
         ensures kept { IfOk result (λ a. R.is_kept a.records → R.is_kept records) }
+        ensures base { IfOk result (λ a. R.is_kept a.records → (x : RecordTerm) → R.base records x → R.base a.records x) }
         ensures counts { IfOk result (λ a. R.failed a.records ≡ R.failed records) }
         ensures fates { IfOk result (λ a. (k : ℕ) → R.fates a.records k ≡ R.fates records k) }
         ensures refused { IfErr result (λ e. IsRefused R.stands R.is_kept R.failed R.fates records e.1 e.0) }
@@ -91,6 +92,7 @@ impl<R: Records + Drop> Acceptor<R> {
         ensures stopped { self.old.is_stopped ≡ true → IsErrOf result RecordsFault.Store }
         ensures went { self.old.is_stopped ≡ false → R.is_kept self.new.records → Went (R.stands self.new.records) (R.fates self.old.records) (R.fates self.new.records) false self.old.kept (NewPromise ballot) result }
         ensures kept { R.is_kept self.new.records → R.is_kept self.old.records }
+        ensures base { R.is_kept self.new.records → (a : RecordTerm) → R.base self.old.records a → R.base self.new.records a }
     {
         let draft = self.draft_begin(ballot)?;
         self.commit(alloc, draft)
@@ -116,6 +118,7 @@ impl<R: Records + Drop> Acceptor<R> {
         ensures silent { below ballot self.old.kept.promise ≡ true → self.old.is_stopped ≡ false → IsOk result }
         ensures went { self.old.is_stopped ≡ false → R.is_kept self.new.records → Went (R.stands self.new.records) (R.fates self.old.records) (R.fates self.new.records) false self.old.kept (on_prepare_writes self.old.kept ballot) result }
         ensures kept { R.is_kept self.new.records → R.is_kept self.old.records }
+        ensures base { R.is_kept self.new.records → (a : RecordTerm) → R.base self.old.records a → R.base self.new.records a }
     {
         let draft = self.draft_prepare(alloc, ballot, from)?;
         self.commit(alloc, draft)
@@ -143,6 +146,7 @@ impl<R: Records + Drop> Acceptor<R> {
             → (self.new ≡ self.old) × (self.old.is_stopped ≡ false → IsOk result) }
         ensures went { self.old.is_stopped ≡ false → R.is_kept self.new.records → Went (R.stands self.new.records) (R.fates self.old.records) (R.fates self.new.records) false self.old.kept (on_accept_writes self.old.kept position vote.now) result }
         ensures kept { R.is_kept self.new.records → R.is_kept self.old.records }
+        ensures base { R.is_kept self.new.records → (a : RecordTerm) → R.base self.old.records a → R.base self.new.records a }
     {
         let draft = self.draft_accept(alloc, position, vote)?;
         self.commit(alloc, draft)
@@ -159,6 +163,7 @@ impl<R: Records + Drop> Acceptor<R> {
         ensures stopped { self.old.is_stopped ≡ true → IsErrOf result RecordsFault.Store }
         ensures went { self.old.is_stopped ≡ false → R.is_kept self.new.records → Went (R.stands self.new.records) (R.fates self.old.records) (R.fates self.new.records) false self.old.kept (NewLearnt value.now) result }
         ensures kept { R.is_kept self.new.records → R.is_kept self.old.records }
+        ensures base { R.is_kept self.new.records → (a : RecordTerm) → R.base self.old.records a → R.base self.new.records a }
     {
         let draft = self.draft_keep(value)?;
         self.commit(alloc, draft)
@@ -330,6 +335,7 @@ impl<R: Records + Drop> Acceptor<R> {
         ensures quiet { writes draft.write ≡ false → (self.new ≡ self.old) × (self.old.is_stopped ≡ false → IsOk result) }
         ensures went { self.old.is_stopped ≡ false → R.is_kept self.new.records → Went (R.stands self.new.records) (R.fates self.old.records) (R.fates self.new.records) false self.old.kept draft.write result }
         ensures kept { R.is_kept self.new.records → R.is_kept self.old.records }
+        ensures base { R.is_kept self.new.records → (a : RecordTerm) → R.base self.old.records a → R.base self.new.records a }
     {
         let Draft { answer, write } = draft;
         match self.write(alloc, write) {
@@ -348,6 +354,7 @@ impl<R: Records + Drop> Acceptor<R> {
         ensures quiet { writes (write_of write) ≡ false → (self.new ≡ self.old) × (self.old.is_stopped ≡ false → IsOk result) }
         ensures went { self.old.is_stopped ≡ false → R.is_kept self.new.records → Went (R.stands self.new.records) (R.fates self.old.records) (R.fates self.new.records) false self.old.kept (write_of write) result }
         ensures kept { R.is_kept self.new.records → R.is_kept self.old.records }
+        ensures base { R.is_kept self.new.records → (a : RecordTerm) → R.base self.old.records a → R.base self.new.records a }
     {
         if self.is_stopped {
             return Err(RecordsFault::Store);
@@ -370,6 +377,37 @@ impl<R: Records + Drop> Acceptor<R> {
     }
 }
 
+impl<R: FlushRecords + Drop> Acceptor<R> {
+    /// Acknowledges all that was written since the last flush, if its records hold that back: what a call has given out since rests on it.
+    ///
+    /// Faults: memory was refused, and all of it is still held back; the store failed, now or before, and the acceptor has stopped.
+    pub fn flush(&mut self, alloc: Global) -> Result<(), RecordsFault>
+        ensures same { OnOk result (IsAsWas R.failed self.old self.new) }
+        ensures running { OnOk result (self.new.is_stopped ≡ false) }
+        ensures flushed { OnOk result (R.is_kept self.new.records → R.leaves self.new.records self.old.kept self.old.kept) }
+        ensures renewed { OnOk result (R.is_kept self.new.records → (a : RecordTerm) → R.base self.old.records a → R.base self.new.records self.old.kept) }
+        ensures memory { IsErrOf result RecordsFault.Memory → IsAsWas R.failed self.old self.new }
+        ensures held { IsErrOf result RecordsFault.Memory → R.is_kept self.new.records → (a : RecordTerm) → R.base self.old.records a
+            → R.base self.new.records a × R.leaves self.new.records a a }
+        ensures store { IsErrOf result RecordsFault.Store → self.old.is_stopped ≡ false → FlushFailed R.base R.leaves R.is_kept R.failed self.old self.new }
+        ensures stopped { self.old.is_stopped ≡ true → IsErrOf result RecordsFault.Store × (self.new ≡ self.old) }
+        ensures kept { R.is_kept self.new.records → R.is_kept self.old.records }
+        ensures fates { (IsErrOf result RecordsFault.Store → ⊥) → (k : ℕ) → R.fates self.new.records k ≡ R.fates self.old.records k }
+    {
+        if self.is_stopped {
+            return Err(RecordsFault::Store);
+        }
+        match self.records.flush(alloc) {
+            Ok(()) => Ok(()),
+            Err(RecordsFault::Memory) => Err(RecordsFault::Memory),
+            Err(RecordsFault::Store) => {
+                self.is_stopped = true;
+                Err(RecordsFault::Store)
+            }
+        }
+    }
+}
+
 impl<R: PlannedRecords + Drop> Acceptor<R> {
     /// Makes the write of what was drafted for this very acceptor, which has not changed since. Its member stops in this write, so a
     /// store that would fail by a plan makes it.
@@ -384,6 +422,7 @@ impl<R: PlannedRecords + Drop> Acceptor<R> {
         ensures quiet { writes draft.write ≡ false → (self.new ≡ self.old) × (self.old.is_stopped ≡ false → IsOk result) }
         ensures went { self.old.is_stopped ≡ false → R.is_kept self.new.records → Went (R.stands self.new.records) (R.fates self.old.records) (R.fates self.new.records) true self.old.kept draft.write result }
         ensures kept { R.is_kept self.new.records → R.is_kept self.old.records }
+        ensures base { R.is_kept self.new.records → (a : RecordTerm) → R.base self.old.records a → R.base self.new.records a }
     {
         if self.is_stopped {
             return Err(RecordsFault::Store);
@@ -414,6 +453,7 @@ fn make<R: Records>(
     ensures law { R.is_kept records.new → Puts (R.stands records.new) kept.old (written (write_of write) kept.old) result }
     ensures went { R.is_kept records.new → Went (R.stands records.new) (R.fates records.old) (R.fates records.new) false kept.old (write_of write) result }
     ensures kept { R.is_kept records.new → R.is_kept records.old }
+    ensures base { R.is_kept records.new → (a : RecordTerm) → R.base records.old a → R.base records.new a }
     ensures counts { Counts (R.failed records.old) (R.failed records.new) result }
     ensures quiet { writes (write_of write) ≡ false → IsOk result × (records.new ≡ records.old) }
     ensures passes { R.passes records.new ≡ false }
@@ -441,6 +481,7 @@ fn cut<R: PlannedRecords>(
     ensures law { R.is_kept records.new → Puts (R.stands records.new) kept.old (written (write_of write) kept.old) result }
     ensures went { R.is_kept records.new → Went (R.stands records.new) (R.fates records.old) (R.fates records.new) true kept.old (write_of write) result }
     ensures kept { R.is_kept records.new → R.is_kept records.old }
+    ensures base { R.is_kept records.new → (a : RecordTerm) → R.base records.old a → R.base records.new a }
     ensures counts { Counts (R.failed records.old) (R.failed records.new) result }
     ensures quiet { writes (write_of write) ≡ false → IsOk result × (records.new ≡ records.old) }
     ensures passes { R.passes records.new ≡ false }

@@ -9,7 +9,7 @@ ghost use Rattle.paxos.specs.WellFormed.{ArePairs, IsRecord};
 ghost use Rattle.std.specs.Option.{option_copied};
 ghost use Rattle.acceptor.specs.Drafts.{IsRefused};
 ghost use Rattle.records.specs.Law.{Went};
-ghost use Rattle.acceptor.specs.Steps.{IsAsWas, Stopped};
+ghost use Rattle.acceptor.specs.Steps.{FlushFailed, IsAsWas, Stopped};
 ghost use Rattle.ballots.specs.Messages.{Accept, Accepted, CatchUp, Chosen, Prepare, Promise, Submit, body_of, packet, window_of};
 ghost use Rattle.paxos.specs.Application.{Application};
 ghost use Rattle.proposer.specs.Following.{is_followed};
@@ -35,7 +35,7 @@ use ballots::limits::{LAST_ROUND, POSITIONS};
 use ballots::{Ballot, Members, Message, Pair, Request, Value, Vote, Window};
 use learner::Learner;
 use proposer::{Draft as ProposerDraft, Proposer, ProposerFault};
-use records::{PlannedRecords, Records, RecordsFault};
+use records::{FlushRecords, PlannedRecords, Records, RecordsFault};
 use std::alloc::Global;
 use std::marker::Model;
 
@@ -81,6 +81,7 @@ impl<R: Records + Drop> Member<R> {
         ensures loaded { IfOk result (λ x. R.is_kept x.acceptor.records → (a b : RecordTerm) → R.stands records a b → (x.acceptor.kept ≡ a) ⊎ (x.acceptor.kept ≡ b)) }
         ensures stands { IfOk result (λ x. R.is_kept x.acceptor.records → R.stands x.acceptor.records x.acceptor.kept x.acceptor.kept) }
         ensures kept { IfOk result (λ x. R.is_kept x.acceptor.records → R.is_kept records) }
+        ensures base { IfOk result (λ x. R.is_kept x.acceptor.records → (a : RecordTerm) → R.base records a → R.base x.acceptor.records a) }
         ensures counts { IfOk result (λ x. R.failed x.acceptor.records ≡ R.failed records) }
         ensures fates { IfOk result (λ x. (k : ℕ) → R.fates x.acceptor.records k ≡ R.fates records k) }
         ensures refused { IfErr result (λ e. IsRefused R.stands R.is_kept R.failed R.fates records e.1 e.0) }
@@ -617,6 +618,7 @@ impl<R: Records + Drop> Member<R> {
         ensures writes { IsErrOf result RecordsFault.Store → self.old.acceptor.is_stopped ≡ false → writes (write_in draft.change) ≡ true }
         ensures went { self.old.acceptor.is_stopped ≡ false → R.is_kept self.new.acceptor.records → Went (R.stands self.new.acceptor.records) (R.fates self.old.acceptor.records) (R.fates self.new.acceptor.records) false self.old.acceptor.kept (write_in draft.change) result }
         ensures kept { R.is_kept self.new.acceptor.records → R.is_kept self.old.acceptor.records }
+        ensures base { R.is_kept self.new.acceptor.records → (a : RecordTerm) → R.base self.old.acceptor.records a → R.base self.new.acceptor.records a }
         ensures place { (self.new.members ≡ self.old.members) × (self.new.number ≡ self.old.number) }
     {
         let Draft {
@@ -639,6 +641,7 @@ impl<R: Records + Drop> Member<R> {
         ensures went { self.old.acceptor.is_stopped ≡ false → R.is_kept self.new.acceptor.records → Went (R.stands self.new.acceptor.records) (R.fates self.old.acceptor.records) (R.fates self.new.acceptor.records) false self.old.acceptor.kept (write_in change) result }
         ensures refused { OnErr result ((self.new.proposer ≡ self.old.proposer) × (self.new.learner ≡ self.old.learner)) }
         ensures kept { R.is_kept self.new.acceptor.records → R.is_kept self.old.acceptor.records }
+        ensures base { R.is_kept self.new.acceptor.records → (a : RecordTerm) → R.base self.old.acceptor.records a → R.base self.new.acceptor.records a }
         ensures place { (self.new.members ≡ self.old.members) × (self.new.number ≡ self.old.number) }
     {
         match change {
@@ -675,6 +678,31 @@ impl<R: Records + Drop> Member<R> {
     }
 }
 
+impl<R: FlushRecords + Drop> Member<R> {
+    /// Acknowledges all that was written since the last flush, if its records hold that back: what it has sent and told since rests on it.
+    ///
+    /// Faults: memory was refused, and all of it is still held back; the store failed, now or before, and the acceptor has stopped.
+    pub fn flush(&mut self, alloc: Global) -> Result<(), RecordsFault>
+        ensures same { OnOk result (IsAsWas R.failed self.old.acceptor self.new.acceptor × ((u : Running) → IsThis u self.old → IsThis u self.new)) }
+        ensures running { OnOk result (self.new.acceptor.is_stopped ≡ false) }
+        ensures flushed { OnOk result (R.is_kept self.new.acceptor.records → R.leaves self.new.acceptor.records self.old.acceptor.kept self.old.acceptor.kept) }
+        ensures renewed { OnOk result (R.is_kept self.new.acceptor.records → (a : RecordTerm) → R.base self.old.acceptor.records a
+            → R.base self.new.acceptor.records self.old.acceptor.kept) }
+        ensures memory { IsErrOf result RecordsFault.Memory → IsAsWas R.failed self.old.acceptor self.new.acceptor × ((u : Running) → IsThis u self.old → IsThis u self.new) }
+        ensures held { IsErrOf result RecordsFault.Memory → R.is_kept self.new.acceptor.records → (a : RecordTerm) → R.base self.old.acceptor.records a
+            → R.base self.new.acceptor.records a × R.leaves self.new.acceptor.records a a }
+        ensures store { IsErrOf result RecordsFault.Store → self.old.acceptor.is_stopped ≡ false
+            → FlushFailed R.base R.leaves R.is_kept R.failed self.old.acceptor self.new.acceptor }
+        ensures stopped { self.old.acceptor.is_stopped ≡ true → IsErrOf result RecordsFault.Store × (self.new ≡ self.old) }
+        ensures others { (self.new.proposer ≡ self.old.proposer) × (self.new.learner ≡ self.old.learner) }
+        ensures kept { R.is_kept self.new.acceptor.records → R.is_kept self.old.acceptor.records }
+        ensures fates { (IsErrOf result RecordsFault.Store → ⊥) → (k : ℕ) → R.fates self.new.acceptor.records k ≡ R.fates self.old.acceptor.records k }
+        ensures place { (self.new.members ≡ self.old.members) × (self.new.number ≡ self.old.number) }
+    {
+        self.acceptor.flush(alloc)
+    }
+}
+
 impl<R: PlannedRecords + Drop> Member<R> {
     /// Makes the write of what was drafted for this very member, which has not changed since, and nothing else: a member that stops
     /// inside its write. What follows is `into_records`. A store that would fail in this write by a plan makes it.
@@ -689,6 +717,7 @@ impl<R: PlannedRecords + Drop> Member<R> {
         ensures writes { IsErrOf result RecordsFault.Store → self.old.acceptor.is_stopped ≡ false → writes (write_in draft.change) ≡ true }
         ensures went { self.old.acceptor.is_stopped ≡ false → R.is_kept self.new.acceptor.records → Went (R.stands self.new.acceptor.records) (R.fates self.old.acceptor.records) (R.fates self.new.acceptor.records) true self.old.acceptor.kept (write_in draft.change) result }
         ensures kept { R.is_kept self.new.acceptor.records → R.is_kept self.old.acceptor.records }
+        ensures base { R.is_kept self.new.acceptor.records → (a : RecordTerm) → R.base self.old.acceptor.records a → R.base self.new.acceptor.records a }
         ensures place { (self.new.members ≡ self.old.members) × (self.new.number ≡ self.old.number) }
     {
         self.write(alloc, draft.change)
@@ -704,6 +733,7 @@ impl<R: PlannedRecords + Drop> Member<R> {
         ensures writes { IsErrOf result RecordsFault.Store → self.old.acceptor.is_stopped ≡ false → writes (write_in change) ≡ true }
         ensures went { self.old.acceptor.is_stopped ≡ false → R.is_kept self.new.acceptor.records → Went (R.stands self.new.acceptor.records) (R.fates self.old.acceptor.records) (R.fates self.new.acceptor.records) true self.old.acceptor.kept (write_in change) result }
         ensures kept { R.is_kept self.new.acceptor.records → R.is_kept self.old.acceptor.records }
+        ensures base { R.is_kept self.new.acceptor.records → (a : RecordTerm) → R.base self.old.acceptor.records a → R.base self.new.acceptor.records a }
         ensures place { (self.new.members ≡ self.old.members) × (self.new.number ≡ self.old.number) }
     {
         match change {

@@ -1,7 +1,7 @@
 -- Writes one after another.
-use Rattle.std.proofs.Common.{◌≡◌, ℕ, arith, refl, sym, ap, ◌∙◌, subst, Bool, List, [], ◌∷◌, ◌++◌, Result, ◌⊎◌, ⊎_elim}
+use Rattle.std.proofs.Common.{◌≡◌, ℕ, arith, refl, sym, ap, ◌∙◌, subst, Bool, List, [], ◌∷◌, ◌++◌, Result}
 use Rattle.paxos.specs.Records.{Record, written}
-use Rattle.records.specs.Group.{after, write_of, AreWrites, Behind, GoTogether, HasRoom, IsDue, IsWrite, MayBeWritten}
+use Rattle.records.specs.Group.{after, write_of, AreWrites, Behind, IsBehind, GoTogether, HasRoom, IsDue, IsWrite, MayBeWritten}
 use Rattle.records.specs.Law.{Fate, Goes}
 use Rattle.records.specs.declared.records.RecordsFault.{RecordsFault}
 use Rattle.records.specs.declared.group.Write.{Write}
@@ -27,10 +27,13 @@ may_more [] w r m d = (d, tt)
 may_more (v ∷ vs) w r m d = (m.0, may_more vs w (written (write_of v) r) m.1 d)
 
 -- The store is one write more behind.
+pub is_behind_more : {R : Type 0} (stands : R → Record → Record → Type 0) (store : R) (ws : List Write) (w : Write) (taken base : Record) → IsBehind stands store ws taken base → IsDue w taken → IsBehind stands store (ws ++ w ∷ []) (written (write_of w) taken) base
+is_behind_more stands store ws w taken base b d =
+    let may = may_more ws w base b.1 (subst (IsDue w) b.2 d) in
+    (b.0, may, ap (written (write_of w)) b.2 ∙ sym (after_more ws w base))
+
 pub behind_more : {R : Type 0} (stands : R → Record → Record → Type 0) (store : R) (ws : List Write) (w : Write) (taken : Record) → Behind stands store ws taken → IsDue w taken → Behind stands store (ws ++ w ∷ []) (written (write_of w) taken)
-behind_more stands store ws w taken b d =
-    let may = may_more ws w b.0 b.2 (subst (IsDue w) b.3 d) in
-    (b.0, b.1, may, ap (written (write_of w)) b.3 ∙ sym (after_more ws w b.0))
+behind_more stands store ws w taken b d = (b.0, is_behind_more stands store ws w taken b.0 b.1 d)
 
 -- So far as a loop over writes has come: the rest may be written over the record now, and makes of it what all of them make of the first.
 pub record Left (writes rest : List Write) (first now : Record) : Type 0 where
@@ -57,7 +60,3 @@ left_none ws rest first now e l = subst (λ r. after r now ≡ after ws first) e
 pub goes_together : (stands : Record → Record → Type 0) (old new : ℕ → Fate) (p : Bool) (last : Record) (ws : List Write) (result : Result (Unit {0}) RecordsFault) → (ws ≡ [] → ⊥) → Goes stands old new p last (after ws last) result → GoTogether stands old new p last ws result
 goes_together stands old new p last [] result some h = absurd (some refl)
 goes_together stands old new p last (w ∷ ws) result some h = h
-
--- What a flush of records leaves, for one that knows which record they leave as they are: that one alone.
-pub flushed : {R : Type 0} (stands : R → Record → Record → Type 0) (store : R) (taken kept : Record) → (taken ≡ kept) ⊎ (taken ≡ kept) → stands store taken taken → stands store kept kept
-flushed stands store taken kept same h = subst (λ r. stands store r r) (⊎_elim (λ e. e) (λ e. e) same) h

@@ -61,9 +61,13 @@ pub record Staged (R : Type 0) : Type 0 where
   pub has_failed : Bool
   pub failures : ℕ
 
--- The record that the store leaves, whatever happens, is the one that those writes make into this one.
-abbrev pub Behind : {R : Type 0} → (stands : R → Record → Record → Type 0) → R → List WriteOfCode → Record → Type 0
-Behind stands store pending taken = (base : Record) × stands store base base × MayBeWritten pending base × (taken ≡ after pending base)
+-- The store leaves this record, whatever happens, and those writes may be made over it and make of it the one with all that was taken.
+abbrev pub IsBehind : {R : Type 0} → (stands : R → Record → Record → Type 0) → R → List WriteOfCode → (taken base : Record) → Type 0
+IsBehind stands store pending taken base = stands store base base × MayBeWritten pending base × (taken ≡ after pending base)
+
+-- there is such a record
+abbrev pub Behind : {R : Type 0} → (stands : R → Record → Record → Type 0) → R → List WriteOfCode → (taken : Record) → Type 0
+Behind stands store pending taken = (base : Record) × IsBehind stands store pending taken base
 
 -- nothing that is taken fails, until the store has failed: then nothing is known
 abbrev pub fates_of : (has_failed : Bool) → Fate

@@ -4,7 +4,7 @@ ghost use Rattle.std.specs.Prelude.{◌≡◌, ◌≤◌, ◌<◌, length, false
 ghost use Rattle.ballots.specs.Ballot.{IsBallot, below};
 ghost use Rattle.ballots.specs.Values.{positions};
 ghost use Rattle.ballots.specs.Messages.{window_of};
-ghost use Rattle.paxos.specs.Records.{NewPromise, NewVote, NewLearnt, empty_record, has_vote, vote_at, window, with_vote, written};
+ghost use Rattle.paxos.specs.Records.{Record as RecordTerm, NewPromise, NewVote, NewLearnt, empty_record, has_vote, vote_at, window, with_vote, written};
 ghost use Rattle.position_map.specs.Slots.{HasSlot, Rise, filled};
 ghost use Rattle.records.specs.Kept.{IsRising, entries_of};
 ghost use Rattle.records.specs.Law.{Counts, Goes, Puts};
@@ -176,6 +176,7 @@ impl Record {
         ensures law { R.is_kept records.new → Puts (R.stands records.new) self.old (written (NewPromise ballot) self.old) result }
         ensures goes { R.is_kept records.new → Goes (R.stands records.new) (R.fates records.old) (R.fates records.new) false self.old (written (NewPromise ballot) self.old) result }
         ensures kept { R.is_kept records.new → R.is_kept records.old }
+        ensures base { R.is_kept records.new → (a : RecordTerm) → R.base records.old a → R.base records.new a }
         ensures counts { Counts (R.failed records.old) (R.failed records.new) result }
         ensures passes { R.passes records.new ≡ false }
     {
@@ -205,6 +206,7 @@ impl Record {
         ensures law { R.is_kept records.new → Puts (R.stands records.new) self.old (written (NewVote position vote) self.old) result }
         ensures goes { R.is_kept records.new → Goes (R.stands records.new) (R.fates records.old) (R.fates records.new) false self.old (written (NewVote position vote) self.old) result }
         ensures kept { R.is_kept records.new → R.is_kept records.old }
+        ensures base { R.is_kept records.new → (a : RecordTerm) → R.base records.old a → R.base records.new a }
         ensures counts { Counts (R.failed records.old) (R.failed records.new) result }
         ensures passes { R.passes records.new ≡ false }
     {
@@ -234,6 +236,7 @@ impl Record {
         ensures law { R.is_kept records.new → Puts (R.stands records.new) self.old (written (NewLearnt value) self.old) result }
         ensures goes { R.is_kept records.new → Goes (R.stands records.new) (R.fates records.old) (R.fates records.new) false self.old (written (NewLearnt value) self.old) result }
         ensures kept { R.is_kept records.new → R.is_kept records.old }
+        ensures base { R.is_kept records.new → (a : RecordTerm) → R.base records.old a → R.base records.new a }
         ensures counts { Counts (R.failed records.old) (R.failed records.new) result }
         ensures passes { R.passes records.new ≡ false }
     {
@@ -265,6 +268,7 @@ impl Record {
         ensures law { R.is_kept records.new → Puts (R.stands records.new) self.old (written (NewPromise ballot) self.old) result }
         ensures goes { R.is_kept records.new → Goes (R.stands records.new) (R.fates records.old) (R.fates records.new) true self.old (written (NewPromise ballot) self.old) result }
         ensures kept { R.is_kept records.new → R.is_kept records.old }
+        ensures base { R.is_kept records.new → (a : RecordTerm) → R.base records.old a → R.base records.new a }
         ensures counts { Counts (R.failed records.old) (R.failed records.new) result }
         ensures passes { R.passes records.new ≡ false }
     {
@@ -295,6 +299,7 @@ impl Record {
         ensures law { R.is_kept records.new → Puts (R.stands records.new) self.old (written (NewVote position vote) self.old) result }
         ensures goes { R.is_kept records.new → Goes (R.stands records.new) (R.fates records.old) (R.fates records.new) true self.old (written (NewVote position vote) self.old) result }
         ensures kept { R.is_kept records.new → R.is_kept records.old }
+        ensures base { R.is_kept records.new → (a : RecordTerm) → R.base records.old a → R.base records.new a }
         ensures counts { Counts (R.failed records.old) (R.failed records.new) result }
         ensures passes { R.passes records.new ≡ false }
     {
@@ -325,6 +330,7 @@ impl Record {
         ensures law { R.is_kept records.new → Puts (R.stands records.new) self.old (written (NewLearnt value) self.old) result }
         ensures goes { R.is_kept records.new → Goes (R.stands records.new) (R.fates records.old) (R.fates records.new) true self.old (written (NewLearnt value) self.old) result }
         ensures kept { R.is_kept records.new → R.is_kept records.old }
+        ensures base { R.is_kept records.new → (a : RecordTerm) → R.base records.old a → R.base records.new a }
         ensures counts { Counts (R.failed records.old) (R.failed records.new) result }
         ensures passes { R.passes records.new ≡ false }
     {

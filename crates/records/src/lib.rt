@@ -11,6 +11,6 @@ mod staged;
 pub use group::{GroupRecords, Write};
 pub use kept::Record;
 pub use memory::MemRecords;
-pub use records::{PlannedRecords, Records, RecordsFault};
+pub use records::{FlushRecords, PlannedRecords, Records, RecordsFault};
 pub use script::ScriptRecords;
 pub use staged::Staged;

@@ -7,7 +7,7 @@ ghost use Rattle.records.specs.Group.{AreWrites, HasRoom, IsWrite, MayBeWritten,
 
 use super::group::{GroupRecords, Write};
 use super::kept::Record;
-use super::records::{PlannedRecords, Records, RecordsFault};
+use super::records::{FlushRecords, PlannedRecords, Records, RecordsFault};
 use ballots::{Ballot, Value, Vote};
 use std::alloc::Global;
 use std::marker::Model;
@@ -51,6 +51,8 @@ impl Records for MemRecords {
 
     ghost passes = { λ s. false };
 
+    ghost base = { λ s a. ⊥ };
+
     fn load(&mut self, alloc: Global) -> Result<Record, RecordsFault> {
         match self.kept.clone() {
             Ok(kept) => Ok(kept),
@@ -89,6 +91,15 @@ impl Records for MemRecords {
 
 impl PlannedRecords for MemRecords {
     fn let_pass(&mut self) {}
+}
+
+/// Each write is acknowledged as it is made, so there is nothing to flush.
+impl FlushRecords for MemRecords {
+    ghost leaves = { λ s a b. (s ≡ a) ⊎ (s ≡ b) };
+
+    fn flush(&mut self, alloc: Global) -> Result<(), RecordsFault> {
+        Ok(())
+    }
 }
 
 /// It makes the writes on a copy of the record, which takes its place: so several writes at once cost as much as the whole record does.

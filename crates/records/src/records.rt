@@ -1,6 +1,6 @@
 //! Where an acceptor keeps its record, so that it outlives stops.
 
-ghost use Rattle.std.specs.Prelude.{◌≡◌, ◌⊎◌, ◌≤◌, ℕ, suc, length, Bool, None, Some, false, true, IfOk, IsErrOf};
+ghost use Rattle.std.specs.Prelude.{◌≡◌, ◌⊎◌, ◌≤◌, ℕ, suc, length, Bool, None, Some, false, true, IfOk, IsErrOf, OnOk};
 ghost use Rattle.ballots.specs.Ballot.{IsBallot, below};
 ghost use Rattle.ballots.specs.Values.{positions};
 ghost use Rattle.paxos.specs.Records.{Record as RecordTerm, NewPromise, NewVote, NewLearnt, written};
@@ -39,12 +39,17 @@ pub trait Records {
     /// The next write is let pass.
     ghost passes: { Self → Bool };
 
+    /// All that was written since a flush is held back: whatever it was, a crash leaves this record. Where nothing is held back, it is so of no
+    /// record.
+    ghost base: { Self → RecordTerm → Type 0 };
+
     /// The record that was left. A store of which it is known what it does with writes gives it.
     fn load(&mut self, alloc: Global) -> Result<Record, RecordsFault>
         ensures found { is_kept self.new
             → IfOk result (λ r. stands self.new r r × ((a b : RecordTerm) → stands self.old a b → (r ≡ a) ⊎ (r ≡ b))) }
         ensures crash { is_kept self.new → (a b : RecordTerm) → stands self.old a b → stands self.new a b }
         ensures kept { is_kept self.new → is_kept self.old }
+        ensures base { is_kept self.new → (a : RecordTerm) → base self.old a → base self.new a }
         ensures counts { Counts (failed self.old) (failed self.new) result }
         ensures fates { (k : ℕ) → fates self.new k ≡ fates self.old k }
         ensures passes { passes self.new ≡ false }
@@ -59,6 +64,7 @@ pub trait Records {
         ensures goes { is_kept self.new → (last : RecordTerm) → stands self.old last last
             → Goes (stands self.new) (fates self.old) (fates self.new) (passes self.old) last (written (NewPromise ballot) last) result }
         ensures kept { is_kept self.new → is_kept self.old }
+        ensures base { is_kept self.new → (a : RecordTerm) → base self.old a → base self.new a }
         ensures counts { Counts (failed self.old) (failed self.new) result }
         ensures passes { passes self.new ≡ false };
 
@@ -79,6 +85,7 @@ pub trait Records {
         ensures goes { is_kept self.new → (last : RecordTerm) → stands self.old last last
             → Goes (stands self.new) (fates self.old) (fates self.new) (passes self.old) last (written (NewVote position (record { ballot = ballot; value = value.now })) last) result }
         ensures kept { is_kept self.new → is_kept self.old }
+        ensures base { is_kept self.new → (a : RecordTerm) → base self.old a → base self.new a }
         ensures counts { Counts (failed self.old) (failed self.new) result }
         ensures passes { passes self.new ≡ false };
 
@@ -96,6 +103,7 @@ pub trait Records {
         ensures goes { is_kept self.new → (last : RecordTerm) → stands self.old last last
             → Goes (stands self.new) (fates self.old) (fates self.new) (passes self.old) last (written (NewLearnt value.now) last) result }
         ensures kept { is_kept self.new → is_kept self.old }
+        ensures base { is_kept self.new → (a : RecordTerm) → base self.old a → base self.new a }
         ensures counts { Counts (failed self.old) (failed self.new) result }
         ensures passes { passes self.new ≡ false };
 
@@ -111,7 +119,34 @@ pub trait PlannedRecords: Records {
     fn let_pass(&mut self)
         ensures crash { Self.is_kept self.new → (a b : RecordTerm) → Self.stands self.old a b → Self.stands self.new a b }
         ensures kept { Self.is_kept self.new → Self.is_kept self.old }
+        ensures base { Self.is_kept self.new → (a : RecordTerm) → Self.base self.old a → Self.base self.new a }
         ensures failed { Self.failed self.new ≡ Self.failed self.old }
         ensures fates { (k : ℕ) → Self.fates self.new k ≡ Self.fates self.old k }
         ensures passes { (left : Bool) → Self.fates self.old 0 ≡ Some (Some left) → Self.passes self.new ≡ true };
+}
+
+/// Records that may hold back what is written until a flush, which acknowledges it.
+///
+/// As `Records` they are what they will be after the next flush. What a crash leaves until then is said by `base`, and at each moment by
+/// `leaves`.
+pub trait FlushRecords: Records {
+    /// Whatever a crash at this moment leaves, and the next start finds, is the one record or the other.
+    ghost leaves: { Self → RecordTerm → RecordTerm → Type 0 };
+
+    /// Acknowledges all that was written; nothing, where nothing is held back.
+    ///
+    /// After an `Ok` every crash leaves the record with all of it. Faults: memory was refused, and all of it is still held back; the store
+    /// failed, now or before: a crash leaves what it left before this call, or the record with all of it.
+    fn flush(&mut self, alloc: Global) -> Result<(), RecordsFault>
+        ensures flushed { OnOk result (Self.is_kept self.new → (a : RecordTerm) → Self.stands self.new a a → Self.leaves self.new a a) }
+        ensures renewed { OnOk result (Self.is_kept self.new → (a b : RecordTerm) → Self.base self.old a → Self.stands self.new b b → Self.base self.new b) }
+        ensures memory { IsErrOf result RecordsFault.Memory → Self.is_kept self.new → (a : RecordTerm) → Self.base self.old a
+            → Self.base self.new a × Self.leaves self.new a a }
+        ensures store { IsErrOf result RecordsFault.Store → Self.is_kept self.new → (a b : RecordTerm) → Self.base self.old a → Self.stands self.old b b
+            → Self.leaves self.new a b }
+        ensures stands { Self.is_kept self.new → (a b : RecordTerm) → Self.stands self.old a b → Self.stands self.new a b }
+        ensures kept { Self.is_kept self.new → Self.is_kept self.old }
+        ensures counts { Counts (Self.failed self.old) (Self.failed self.new) result }
+        ensures fates { (IsErrOf result RecordsFault.Store → ⊥) → (k : ℕ) → Self.fates self.new k ≡ Self.fates self.old k }
+        ensures passes { Self.passes self.new ≡ Self.passes self.old };
 }

@@ -12,7 +12,7 @@ ghost use Rattle.records.specs.Script.{Script, GoesBy, IsKept, Stands, fails_at,
 use super::group::{GroupRecords, Write};
 use super::kept::Record;
 use super::memory::{copy_all, copy_learnt, copy_vote};
-use super::records::{PlannedRecords, Records, RecordsFault};
+use super::records::{FlushRecords, PlannedRecords, Records, RecordsFault};
 use ballots::{Ballot, Value, Vote};
 use std::alloc::{AllocError, Global};
 use std::collections::BTreeMap;
@@ -157,6 +157,8 @@ impl Records for ScriptRecords {
 
     ghost passes = { λ s. s.passes };
 
+    ghost base = { λ s a. ⊥ };
+
     fn load(&mut self, alloc: Global) -> Result<Record, RecordsFault>
         ensures found { IsKept self.new
             → IfOk result (λ r. Stands self.new r r × ((a b : RecordTerm) → Stands self.old a b → (r ≡ a) ⊎ (r ≡ b))) }
@@ -254,5 +256,14 @@ impl GroupRecords for ScriptRecords {
 impl PlannedRecords for ScriptRecords {
     fn let_pass(&mut self) {
         self.passes = true;
+    }
+}
+
+/// Each write is acknowledged as it is made, so there is nothing to flush, and a flush is no write of the plan.
+impl FlushRecords for ScriptRecords {
+    ghost leaves = { Stands };
+
+    fn flush(&mut self, alloc: Global) -> Result<(), RecordsFault> {
+        Ok(())
     }
 }

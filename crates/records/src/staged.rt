@@ -2,13 +2,13 @@
 
 ghost use Rattle.std.specs.Prelude.{◌≡◌, ◌⊎◌, ◌≤◌, ◌++◌, ◌∷◌, [], length, false, true, IfErr, IfOk, IsErrOf, IsOk, OnErr, OnOk};
 ghost use Rattle.paxos.specs.Records.{Record as RecordTerm};
-ghost use Rattle.records.specs.Group.{GoTogether, HasRoom, IsDue, IsWrite, after, fates_of};
+ghost use Rattle.records.specs.Group.{GoTogether, HasRoom, IsBehind, IsDue, IsWrite, after, fates_of};
 ghost use Rattle.records.specs.Law.{Counts, Grew, Puts};
 
 use super::group::{GroupRecords, Write};
 use super::kept::Record;
 use super::memory::copy_write;
-use super::records::{PlannedRecords, Records, RecordsFault};
+use super::records::{FlushRecords, PlannedRecords, Records, RecordsFault};
 use ballots::{Ballot, Value, Vote};
 use std::alloc::Global;
 use std::marker::Model;
@@ -57,6 +57,7 @@ impl<R: GroupRecords + Drop> Staged<R> {
         ensures running { IfOk result (λ s. s.has_failed ≡ false) }
         ensures loaded { IfOk result (λ s. R.is_kept s.store → (a b : RecordTerm) → R.stands store a b → (s.taken ≡ a) ⊎ (s.taken ≡ b)) }
         ensures stands { IfOk result (λ s. R.is_kept s.store → R.stands s.store s.taken s.taken) }
+        ensures base { IfOk result (λ s. R.is_kept s.store → IsBehind R.stands s.store s.pending s.taken s.taken) }
         ensures crash { IfOk result (λ s. R.is_kept s.store → (a b : RecordTerm) → R.stands store a b → R.stands s.store a b) }
         ensures kept { IfOk result (λ s. R.is_kept s.store → R.is_kept store) }
         ensures failures { IfOk result (λ s. (s.failures ≡ R.failed store) × (R.failed s.store ≡ R.failed store)) }
@@ -148,6 +149,8 @@ impl<R: GroupRecords + Drop> Staged<R> {
         requires due { R.is_kept self.old.store → IsDue write self.old.taken }
         ensures taken { OnOk result (self.new ≡ record { store = self.old.store; taken = after (write ∷ []) self.old.taken; pending = self.old.pending ++ write ∷ []; has_failed = self.old.has_failed; failures = self.old.failures }) }
         ensures refused { OnErr result (self.new ≡ self.old) }
+        ensures base { R.is_kept self.old.store → (a : RecordTerm) → IsBehind R.stands self.old.store self.old.pending self.old.taken a
+            → IsBehind R.stands self.new.store self.new.pending self.new.taken a }
         ensures memory { IfErr result (λ fault. fault ≡ RecordsFault.Memory) }
     {
         if self.pending.reserve(1).is_err() {
@@ -170,7 +173,7 @@ fn count(failures: &mut u64) -> RecordsFault
 
 impl<R: GroupRecords + Drop> Records for Staged<R> {
     ghost use Rattle.std.specs.Prelude.{◌≡◌, ◌⊎◌, false};
-    ghost use Rattle.records.specs.Group.{fates_of};
+    ghost use Rattle.records.specs.Group.{IsBehind, fates_of};
 
     ghost stands = { λ s a b. (s.taken ≡ a) ⊎ (s.taken ≡ b) };
 
@@ -181,6 +184,8 @@ impl<R: GroupRecords + Drop> Records for Staged<R> {
     ghost fates = { λ s k. fates_of s.has_failed };
 
     ghost passes = { λ s. false };
+
+    ghost base = { λ s a. (s.has_failed ≡ false) × IsBehind R.stands s.store s.pending s.taken a };
 
     fn load(&mut self, alloc: Global) -> Result<Record, RecordsFault> {
         if self.has_failed {
@@ -240,4 +245,12 @@ impl<R: GroupRecords + Drop> Records for Staged<R> {
 /// Nothing is planned of what is taken, and none of it fails by a plan: so there is none to let pass.
 impl<R: GroupRecords + Drop> PlannedRecords for Staged<R> {
     fn let_pass(&mut self) {}
+}
+
+impl<R: GroupRecords + Drop> FlushRecords for Staged<R> {
+    ghost leaves = { λ s a b. R.stands s.store a b };
+
+    fn flush(&mut self, alloc: Global) -> Result<(), RecordsFault> {
+        Staged::flush(self, alloc)
+    }
 }
