@@ -18,7 +18,7 @@ use applications::Application;
 use ballots::limits::POSITIONS;
 use ballots::{RequestId, Value};
 use member::Tick;
-use records::Records;
+use records::FlushRecords;
 use std::alloc::Global;
 use wires::Arrival;
 
@@ -28,7 +28,7 @@ const AT_ONCE: u32 = 8;
 /// A node at its seat, its place and what is held there for the wire, the requests that wait for replies, up to which position these were told of what was applied, and the word to
 /// lead.
 #[derive(Drop)]
-pub(super) struct State<R: Records + Drop, A: Application + Drop, D: Copy + Eq + Drop> {
+pub(super) struct State<R: FlushRecords + Drop, A: Application + Drop, D: Copy + Eq + Drop> {
     pub(super) seat: Seat<R, A>,
     pub(super) hold: Hold<D>,
     pub(super) waiting: Waiting<D>,
@@ -36,7 +36,7 @@ pub(super) struct State<R: Records + Drop, A: Application + Drop, D: Copy + Eq +
     pub(super) word: Word,
 }
 
-impl<R: Records + Drop, A: Application + Drop, D: Copy + Eq + Drop> State<R, A, D> {
+impl<R: FlushRecords + Drop, A: Application + Drop, D: Copy + Eq + Drop> State<R, A, D> {
     /// Takes a datagram as it comes. A request that gets no reply waits for it.
     fn take_first(
         &mut self,
@@ -44,7 +44,7 @@ impl<R: Records + Drop, A: Application + Drop, D: Copy + Eq + Drop> State<R, A, 
         arrival: Arrival<D>,
         bytes: &[u8],
     ) -> Result<(), ServeFault>
-        ensures { WentHolding A.has_applied A.meaning R.failed D.eq R.stands R.is_kept result (Took (record { end = arrival.end; peer = arrival.from; bytes = bytes.now }) ∷ []) (record { end = arrival.end; peer = arrival.from; bytes = bytes.now } ∷ []) (shown self.old) (shown self.new) }
+        ensures { WentHolding A.has_applied A.meaning R.failed D.eq R.stands R.is_kept R.base R.leaves result (Took (record { end = arrival.end; peer = arrival.from; bytes = bytes.now }) ∷ []) (record { end = arrival.end; peer = arrival.from; bytes = bytes.now } ∷ []) (shown self.old) (shown self.new) }
     {
         match self
             .seat
@@ -84,7 +84,7 @@ impl<R: Records + Drop, A: Application + Drop, D: Copy + Eq + Drop> State<R, A, 
         alloc: Global,
         id: RequestId,
     ) -> Result<Option<Told>, ServeFault>
-        ensures { WentHolding A.has_applied A.meaning R.failed D.eq R.stands R.is_kept result [] [] (shown self.old) (shown self.new) }
+        ensures { WentHolding A.has_applied A.meaning R.failed D.eq R.stands R.is_kept R.base R.leaves result [] [] (shown self.old) (shown self.new) }
     {
         let Some(held) = self.waiting.get(id) else {
             return Ok(None);
@@ -104,7 +104,7 @@ impl<R: Records + Drop, A: Application + Drop, D: Copy + Eq + Drop> State<R, A, 
         alloc: Global,
         tick: Tick,
     ) -> Result<(), ServeFault>
-        ensures { WentByHolding A.has_applied A.meaning R.failed D.eq R.stands R.is_kept result (Ticked tick ∷ []) (shown self.old) (shown self.new) }
+        ensures { WentByHolding A.has_applied A.meaning R.failed D.eq R.stands R.is_kept R.base R.leaves result (Ticked tick ∷ []) (shown self.old) (shown self.new) }
     {
         match self.seat.tick(alloc, &mut self.hold, tick) {
             Ok(()) => Ok(()),
@@ -117,7 +117,7 @@ impl<R: Records + Drop, A: Application + Drop, D: Copy + Eq + Drop> State<R, A, 
         &mut self,
         alloc: Global,
     ) -> Result<bool, ServeFault>
-        ensures { WentHolding A.has_applied A.meaning R.failed D.eq R.stands R.is_kept result [] [] (shown self.old) (shown self.new) }
+        ensures { WentHolding A.has_applied A.meaning R.failed D.eq R.stands R.is_kept R.base R.leaves result [] [] (shown self.old) (shown self.new) }
     {
         if self.told >= self.seat.node.applied() {
             return Ok(false);
@@ -134,7 +134,7 @@ impl<R: Records + Drop, A: Application + Drop, D: Copy + Eq + Drop> State<R, A, 
         &mut self,
         alloc: Global,
     ) -> Result<bool, ServeFault>
-        ensures { WentHolding A.has_applied A.meaning R.failed D.eq R.stands R.is_kept result [] [] (shown self.old) (shown self.new) }
+        ensures { WentHolding A.has_applied A.meaning R.failed D.eq R.stands R.is_kept R.base R.leaves result [] [] (shown self.old) (shown self.new) }
     {
         let Some(id) = self.waiting.take_unplaced() else {
             return Ok(false);
@@ -154,7 +154,7 @@ impl<R: Records + Drop, A: Application + Drop, D: Copy + Eq + Drop> State<R, A, 
         &mut self,
         alloc: Global,
     ) -> Result<bool, ServeFault>
-        ensures { WentHolding A.has_applied A.meaning R.failed D.eq R.stands R.is_kept result [] [] (shown self.old) (shown self.new) }
+        ensures { WentHolding A.has_applied A.meaning R.failed D.eq R.stands R.is_kept R.base R.leaves result [] [] (shown self.old) (shown self.new) }
     {
         let Some(id) = self.waiting.oldest() else {
             return Ok(false);
@@ -167,7 +167,7 @@ impl<R: Records + Drop, A: Application + Drop, D: Copy + Eq + Drop> State<R, A, 
         &mut self,
         alloc: Global,
     ) -> Result<(), ServeFault>
-        ensures { WentHolding A.has_applied A.meaning R.failed D.eq R.stands R.is_kept result [] [] (shown self.old) (shown self.new) }
+        ensures { WentHolding A.has_applied A.meaning R.failed D.eq R.stands R.is_kept R.base R.leaves result [] [] (shown self.old) (shown self.new) }
     {
         for _position in 0..POSITIONS {
             if !self.tell_next(alloc)? {
@@ -182,7 +182,7 @@ impl<R: Records + Drop, A: Application + Drop, D: Copy + Eq + Drop> State<R, A, 
         &mut self,
         alloc: Global,
     ) -> Result<(), ServeFault>
-        ensures { WentHolding A.has_applied A.meaning R.failed D.eq R.stands R.is_kept result [] [] (shown self.old) (shown self.new) }
+        ensures { WentHolding A.has_applied A.meaning R.failed D.eq R.stands R.is_kept R.base R.leaves result [] [] (shown self.old) (shown self.new) }
     {
         for _request in 0..MOST_WAITING {
             if !self.place_next(alloc)? {
@@ -197,7 +197,7 @@ impl<R: Records + Drop, A: Application + Drop, D: Copy + Eq + Drop> State<R, A, 
         &mut self,
         alloc: Global,
     ) -> Result<(), ServeFault>
-        ensures { WentHolding A.has_applied A.meaning R.failed D.eq R.stands R.is_kept result [] [] (shown self.old) (shown self.new) }
+        ensures { WentHolding A.has_applied A.meaning R.failed D.eq R.stands R.is_kept R.base R.leaves result [] [] (shown self.old) (shown self.new) }
     {
         for _request in 0..MOST_WAITING {
             if !self.answer_oldest(alloc)? {
@@ -214,7 +214,7 @@ impl<R: Records + Drop, A: Application + Drop, D: Copy + Eq + Drop> State<R, A, 
         alloc: Global,
         before: u32,
     ) -> Result<(), ServeFault>
-        ensures { WentHolding A.has_applied A.meaning R.failed D.eq R.stands R.is_kept result [] [] (shown self.old) (shown self.new) }
+        ensures { WentHolding A.has_applied A.meaning R.failed D.eq R.stands R.is_kept R.base R.leaves result [] [] (shown self.old) (shown self.new) }
     {
         self.tell_applied(alloc)?;
         self.place_waiting(alloc)?;
@@ -231,7 +231,7 @@ impl<R: Records + Drop, A: Application + Drop, D: Copy + Eq + Drop> State<R, A, 
         arrival: Arrival<D>,
         bytes: &[u8],
     ) -> Result<(), ServeFault>
-        ensures { WentHolding A.has_applied A.meaning R.failed D.eq R.stands R.is_kept result (Took (record { end = arrival.end; peer = arrival.from; bytes = bytes.now }) ∷ []) (record { end = arrival.end; peer = arrival.from; bytes = bytes.now } ∷ []) (shown self.old) (shown self.new) }
+        ensures { WentHolding A.has_applied A.meaning R.failed D.eq R.stands R.is_kept R.base R.leaves result (Took (record { end = arrival.end; peer = arrival.from; bytes = bytes.now }) ∷ []) (record { end = arrival.end; peer = arrival.from; bytes = bytes.now } ∷ []) (shown self.old) (shown self.new) }
     {
         let before = self.seat.node.prefix();
         self.take_first(alloc, arrival, bytes)?;
@@ -240,7 +240,7 @@ impl<R: Records + Drop, A: Application + Drop, D: Copy + Eq + Drop> State<R, A, 
 
     /// Sends again what its node waits for where it leads, asks the others for what it has not learnt, and answers what waits where another leads.
     fn tick(&mut self, alloc: Global) -> Result<(), ServeFault>
-        ensures { WentHolding A.has_applied A.meaning R.failed D.eq R.stands R.is_kept result (Ticked Tick.Resend ∷ Ticked Tick.CatchUp ∷ []) [] (shown self.old) (shown self.new) }
+        ensures { WentHolding A.has_applied A.meaning R.failed D.eq R.stands R.is_kept R.base R.leaves result (Ticked Tick.Resend ∷ Ticked Tick.CatchUp ∷ []) [] (shown self.old) (shown self.new) }
     {
         self.tick_once(alloc, Tick::Resend)?;
         self.tick_once(alloc, Tick::CatchUp)?;
@@ -254,7 +254,7 @@ impl<R: Records + Drop, A: Application + Drop, D: Copy + Eq + Drop> State<R, A, 
         &mut self,
         alloc: Global,
     ) -> Result<(), ServeFault>
-        ensures { WentHolding A.has_applied A.meaning R.failed D.eq R.stands R.is_kept result [] [] (shown self.old) (shown self.new) }
+        ensures { WentHolding A.has_applied A.meaning R.failed D.eq R.stands R.is_kept R.base R.leaves result [] [] (shown self.old) (shown self.new) }
     {
         if !self.is_due() {
             return Ok(());
@@ -285,14 +285,14 @@ impl<R: Records + Drop, A: Application + Drop, D: Copy + Eq + Drop> State<R, A, 
         &mut self,
         alloc: Global,
     ) -> Result<(), ServeFault>
-        ensures { WentByHolding A.has_applied A.meaning R.failed D.eq R.stands R.is_kept result (Ticked Tick.Begin ∷ []) (shown self.old) (shown self.new) }
+        ensures { WentByHolding A.has_applied A.meaning R.failed D.eq R.stands R.is_kept R.base R.leaves result (Ticked Tick.Begin ∷ []) (shown self.old) (shown self.new) }
     {
         self.tick_once(alloc, Tick::Begin)
     }
 
     /// Ticks where a while has passed since it last did.
     fn tick_if_due(&mut self, alloc: Global, has_passed: bool) -> Result<(), ServeFault>
-        ensures { WentHolding A.has_applied A.meaning R.failed D.eq R.stands R.is_kept result [] [] (shown self.old) (shown self.new) }
+        ensures { WentHolding A.has_applied A.meaning R.failed D.eq R.stands R.is_kept R.base R.leaves result [] [] (shown self.old) (shown self.new) }
     {
         if !has_passed {
             return Ok(());
@@ -305,7 +305,7 @@ impl<R: Records + Drop, A: Application + Drop, D: Copy + Eq + Drop> State<R, A, 
         &mut self,
         alloc: Global,
     ) -> Result<bool, ServeFault>
-        ensures { WentHolding A.has_applied A.meaning R.failed D.eq R.stands R.is_kept result [] [] (shown self.old) (shown self.new) }
+        ensures { WentHolding A.has_applied A.meaning R.failed D.eq R.stands R.is_kept R.base R.leaves result [] [] (shown self.old) (shown self.new) }
     {
         let kept = self.seat.node.kept();
         if kept >= self.seat.node.prefix() {
@@ -320,7 +320,7 @@ impl<R: Records + Drop, A: Application + Drop, D: Copy + Eq + Drop> State<R, A, 
         &mut self,
         alloc: Global,
     ) -> Result<(), ServeFault>
-        ensures { WentHolding A.has_applied A.meaning R.failed D.eq R.stands R.is_kept result [] [] (shown self.old) (shown self.new) }
+        ensures { WentHolding A.has_applied A.meaning R.failed D.eq R.stands R.is_kept R.base R.leaves result [] [] (shown self.old) (shown self.new) }
     {
         for _position in 0..POSITIONS {
             if !self.keep_next(alloc)? {
@@ -337,7 +337,7 @@ impl<R: Records + Drop, A: Application + Drop, D: Copy + Eq + Drop> State<R, A, 
         arrival: Arrival<D>,
         bytes: &[u8],
     ) -> Result<(), ServeFault>
-        ensures { WentHolding A.has_applied A.meaning R.failed D.eq R.stands R.is_kept result (Took (record { end = arrival.end; peer = arrival.from; bytes = bytes.now }) ∷ []) (record { end = arrival.end; peer = arrival.from; bytes = bytes.now } ∷ []) (shown self.old) (shown self.new) }
+        ensures { WentHolding A.has_applied A.meaning R.failed D.eq R.stands R.is_kept R.base R.leaves result (Took (record { end = arrival.end; peer = arrival.from; bytes = bytes.now }) ∷ []) (record { end = arrival.end; peer = arrival.from; bytes = bytes.now } ∷ []) (shown self.old) (shown self.new) }
     {
         self.take(alloc, arrival, bytes)?;
         self.keep_learnt(alloc)
@@ -349,7 +349,7 @@ impl<R: Records + Drop, A: Application + Drop, D: Copy + Eq + Drop> State<R, A, 
         alloc: Global,
         has_passed: bool,
     ) -> Result<(), ServeFault>
-        ensures { WentHolding A.has_applied A.meaning R.failed D.eq R.stands R.is_kept result [] [] (shown self.old) (shown self.new) }
+        ensures { WentHolding A.has_applied A.meaning R.failed D.eq R.stands R.is_kept R.base R.leaves result [] [] (shown self.old) (shown self.new) }
     {
         self.tick_if_due(alloc, has_passed)?;
         self.keep_learnt(alloc)
@@ -360,7 +360,7 @@ impl<R: Records + Drop, A: Application + Drop, D: Copy + Eq + Drop> State<R, A, 
         &mut self,
         alloc: Global,
     ) -> Result<(), ServeFault>
-        ensures { WentHolding A.has_applied A.meaning R.failed D.eq R.stands R.is_kept result (Ticked Tick.Resend ∷ Ticked Tick.CatchUp ∷ []) [] (shown self.old) (shown self.new) }
+        ensures { WentHolding A.has_applied A.meaning R.failed D.eq R.stands R.is_kept R.base R.leaves result (Ticked Tick.Resend ∷ Ticked Tick.CatchUp ∷ []) [] (shown self.old) (shown self.new) }
     {
         self.tick(alloc)?;
         self.keep_learnt(alloc)

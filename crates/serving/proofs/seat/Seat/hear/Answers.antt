@@ -49,7 +49,7 @@ returns-in-Err-clause-halted g c =
     let was = c.args.self.now in
     let now = c.refuse.new.self in
     on_err c.refuse.result c.refuse.ensures.halted (λ is. (
-      halts {R = g.row.R.Denot} {A = g.row.A.Denot} g.A.Application.has_applied g.A.Application.meaning g.R.Records.failed was now c.receive.new.self c.refuse.ensures.same g.R.Records.stands g.R.Records.is_kept c.in-Err.fault is
+      halts {R = g.row.R.Denot} {A = g.row.A.Denot} g.A.Application.has_applied g.A.Application.meaning g.R.Records.failed was now c.receive.new.self c.refuse.ensures.same g.R.Records.stands g.R.Records.is_kept g.R.Records.base g.R.FlushRecords.leaves c.in-Err.fault is
           (λ e. let h = c.in-Err.ensures.store (ap Err e) in (Hears h.0, h.2)) (λ e. c.in-Err.ensures.stopped.0 (ap Err e)) c.in-Err.ensures.refused,
       held_same _ _ _ _ c.reserve.ensures.place c.reserve.ensures.same,
     ))

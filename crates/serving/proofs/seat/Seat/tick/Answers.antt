@@ -35,7 +35,7 @@ returns-in-Err-clause-ticked g c =
 pub returns-in-Err-clause-halted : goal.returns-in-Err-clause-halted
 returns-in-Err-clause-halted g c =
     on_err c.refuse_tick.result c.refuse_tick.ensures.halted (λ is. (
-      halts {R = g.row.R.Denot} {A = g.row.A.Denot} g.A.Application.has_applied g.A.Application.meaning g.R.Records.failed c.args.self.now c.refuse_tick.new.self c.tick.new.self c.refuse_tick.ensures.same g.R.Records.stands g.R.Records.is_kept c.in-Err.fault is
+      halts {R = g.row.R.Denot} {A = g.row.A.Denot} g.A.Application.has_applied g.A.Application.meaning g.R.Records.failed c.args.self.now c.refuse_tick.new.self c.tick.new.self c.refuse_tick.ensures.same g.R.Records.stands g.R.Records.is_kept g.R.Records.base g.R.FlushRecords.leaves c.in-Err.fault is
           (λ e. (ticked c.args.tick, c.in-Err.ensures.store (ap Err e))) (λ e. c.in-Err.ensures.stopped.0 (ap Err e)) c.in-Err.ensures.refused,
       held_same _ _ _ _ c.reserve.ensures.place c.reserve.ensures.same,
     ))

@@ -11,4 +11,4 @@ returns-then-not-has_while_passed g c = on_hearing {R = g.row.R.Denot} {A = g.ro
 
 pub returns : goal.returns
 returns g c =
-    went_hearing {R = g.row.R.Denot} {A = g.row.A.Denot} {D = g.row.D.Denot} g.A.Application.has_applied g.A.Application.meaning g.R.Records.failed g.D.PartialEq.eq AreHeld AreAny g.R.Records.stands g.R.Records.is_kept c.tick.result (Ticked Resend ∷ Ticked CatchUp ∷ []) [] [] _ _ _ _ _ c.has_while_passed.ensures.given (λ ds b. given_none g.W.Wire.has_brought _ ds (c.has_while_passed.ensures.brought ds b)) c.tick.ensures
+    went_hearing {R = g.row.R.Denot} {A = g.row.A.Denot} {D = g.row.D.Denot} g.A.Application.has_applied g.A.Application.meaning g.R.Records.failed g.D.PartialEq.eq AreHeld AreAny g.R.Records.stands g.R.Records.is_kept g.R.Records.base g.R.FlushRecords.leaves c.tick.result (Ticked Resend ∷ Ticked CatchUp ∷ []) [] [] _ _ _ _ _ c.has_while_passed.ensures.given (λ ds b. given_none g.W.Wire.has_brought _ ds (c.has_while_passed.ensures.brought ds b)) c.tick.ensures
