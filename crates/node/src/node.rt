@@ -3,7 +3,7 @@
 ghost use Rattle.std.specs.Prelude.{◌≡◌, ◌≤◌, ◌⊎◌, ◌↔◌, ℕ, length, [], false, true, is_some, map, IfOk, IfErr, OnErr, OnOk, IsErrOf, None};
 ghost use Rattle.std.specs.Option.{option_copied};
 ghost use Rattle.acceptor.specs.Drafts.{IsRefused};
-ghost use Rattle.acceptor.specs.Steps.{IsAsWas, Stopped};
+ghost use Rattle.acceptor.specs.Steps.{FlushFailed, IsAsWas, Stopped};
 ghost use Rattle.ballots.specs.Ballot.{most_members};
 ghost use Rattle.ballots.specs.Messages.{Packet as Posted, Ask as Asks, body_of, packet as packet_of};
 ghost use Rattle.member.specs.Drafts.{IsReady, write_in};
@@ -31,7 +31,7 @@ use ballots::{Ask, Message, Setup, Value};
 use held_values::beside;
 use member::{Draft as MemberDraft, Input, Member, Tick};
 use messages::{Packet, WireFault, decode};
-use records::{PlannedRecords, Records, RecordsFault};
+use records::{FlushRecords, PlannedRecords, Records, RecordsFault};
 use std::alloc::Global;
 use std::marker::Model;
 
@@ -89,6 +89,7 @@ impl<R: Records + Drop, A: Application + Drop> Node<R, A> {
         ensures loaded { IfOk result (λ o. R.is_kept o.0.member.acceptor.records → (a b : RecordTerm) → R.stands records a b → (o.0.member.acceptor.kept ≡ a) ⊎ (o.0.member.acceptor.kept ≡ b)) }
         ensures stands { IfOk result (λ o. R.is_kept o.0.member.acceptor.records → R.stands o.0.member.acceptor.records o.0.member.acceptor.kept o.0.member.acceptor.kept) }
         ensures kept { IfOk result (λ o. R.is_kept o.0.member.acceptor.records → R.is_kept records) }
+        ensures base { IfOk result (λ o. R.is_kept o.0.member.acceptor.records → (a : RecordTerm) → R.base records a → R.base o.0.member.acceptor.records a) }
         ensures counts { IfOk result (λ o. R.failed o.0.member.acceptor.records ≡ R.failed records) }
         ensures fates { IfOk result (λ o. (k : ℕ) → R.fates o.0.member.acceptor.records k ≡ R.fates records k) }
         ensures refused { IfErr result (λ e. (e.1 ≡ setup) × IsRefused R.stands R.is_kept R.failed R.fates records e.2 (records_fault e.0)) }
@@ -278,6 +279,7 @@ impl<R: Records + Drop, A: Application + Drop> Node<R, A> {
         ensures writes { IsErrOf result NodeFault.Store → self.old.member.acceptor.is_stopped ≡ false → writes (write_in draft.member.change) ≡ true }
         ensures went { self.old.member.acceptor.is_stopped ≡ false → R.is_kept self.new.member.acceptor.records → Went (R.stands self.new.member.acceptor.records) (R.fates self.old.member.acceptor.records) (R.fates self.new.member.acceptor.records) false self.old.member.acceptor.kept (write_in draft.member.change) (of_records result) }
         ensures kept { R.is_kept self.new.member.acceptor.records → R.is_kept self.old.member.acceptor.records }
+        ensures base { R.is_kept self.new.member.acceptor.records → (a : RecordTerm) → R.base self.old.member.acceptor.records a → R.base self.new.member.acceptor.records a }
         ensures setup { self.new.setup ≡ self.old.setup }
     {
         let Draft { member, sent } = draft;
@@ -314,6 +316,8 @@ impl<R: Records + Drop, A: Application + Drop> Node<R, A> {
         ensures store { IsErrOf result NodeFault.Store → (k : Posted) × IsFrom self.old.setup bytes.now k × HasFailed R.stands R.is_kept R.failed A.has_applied (A.meaning self.old.setup.names) (Hears k) self.old self.new }
         ensures spent { (u : Running) → RunsAs A.has_applied u self.old → IsErrOf result NodeFault.Spent → ⊥ }
         ensures refused { IfErr result (λ fault. (fault ≡ NodeFault.Store → ⊥) → IsUnchanged A.has_applied R.failed self.old self.new) }
+        ensures kept { R.is_kept self.new.member.acceptor.records → R.is_kept self.old.member.acceptor.records }
+        ensures base { R.is_kept self.new.member.acceptor.records → (a : RecordTerm) → R.base self.old.member.acceptor.records a → R.base self.new.member.acceptor.records a }
         ensures setup { self.new.setup ≡ self.old.setup }
     {
         let draft = self.draft(alloc, bytes)?;
@@ -365,6 +369,8 @@ impl<R: Records + Drop, A: Application + Drop> Node<R, A> {
         ensures spent { (u : Running) → RunsAs A.has_applied u self.old → IsErrOf result NodeFault.Spent
             → (tick ≡ Tick.Begin) × (may_begin self.old.setup.members self.old.member.acceptor.kept u ≡ false) }
         ensures refused { IfErr result (λ fault. (fault ≡ NodeFault.Store → ⊥) → IsUnchanged A.has_applied R.failed self.old self.new) }
+        ensures kept { R.is_kept self.new.member.acceptor.records → R.is_kept self.old.member.acceptor.records }
+        ensures base { R.is_kept self.new.member.acceptor.records → (a : RecordTerm) → R.base self.old.member.acceptor.records a → R.base self.new.member.acceptor.records a }
         ensures begins { OnOk result ((u : Running) → RunsAs A.has_applied u self.old → IsSpent self.old u (ticked tick) → ⊥) }
         ensures faults { IfErr result IsOfTick }
         ensures setup { self.new.setup ≡ self.old.setup }
@@ -466,6 +472,40 @@ impl<R: Records + Drop, A: Application + Drop> Node<R, A> {
     }
 }
 
+impl<R: FlushRecords + Drop, A: Application + Drop> Node<R, A> {
+    /// Acknowledges all that was written since the last flush, if its records hold that back. What a call has given out, an outbox, an answer
+    /// or a reading, is sent only after a flush that came behind it and went well: until then a crash may take back what it rests on.
+    ///
+    /// Faults: memory was refused, all of it is still held back, and nothing that shows has changed (3); the store failed, and the node has
+    /// stopped, with what a crash before the call left or with all that was written (4); it had stopped before, and nothing has changed (5).
+    pub fn flush(&mut self, alloc: Global) -> Result<(), NodeFault>
+        ensures same { OnOk result (IsUnchanged A.has_applied R.failed self.old self.new) }
+        ensures flushed { OnOk result (R.is_kept self.new.member.acceptor.records
+            → R.leaves self.new.member.acceptor.records self.old.member.acceptor.kept self.old.member.acceptor.kept) }
+        ensures renewed { OnOk result (R.is_kept self.new.member.acceptor.records → (a : RecordTerm) → R.base self.old.member.acceptor.records a
+            → R.base self.new.member.acceptor.records self.old.member.acceptor.kept) }
+        ensures memory { IsErrOf result NodeFault.Memory → IsUnchanged A.has_applied R.failed self.old self.new }
+        ensures held { IsErrOf result NodeFault.Memory → R.is_kept self.new.member.acceptor.records → (a : RecordTerm) → R.base self.old.member.acceptor.records a
+            → R.base self.new.member.acceptor.records a × R.leaves self.new.member.acceptor.records a a }
+        ensures store { IsErrOf result NodeFault.Store → FlushFailed R.base R.leaves R.is_kept R.failed self.old.member.acceptor self.new.member.acceptor }
+        ensures stopped { IsErrOf result NodeFault.Stopped ↔ (self.old.member.acceptor.is_stopped ≡ true) }
+        ensures still { IsErrOf result NodeFault.Stopped → self.new ≡ self.old }
+        ensures faults { IfErr result (λ fault. (fault ≡ NodeFault.Stopped) ⊎ (fault ≡ NodeFault.Memory) ⊎ (fault ≡ NodeFault.Store)) }
+        ensures kept { R.is_kept self.new.member.acceptor.records → R.is_kept self.old.member.acceptor.records }
+        ensures fates { (IsErrOf result NodeFault.Store → ⊥) → (k : ℕ) → R.fates self.new.member.acceptor.records k ≡ R.fates self.old.member.acceptor.records k }
+        ensures others { (self.new.setup ≡ self.old.setup) × (self.new.application ≡ self.old.application) }
+    {
+        if self.member.has_stopped() {
+            return Err(NodeFault::Stopped);
+        }
+        match self.member.flush(alloc) {
+            Ok(()) => Ok(()),
+            Err(RecordsFault::Memory) => Err(NodeFault::Memory),
+            Err(RecordsFault::Store) => Err(NodeFault::Store),
+        }
+    }
+}
+
 impl<R: PlannedRecords + Drop, A: Application + Drop> Node<R, A> {
     /// Makes just the write of what was drafted for this very node, which has not changed since: what a stop inside the write leaves, where the
     /// write is kept. The node may only be stopped then.
@@ -482,6 +522,7 @@ impl<R: PlannedRecords + Drop, A: Application + Drop> Node<R, A> {
         ensures writes { IsErrOf result NodeFault.Store → self.old.member.acceptor.is_stopped ≡ false → writes (write_in draft.member.change) ≡ true }
         ensures went { self.old.member.acceptor.is_stopped ≡ false → R.is_kept self.new.member.acceptor.records → Went (R.stands self.new.member.acceptor.records) (R.fates self.old.member.acceptor.records) (R.fates self.new.member.acceptor.records) true self.old.member.acceptor.kept (write_in draft.member.change) (of_records result) }
         ensures kept { R.is_kept self.new.member.acceptor.records → R.is_kept self.old.member.acceptor.records }
+        ensures base { R.is_kept self.new.member.acceptor.records → (a : RecordTerm) → R.base self.old.member.acceptor.records a → R.base self.new.member.acceptor.records a }
         ensures setup { self.new.setup ≡ self.old.setup }
     {
         match self.member.cut(alloc, draft.member) {
