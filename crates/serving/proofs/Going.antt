@@ -166,7 +166,7 @@ module _ {R A D : Type 0} (has_applied : List (List ℕ) → List Value → A �
     pub told_so : (x y : Server R A D) (v w : W) (ds : List (Deed D)) (bs : List (Carried D)) → Goes has_applied app failed eq was_given has_brought x y v w ds bs → is_told y.word ≡ is_told x.word
     told_so x y v w ds bs goes = (goes x.waiting (λ d has. has)).told
 
-    begins_both : (x y : Server R A D) (v w : W) (ds es : List (Deed D)) (bs : List (Carried D)) → Goes has_applied app failed eq was_given has_brought x y v w ds bs → BeginsIfTold (is_told x.word) ds → BeginsIfTold (is_told y.word) es → BeginsIfTold (is_told x.word) (ds ++ es)
+    pub begins_both : (x y : Server R A D) (v w : W) (ds es : List (Deed D)) (bs : List (Carried D)) → Goes has_applied app failed eq was_given has_brought x y v w ds bs → BeginsIfTold (is_told x.word) ds → BeginsIfTold (is_told y.word) es → BeginsIfTold (is_told x.word) (ds ++ es)
     begins_both x y v w ds es bs goes first second has = ⊎_elim first (λ then. sym (told_so x y v w ds bs goes) ∙ second then) (has_cases ds es (Ticked Begin) has)
 
     -- the one, and then the other

@@ -1,12 +1,18 @@
 -- What is held, after a change.
-use Rattle.std.proofs.Common.{◌≡◌, ℕ, List, [], ◌∷◌, ◌++◌, refl, sym, ap, subst, ◌∙◌, Option, append-nil, append_assoc}
+use Rattle.std.proofs.Common.{◌≡◌, ℕ, Bool, List, [], ◌∷◌, ◌++◌, refl, sym, ap, subst, ◌∙◌, Option, append-nil, append_assoc}
+use Rattle.ballots.specs.declared.value.Value.{Value}
 use Rattle.node.specs.Nodes.{posted}
 use Rattle.node.specs.declared.outbox.Outbox.{Outbox}
+use Rattle.paxos.specs.Application.{Application}
+use Rattle.paxos.specs.Lists.{Has}
+use Rattle.serving.proofs.Going.{on_dropping}
 use Rattle.serving.specs.Addressed.{addressed}
 use Rattle.serving.specs.Hold.{datagrams_of, held_by}
-use Rattle.serving.specs.Serves.{AreHeld}
+use Rattle.serving.specs.Leading.{is_told}
+use Rattle.serving.specs.Serves.{AreAny, AreHeld, GoesOn, Server}
 use Rattle.serving.specs.Serving.{Place}
 use Rattle.serving.specs.declared.hold.HeldOutbox.{HeldOutbox}
+use Rattle.serving.specs.declared.hold.Hold.{Hold}
 use Rattle.wires.specs.Wires.{Carried}
 
 module _ {D : Type 0} where
@@ -34,3 +40,13 @@ holds_more h k sent is ds held = is ∙ ap (λ l. l ++ sent) held
 
 pub holds_same : {D : Type 0} (h k : List (Carried D)) → k ≡ h → (ds : List (Carried D)) → AreHeld h ds → AreHeld k ds
 holds_same h k is ds held = is ∙ held
+
+-- where the place and what is held there are the same, so are those datagrams
+pub held_at : {D : Type 0} (h k : Hold D) → k ≡ h → held_by k.place k.outboxes.items ≡ held_by h.place h.outboxes.items
+held_at h k is = ap (λ (l : Hold D). held_by l.place l.outboxes.items) is
+
+module _ {R A D : Type 0} (has_applied : List (List ℕ) → List Value → A → Type 0) (app : List (List ℕ) → Application) (failed : R → ℕ) (eq : D → D → Bool) where
+  -- nothing was done, and some of what waited waits no more
+  pub held_dropping : (x y : Server R A D) → y.seat ≡ x.seat → y.place ≡ x.place → y.held ≡ x.held → is_told y.word ≡ is_told x.word → ((e : Carried D) → Has y.waiting e → Has x.waiting e)
+      → GoesOn has_applied app failed eq AreHeld AreAny [] [] [] x y x.held y.held
+  held_dropping x y seat place held told waits = subst (λ l. GoesOn has_applied app failed eq AreHeld AreAny [] [] [] x y x.held l) (sym held) (on_dropping has_applied app failed eq AreHeld AreAny x y x.held seat place told waits)

@@ -1,4 +1,5 @@
 pub mod Giving
+pub mod Closing
 pub mod Going
 pub mod HeldLemmas
 pub mod Holding

@@ -80,6 +80,20 @@ module _ {R A D W : Type 0} (has_applied : List (List ℕ) → List Value → A 
     WentBy (Ok done) deeds x y v w = Goes x y v w deeds []
     WentBy (Err fault) deeds x y v w = Halted [] x y v w
 
+    -- The server went on by just these deeds, and then its node stopped, as its record was to be written; nothing was given or brought since.
+    pub record HaltedAfter (deeds : List (Deed D)) (x z : Server R A D) (v w : W) : Type 0 where
+      pub last : Server R A D
+      pub wire : W
+      pub goes : Goes x last v wire deeds []
+      pub halts : Halts has_applied app failed stands is_kept base leaves last.seat z.seat
+      pub silent : (ds : List (Carried D)) → was_given wire ds → was_given w ds
+      pub idle : (ds : List (Carried D)) → has_brought wire ds → has_brought w ds
+
+    -- the server went on by just these deeds, or until its node stopped, before they were done or after
+    abbrev pub WentJustBy : {T : Type 0} → Result T ServeFault → (deeds : List (Deed D)) → (x y : Server R A D) (v w : W) → Type 0
+    WentJustBy (Ok done) deeds x y v w = Goes x y v w deeds []
+    WentJustBy (Err fault) deeds x y v w = Halted [] x y v w ⊎ HaltedAfter deeds x y v w
+
     -- It went on by deeds of which this holds, and just what the wire brought came to it; or until its node stopped. It began a ballot only if it was
     -- told to lead.
     abbrev pub Passed : {T : Type 0} → (AreSo : T → List (Deed D) → Type 0) → Result T ServeFault → (x y : Server R A D) (v w : W) → Type 0
@@ -122,13 +136,12 @@ module _ {R A D : Type 0} (has_applied : List (List ℕ) → List Value → A �
   abbrev pub WentByHolding : {T : Type 0} → Result T ServeFault → (deeds : List (Deed D)) → (x y : Server R A D) → Type 0
   WentByHolding r deeds x y = WentBy has_applied app failed eq AreHeld AreAny stands is_kept base leaves r deeds x y x.held y.held
 
-  module _ {W : Type 0} (was_given has_brought : W → List (Carried D) → Type 0) where
-    -- What was given to the wire was written first: it went on to where the record was written and nothing was held, or nothing was done at all; and since
-    -- then the wire was given nothing.
-    pub record WritesFirst (x : Server R A D) (v w : W) : Type 0 where
-      pub last : Server R A D
-      pub wire : W
-      pub deeds : List (Deed D)
-      pub goes : Goes has_applied app failed eq (was_given_or_held was_given) (has_brought_beside has_brought) x last (x.held, v) (last.held, wire) deeds (came_by deeds)
-      pub written : (IsWritten is_kept leaves last × (last.held ≡ [])) ⊎ ((last ≡ x) × (wire ≡ v))
-      pub silent : IsGivenNothing was_given wire w
+-- What was given to the wire was written first: the server went on to where its record was written and nothing was held, or nothing was done at all; and
+-- since then the wire was given nothing.
+pub record WritesFirst {R A D W : Type 0} (has_applied : List (List ℕ) → List Value → A → Type 0) (app : List (List ℕ) → Application) (failed : R → ℕ) (eq : D → D → Bool) (was_given has_brought : W → List (Carried D) → Type 0) (is_kept : R → Type 0) (leaves : R → Record → Record → Type 0) (x : Server R A D) (v w : W) : Type 0 where
+  pub last : Server R A D
+  pub wire : W
+  pub deeds : List (Deed D)
+  pub goes : Goes has_applied app failed eq (was_given_or_held was_given) (has_brought_beside has_brought) x last (x.held, v) (last.held, wire) deeds (came_by deeds)
+  pub written : (IsWritten is_kept leaves last × (last.held ≡ [])) ⊎ ((last ≡ x) × (wire ≡ v))
+  pub silent : IsGivenNothing was_given wire w

@@ -73,9 +73,13 @@ impl<D: Copy + Eq + Drop> Hold<D> {
 }
 
 /// Gives a wire what steps sent, in order.
-fn give_all<W: Wire>(wire: &mut W, place: &Place<W::Address>, held: &[HeldOutbox<W::Address>])
-    ensures given { (ds : List (Carried W.Address)) → W.was_given wire.old ds → W.was_given wire.new (ds ++ held_by place.now held.now) }
-    ensures brought { (ds : List (Carried W.Address)) → W.has_brought wire.old ds → W.has_brought wire.new ds }
+fn give_all<D: Copy + Eq + Drop, W: Wire<Address = D>>(
+    wire: &mut W,
+    place: &Place<D>,
+    held: &[HeldOutbox<D>],
+)
+    ensures given { (ds : List (Carried D)) → W.was_given wire.old ds → W.was_given wire.new (ds ++ held_by place.now held.now) }
+    ensures brought { (ds : List (Carried D)) → W.has_brought wire.old ds → W.has_brought wire.new ds }
 {
     for one in held {
         give(wire, place, one);

@@ -2,7 +2,7 @@
 //! that is held is given to the wire.
 
 ghost use Rattle.std.specs.Prelude.{◌≡◌, ◌≤◌, ◌++◌, [], ◌∷◌, List, length, take, IfOk, OnErr, OnOk};
-ghost use Rattle.serving.specs.Serves.{IsGivenNothing, IsWrittenFirst, Passed, Went, WentBy, WritesFirst, has_brought_beside, shown, was_given_or_held};
+ghost use Rattle.serving.specs.Serves.{IsGivenNothing, IsWrittenFirst, Passed, Went, WentJustBy, WritesFirst, has_brought_beside, shown, was_given_or_held};
 ghost use Rattle.serving.specs.Serving.{AreTurns, Halts, Stays, Ticked, Took};
 ghost use Rattle.wires.specs.Wires.{Carried};
 
@@ -46,9 +46,10 @@ impl<R: FlushRecords + Drop, A: Application + Drop, D: Copy + Eq + Drop> State<R
         alloc: Global,
         wire: &mut W,
     ) -> Result<(), ServeFault>
-        ensures went { WentBy A.has_applied A.meaning R.failed D.eq (was_given_or_held W.was_given) (has_brought_beside W.has_brought) R.stands R.is_kept R.base R.leaves result (Ticked Tick.Begin ∷ []) (shown self.old) (shown self.new) ((shown self.old).held, wire.old) ((shown self.new).held, wire.new) }
+        ensures went { WentJustBy A.has_applied A.meaning R.failed D.eq (was_given_or_held W.was_given) (has_brought_beside W.has_brought) R.stands R.is_kept R.base R.leaves result (Ticked Tick.Begin ∷ []) (shown self.old) (shown self.new) ((shown self.old).held, wire.old) ((shown self.new).held, wire.new) }
         ensures acknowledged { OnOk result (IsWrittenFirst R.is_kept R.leaves W.was_given (shown self.new) wire.old wire.new) }
         ensures unsent { OnErr result (IsGivenNothing W.was_given wire.old wire.new) }
+        ensures brought { (ds : List (Carried D)) → W.has_brought wire.old ds → W.has_brought wire.new ds }
     {
         self.begin(alloc)?;
         self.close(alloc, wire)
@@ -63,6 +64,7 @@ impl<R: FlushRecords + Drop, A: Application + Drop, D: Copy + Eq + Drop> State<R
         ensures went { Went A.has_applied A.meaning R.failed D.eq (was_given_or_held W.was_given) (has_brought_beside W.has_brought) R.stands R.is_kept R.base R.leaves result (Ticked Tick.Resend ∷ Ticked Tick.CatchUp ∷ []) [] [] (shown self.old) (shown self.new) ((shown self.old).held, wire.old) ((shown self.new).held, wire.new) }
         ensures acknowledged { OnOk result (IsWrittenFirst R.is_kept R.leaves W.was_given (shown self.new) wire.old wire.new) }
         ensures unsent { OnErr result (IsGivenNothing W.was_given wire.old wire.new) }
+        ensures brought { (ds : List (Carried D)) → W.has_brought wire.old ds → W.has_brought wire.new ds }
     {
         self.tick_and_keep(alloc)?;
         self.close(alloc, wire)
@@ -79,6 +81,7 @@ impl<R: FlushRecords + Drop, A: Application + Drop, D: Copy + Eq + Drop> State<R
         ensures went { Went A.has_applied A.meaning R.failed D.eq (was_given_or_held W.was_given) (has_brought_beside W.has_brought) R.stands R.is_kept R.base R.leaves result (Took (record { end = arrival.end; peer = arrival.from; bytes = bytes.now }) ∷ []) (record { end = arrival.end; peer = arrival.from; bytes = bytes.now } ∷ []) [] (shown self.old) (shown self.new) ((shown self.old).held, wire.old) ((shown self.new).held, wire.new) }
         ensures acknowledged { OnOk result (IsWrittenFirst R.is_kept R.leaves W.was_given (shown self.new) wire.old wire.new) }
         ensures unsent { OnErr result (IsGivenNothing W.was_given wire.old wire.new) }
+        ensures brought { (ds : List (Carried D)) → W.has_brought wire.old ds → W.has_brought wire.new ds }
     {
         self.take_and_keep(alloc, arrival, bytes)?;
         self.close(alloc, wire)
@@ -210,7 +213,7 @@ impl<R: FlushRecords + Drop, A: Application + Drop, D: Copy + Eq + Drop> State<R
     ) -> Result<u64, ServeFault>
         ensures took { Passed A.has_applied A.meaning R.failed D.eq (was_given_or_held W.was_given) (has_brought_beside W.has_brought) R.stands R.is_kept R.base R.leaves AreTurns result (shown self.old) (shown self.new) ((shown self.old).held, wire.old) ((shown self.new).held, wire.new) }
         ensures most { IfOk result (λ taken. taken ≤ turns) }
-        ensures acknowledged { WritesFirst A.has_applied A.meaning R.failed D.eq R.stands R.is_kept R.base R.leaves W.was_given W.has_brought (shown self.old) wire.old wire.new }
+        ensures acknowledged { WritesFirst A.has_applied A.meaning R.failed D.eq W.was_given W.has_brought R.is_kept R.leaves (shown self.old) wire.old wire.new }
     {
         let mut taken = 0u64;
         // What the wire fails to say is no turn.

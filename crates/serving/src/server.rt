@@ -1,7 +1,7 @@
 //! A server: a node that serves over a wire.
 
 ghost use Rattle.std.specs.Prelude.{◌≡◌, ◌≤◌, false, List, [], ◌∷◌, IfOk, OnErr, OnOk};
-ghost use Rattle.serving.specs.Serves.{IsGivenNothing, IsWrittenFirst, Passed, Went, WentBy, WritesFirst, has_brought_beside, told_to_lead, was_given_or_held};
+ghost use Rattle.serving.specs.Serves.{IsGivenNothing, IsWrittenFirst, Passed, Went, WentJustBy, WritesFirst, has_brought_beside, told_to_lead, was_given_or_held};
 ghost use Rattle.serving.specs.Serving.{AreTurns, Ticked, Took};
 ghost use Rattle.wires.specs.Wires.{Carried};
 
@@ -106,7 +106,7 @@ impl<R: FlushRecords + Drop, A: Application + Drop, D: Copy + Eq + Drop> Server<
         alloc: Global,
         wire: &mut W,
     ) -> Result<(), ServeFault>
-        ensures went { WentBy A.has_applied A.meaning R.failed D.eq (was_given_or_held W.was_given) (has_brought_beside W.has_brought) R.stands R.is_kept R.base R.leaves result (Ticked Tick.Begin ∷ []) self.old self.new (self.old.held, wire.old) (self.new.held, wire.new) }
+        ensures went { WentJustBy A.has_applied A.meaning R.failed D.eq (was_given_or_held W.was_given) (has_brought_beside W.has_brought) R.stands R.is_kept R.base R.leaves result (Ticked Tick.Begin ∷ []) self.old self.new (self.old.held, wire.old) (self.new.held, wire.new) }
         ensures acknowledged { OnOk result (IsWrittenFirst R.is_kept R.leaves W.was_given self.new wire.old wire.new) }
         ensures unsent { OnErr result (IsGivenNothing W.was_given wire.old wire.new) }
         ensures brought { (ds : List (Carried D)) → W.has_brought wire.old ds → W.has_brought wire.new ds }
@@ -168,7 +168,7 @@ impl<R: FlushRecords + Drop, A: Application + Drop, D: Copy + Eq + Drop> Server<
     ) -> Result<u64, ServeFault>
         ensures took { Passed A.has_applied A.meaning R.failed D.eq (was_given_or_held W.was_given) (has_brought_beside W.has_brought) R.stands R.is_kept R.base R.leaves AreTurns result self.old self.new (self.old.held, wire.old) (self.new.held, wire.new) }
         ensures most { IfOk result (λ taken. taken ≤ turns) }
-        ensures acknowledged { WritesFirst A.has_applied A.meaning R.failed D.eq R.stands R.is_kept R.base R.leaves W.was_given W.has_brought self.old wire.old wire.new }
+        ensures acknowledged { WritesFirst A.has_applied A.meaning R.failed D.eq W.was_given W.has_brought R.is_kept R.leaves self.old wire.old wire.new }
     {
         self.state.serve(alloc, wire, buffer, turns)
     }

@@ -5,5 +5,5 @@ use Rattle.serving.proofs.hold.give_all.Given as goal
 
 abbrev pub invariant-loop-one : goal.invariant-loop-one
 invariant-loop-one g l =
-    ((ds : List (Carried g.W.Wire.Address.Denot)) → g.W.Wire.was_given l.fn.wire ds → g.W.Wire.was_given l.wire (ds ++ held_by l.place (take l.one-index l.held)))
-    × ((ds : List (Carried g.W.Wire.Address.Denot)) → g.W.Wire.has_brought l.fn.wire ds → g.W.Wire.has_brought l.wire ds)
+    ((ds : List (Carried g.row.D.Denot)) → g.W.Wire.was_given l.fn.wire ds → g.W.Wire.was_given l.wire (ds ++ held_by l.place (take l.one-index l.held)))
+    × ((ds : List (Carried g.row.D.Denot)) → g.W.Wire.has_brought l.fn.wire ds → g.W.Wire.has_brought l.wire ds)

@@ -12,7 +12,7 @@ pub returns-then-not-is_from_sender-clause-heard :
 returns-then-not-is_from_sender-clause-heard g c end = (
   [],
   from_elsewhere c.if-not-is_from_sender.ensures (stays {R = g.row.R.Denot} {A = g.row.A.Denot} g.A.Application.has_applied g.A.Application.meaning g.R.Records.failed _) refl,
-  held_no_more _ _ _ _ refl refl,
+  held_no_more c.args.hold.now.place c.args.hold.now.place c.args.hold.now.outboxes.items c.args.hold.now.outboxes.items refl refl,
 )
 
 pub returns-then-is_err-clause-heard : goal.returns-then-is_err-clause-heard
