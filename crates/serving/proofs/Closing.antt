@@ -271,3 +271,8 @@ module _ {R A D : Type 0} (has_applied : List (List ℕ) → List Value → A �
           → IsWrittenFirst is_kept leaves was_given y w u → WritesFirst has_applied app failed eq was_given has_brought is_kept leaves x v u
       first_more x y v w u ds f goes (inl written) = record { last = y; wire = u; deeds = ds; goes = goes; written = inl written; silent = λ es g. g }
       first_more x y v w u ds f goes (inr nothing) = first_still x v w u f nothing
+
+      -- the wire was given nothing before either
+      pub first_after : (y : Server R A D) (v w u : W) → IsGivenNothing was_given v w → IsWrittenFirst is_kept leaves was_given y w u → IsWrittenFirst is_kept leaves was_given y v u
+      first_after y v w u nothing (inl written) = inl written
+      first_after y v w u nothing (inr silent) = inr (λ ds g. silent ds (nothing ds g))

@@ -43,7 +43,7 @@ holds_same h k is ds held = is ∙ held
 
 -- where the place and what is held there are the same, so are those datagrams
 pub held_at : {D : Type 0} (h k : Hold D) → k ≡ h → held_by k.place k.outboxes.items ≡ held_by h.place h.outboxes.items
-held_at h k is = ap (λ (l : Hold D). held_by l.place l.outboxes.items) is
+held_at {D = D} h k is = ap (λ (l : Hold D). held_by l.place l.outboxes.items) is
 
 module _ {R A D : Type 0} (has_applied : List (List ℕ) → List Value → A → Type 0) (app : List (List ℕ) → Application) (failed : R → ℕ) (eq : D → D → Bool) where
   -- nothing was done, and some of what waited waits no more

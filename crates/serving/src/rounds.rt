@@ -123,10 +123,10 @@ impl<R: FlushRecords + Drop, A: Application + Drop, D: Copy + Eq + Drop> State<R
         let mut taken = 0u64;
         for _datagram in 0..most {
             let more = self.take_next(alloc, wire, buffer)?;
+            taken += more;
             if more == 0 {
                 break;
             }
-            taken += more;
         }
         Ok(taken)
     }

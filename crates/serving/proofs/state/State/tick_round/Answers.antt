@@ -21,4 +21,4 @@ returns-clause-went g c =
     let y : Server g.row.R.Denot g.row.A.Denot g.row.D.Denot = shown c.tick_and_keep.new.self in
     let z : Server g.row.R.Denot g.row.A.Denot g.row.D.Denot = shown c.close.new.self in
     went_closing {R = g.row.R.Denot} {A = g.row.A.Denot} {D = g.row.D.Denot} g.A.Application.has_applied g.A.Application.meaning g.R.Records.failed g.D.PartialEq.eq (was_given_or_held g.W.Wire.was_given) (has_brought_beside g.W.Wire.has_brought) c.close.result (Ticked Resend) (Ticked CatchUp ∷ []) [] x y z (x.held, c.args.wire.now) (y.held, c.args.wire.now) (z.held, c.close.new.wire) g.R.Records.stands g.R.Records.is_kept g.R.Records.base g.R.FlushRecords.leaves
-    (on_beside {R = g.row.R.Denot} {A = g.row.A.Denot} {D = g.row.D.Denot} g.A.Application.has_applied g.A.Application.meaning g.R.Records.failed g.D.PartialEq.eq g.W.Wire.was_given g.W.Wire.has_brought _ _ x y x.held y.held c.args.wire.now c.in_ok-tick_and_keep.ensures) c.close.ensures.stays c.close.ensures.halted c.close.ensures.place c.close.ensures.word (ap (λ (w : Waiting g.row.D.Denot). held_in w.requests.entries) c.close.ensures.waiting) c.close.ensures.given c.close.ensures.brought
+    (on_beside {R = g.row.R.Denot} {A = g.row.A.Denot} {D = g.row.D.Denot} g.A.Application.has_applied g.A.Application.meaning g.R.Records.failed g.D.PartialEq.eq g.W.Wire.was_given g.W.Wire.has_brought (Ticked Resend ∷ Ticked CatchUp ∷ []) [] x y x.held y.held c.args.wire.now c.in_ok-tick_and_keep.ensures) c.close.ensures.stays c.close.ensures.halted c.close.ensures.place c.close.ensures.word (ap (λ (w : Waiting g.row.D.Denot). held_in w.requests.entries) c.close.ensures.waiting) c.close.ensures.given c.close.ensures.brought
