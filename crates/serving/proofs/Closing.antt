@@ -1,5 +1,5 @@
 -- Steps whose sends are held, beside a wire; and how a round ends.
-use Rattle.std.proofs.Common.{◌≡◌, ℕ, ◌+◌, ◌≤◌, arith, Bool, true, false, List, [], ◌∷◌, ◌++◌, refl, sym, ap, subst, ◌∙◌, ◌⊎◌, ⊎_elim, inl, inr, append-nil, append_assoc, Option}
+use Rattle.std.proofs.Common.{◌≡◌, ℕ, ◌+◌, ◌≤◌, arith, Bool, true, false, List, [], ◌∷◌, ◌++◌, refl, sym, ap, subst, ◌∙◌, inl, inr, append-nil, append_assoc, Option}
 use Rattle.std.specs.Prelude.{Result, Ok, Err, OnOk, OnErr, IsErr}
 use Rattle.std.proofs.lemmas.Grind.{flat_map-append}
 use Rattle.acceptor.specs.Steps.{Acceptor, FlushFailed, IsAsWas}
@@ -13,14 +13,13 @@ use Rattle.node.specs.declared.outbox.Outbox.{Outbox}
 use Rattle.paxos.specs.Application.{Application}
 use Rattle.paxos.specs.Lists.{Has}
 use Rattle.paxos.specs.Records.{Record}
-use Rattle.paxos.specs.Step.{Effect, Running}
+use Rattle.paxos.specs.Step.{Effect}
 use Rattle.serving.proofs.Going.{begins_both, goes_both, goes_none, halts_after, halts_at_once}
 use Rattle.serving.specs.Leading.{is_told}
 use Rattle.serving.specs.Refusals.{IsHalted}
-use Rattle.serving.specs.Serves.{AreAny, AreHeld, Goes, GoesOn, Halted, HaltedAfter, HaveCome, IsGivenNothing, IsWritten, IsWrittenFirst, Passed, Server, Went, WentBy, WentJustBy, WritesFirst, has_brought_beside, was_given_or_held}
-use Rattle.serving.specs.Serving.{AreDone, AreTurns, BeginsIfTold, Deed, Halts, IsDone, IsTurn, Loses, Move, Moves, Place, Stays, Takes, Ticked, Ticks, Took, TookAgain, came_by, came_with, deeds_of, flush_fails, from_elsewhere, given_in, had_stopped, heard, lost, missed, no_message, no_turn, one_more, seat_after, spent, ticked_so}
+use Rattle.serving.specs.Serves.{AreAny, AreHeld, Goes, GoesOn, Halted, IsGivenNothing, IsWrittenFirst, Passed, Server, Went, WentJustBy, WritesFirst, has_brought_beside, was_given_or_held}
+use Rattle.serving.specs.Serving.{AreDone, AreTurns, Deed, Halts, IsDone, IsTurn, Loses, Move, Moves, Place, Stays, Takes, Ticked, Ticks, Took, TookAgain, came_by, came_with, deeds_of, flush_fails, from_elsewhere, given_in, had_stopped, heard, lost, missed, no_message, no_turn, one_more, seat_after, spent, ticked_so}
 use Rattle.serving.specs.declared.fault.ServeFault.{ServeFault}
-use Rattle.serving.specs.declared.leading.Word.{Word}
 use Rattle.serving.specs.declared.seat.Seat.{Seat}
 use Rattle.wires.specs.Wires.{Carried}
 

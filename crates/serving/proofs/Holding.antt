@@ -1,5 +1,5 @@
 -- What is held, after a change.
-use Rattle.std.proofs.Common.{◌≡◌, ℕ, Bool, List, [], ◌∷◌, ◌++◌, refl, sym, ap, subst, ◌∙◌, Option, append-nil, append_assoc}
+use Rattle.std.proofs.Common.{◌≡◌, ℕ, Bool, List, [], ◌++◌, sym, ap, subst, ◌∙◌, Option, append-nil}
 use Rattle.ballots.specs.declared.value.Value.{Value}
 use Rattle.node.specs.Nodes.{posted}
 use Rattle.node.specs.declared.outbox.Outbox.{Outbox}

@@ -46,10 +46,7 @@ impl<R: FlushRecords + Drop, A: Application + Drop, D: Copy + Eq + Drop> State<R
     ) -> Result<(), ServeFault>
         ensures { WentHolding A.has_applied A.meaning R.failed D.eq R.stands R.is_kept R.base R.leaves result (Took (record { end = arrival.end; peer = arrival.from; bytes = bytes.now }) ∷ []) (record { end = arrival.end; peer = arrival.from; bytes = bytes.now } ∷ []) (shown self.old) (shown self.new) }
     {
-        match self
-            .seat
-            .hear(alloc, &mut self.hold, arrival.from, bytes)?
-        {
+        match self.seat.hear(alloc, &mut self.hold, arrival.from, bytes)? {
             Told::Client | Told::Unheard => {}
             Told::Members => self.keep(alloc, arrival, bytes, true),
             Told::Nobody => self.keep(alloc, arrival, bytes, false),
@@ -79,11 +76,7 @@ impl<R: FlushRecords + Drop, A: Application + Drop, D: Copy + Eq + Drop> State<R
     }
 
     /// Takes a request again that waits, if it does, and says what that sent. It waits no more if its client was answered.
-    fn take_again(
-        &mut self,
-        alloc: Global,
-        id: RequestId,
-    ) -> Result<Option<Told>, ServeFault>
+    fn take_again(&mut self, alloc: Global, id: RequestId) -> Result<Option<Told>, ServeFault>
         ensures { WentHolding A.has_applied A.meaning R.failed D.eq R.stands R.is_kept R.base R.leaves result [] [] (shown self.old) (shown self.new) }
     {
         let Some(held) = self.waiting.get(id) else {
@@ -99,11 +92,7 @@ impl<R: FlushRecords + Drop, A: Application + Drop, D: Copy + Eq + Drop> State<R
     }
 
     /// Ticks.
-    fn tick_once(
-        &mut self,
-        alloc: Global,
-        tick: Tick,
-    ) -> Result<(), ServeFault>
+    fn tick_once(&mut self, alloc: Global, tick: Tick) -> Result<(), ServeFault>
         ensures { WentByHolding A.has_applied A.meaning R.failed D.eq R.stands R.is_kept R.base R.leaves result (Ticked tick ∷ []) (shown self.old) (shown self.new) }
     {
         match self.seat.tick(alloc, &mut self.hold, tick) {
@@ -113,10 +102,7 @@ impl<R: FlushRecords + Drop, A: Application + Drop, D: Copy + Eq + Drop> State<R
     }
 
     /// Takes the request again whose value was applied next, if it waits: it has a reply now. Says whether there was such a value.
-    fn tell_next(
-        &mut self,
-        alloc: Global,
-    ) -> Result<bool, ServeFault>
+    fn tell_next(&mut self, alloc: Global) -> Result<bool, ServeFault>
         ensures { WentHolding A.has_applied A.meaning R.failed D.eq R.stands R.is_kept R.base R.leaves result [] [] (shown self.old) (shown self.new) }
     {
         if self.told >= self.seat.node.applied() {
@@ -130,10 +116,7 @@ impl<R: FlushRecords + Drop, A: Application + Drop, D: Copy + Eq + Drop> State<R
     }
 
     /// Takes the request again that has waited longest for a place, if one does. Says whether another one may find one too.
-    fn place_next(
-        &mut self,
-        alloc: Global,
-    ) -> Result<bool, ServeFault>
+    fn place_next(&mut self, alloc: Global) -> Result<bool, ServeFault>
         ensures { WentHolding A.has_applied A.meaning R.failed D.eq R.stands R.is_kept R.base R.leaves result [] [] (shown self.old) (shown self.new) }
     {
         let Some(id) = self.waiting.take_unplaced() else {
@@ -150,10 +133,7 @@ impl<R: FlushRecords + Drop, A: Application + Drop, D: Copy + Eq + Drop> State<R
 
     /// Takes the request again that has waited longest, if one does. Says whether its client was answered: a member that leads no more names
     /// the one that does to each of them.
-    fn answer_oldest(
-        &mut self,
-        alloc: Global,
-    ) -> Result<bool, ServeFault>
+    fn answer_oldest(&mut self, alloc: Global) -> Result<bool, ServeFault>
         ensures { WentHolding A.has_applied A.meaning R.failed D.eq R.stands R.is_kept R.base R.leaves result [] [] (shown self.old) (shown self.new) }
     {
         let Some(id) = self.waiting.oldest() else {
@@ -163,10 +143,7 @@ impl<R: FlushRecords + Drop, A: Application + Drop, D: Copy + Eq + Drop> State<R
     }
 
     /// Takes the requests again whose values were applied since this was last done.
-    fn tell_applied(
-        &mut self,
-        alloc: Global,
-    ) -> Result<(), ServeFault>
+    fn tell_applied(&mut self, alloc: Global) -> Result<(), ServeFault>
         ensures { WentHolding A.has_applied A.meaning R.failed D.eq R.stands R.is_kept R.base R.leaves result [] [] (shown self.old) (shown self.new) }
     {
         for _position in 0..POSITIONS {
@@ -178,10 +155,7 @@ impl<R: FlushRecords + Drop, A: Application + Drop, D: Copy + Eq + Drop> State<R
     }
 
     /// Takes requests again that wait for a place, the oldest first, while there is one.
-    fn place_waiting(
-        &mut self,
-        alloc: Global,
-    ) -> Result<(), ServeFault>
+    fn place_waiting(&mut self, alloc: Global) -> Result<(), ServeFault>
         ensures { WentHolding A.has_applied A.meaning R.failed D.eq R.stands R.is_kept R.base R.leaves result [] [] (shown self.old) (shown self.new) }
     {
         for _request in 0..MOST_WAITING {
@@ -193,10 +167,7 @@ impl<R: FlushRecords + Drop, A: Application + Drop, D: Copy + Eq + Drop> State<R
     }
 
     /// Takes the requests again that have waited longest, while their clients are answered.
-    fn answer_waiting(
-        &mut self,
-        alloc: Global,
-    ) -> Result<(), ServeFault>
+    fn answer_waiting(&mut self, alloc: Global) -> Result<(), ServeFault>
         ensures { WentHolding A.has_applied A.meaning R.failed D.eq R.stands R.is_kept R.base R.leaves result [] [] (shown self.old) (shown self.new) }
     {
         for _request in 0..MOST_WAITING {
@@ -209,11 +180,7 @@ impl<R: FlushRecords + Drop, A: Application + Drop, D: Copy + Eq + Drop> State<R
 
     /// What follows a datagram, before which so many positions were learnt without a gap: replies to what was applied, places for what waits
     /// for one, and the question for what comes next, where a message brought as much as one can.
-    fn follow(
-        &mut self,
-        alloc: Global,
-        before: u32,
-    ) -> Result<(), ServeFault>
+    fn follow(&mut self, alloc: Global, before: u32) -> Result<(), ServeFault>
         ensures { WentHolding A.has_applied A.meaning R.failed D.eq R.stands R.is_kept R.base R.leaves result [] [] (shown self.old) (shown self.new) }
     {
         self.tell_applied(alloc)?;
@@ -250,10 +217,7 @@ impl<R: FlushRecords + Drop, A: Application + Drop, D: Copy + Eq + Drop> State<R
     }
 
     /// Begins a ballot where the word to lead says so at this tick.
-    fn begin_if_due(
-        &mut self,
-        alloc: Global,
-    ) -> Result<(), ServeFault>
+    fn begin_if_due(&mut self, alloc: Global) -> Result<(), ServeFault>
         ensures { WentHolding A.has_applied A.meaning R.failed D.eq R.stands R.is_kept R.base R.leaves result [] [] (shown self.old) (shown self.new) }
     {
         if !self.is_due() {
@@ -281,10 +245,7 @@ impl<R: FlushRecords + Drop, A: Application + Drop, D: Copy + Eq + Drop> State<R
     }
 
     /// Begins a ballot, if there is one left.
-    pub(super) fn begin(
-        &mut self,
-        alloc: Global,
-    ) -> Result<(), ServeFault>
+    pub(super) fn begin(&mut self, alloc: Global) -> Result<(), ServeFault>
         ensures { WentByHolding A.has_applied A.meaning R.failed D.eq R.stands R.is_kept R.base R.leaves result (Ticked Tick.Begin ∷ []) (shown self.old) (shown self.new) }
     {
         self.tick_once(alloc, Tick::Begin)
@@ -301,10 +262,7 @@ impl<R: FlushRecords + Drop, A: Application + Drop, D: Copy + Eq + Drop> State<R
     }
 
     /// Writes the next learnt value that the record lacks, if there is one. Says whether it was kept: it is not where memory is refused.
-    fn keep_next(
-        &mut self,
-        alloc: Global,
-    ) -> Result<bool, ServeFault>
+    fn keep_next(&mut self, alloc: Global) -> Result<bool, ServeFault>
         ensures { WentHolding A.has_applied A.meaning R.failed D.eq R.stands R.is_kept R.base R.leaves result [] [] (shown self.old) (shown self.new) }
     {
         let kept = self.seat.node.kept();
@@ -316,10 +274,7 @@ impl<R: FlushRecords + Drop, A: Application + Drop, D: Copy + Eq + Drop> State<R
     }
 
     /// Writes what is learnt and not kept to the record, one value after the other.
-    fn keep_learnt(
-        &mut self,
-        alloc: Global,
-    ) -> Result<(), ServeFault>
+    fn keep_learnt(&mut self, alloc: Global) -> Result<(), ServeFault>
         ensures { WentHolding A.has_applied A.meaning R.failed D.eq R.stands R.is_kept R.base R.leaves result [] [] (shown self.old) (shown self.new) }
     {
         for _position in 0..POSITIONS {
@@ -356,10 +311,7 @@ impl<R: FlushRecords + Drop, A: Application + Drop, D: Copy + Eq + Drop> State<R
     }
 
     /// Ticks, and keeps what was learnt.
-    pub(super) fn tick_and_keep(
-        &mut self,
-        alloc: Global,
-    ) -> Result<(), ServeFault>
+    pub(super) fn tick_and_keep(&mut self, alloc: Global) -> Result<(), ServeFault>
         ensures { WentHolding A.has_applied A.meaning R.failed D.eq R.stands R.is_kept R.base R.leaves result (Ticked Tick.Resend ∷ Ticked Tick.CatchUp ∷ []) [] (shown self.old) (shown self.new) }
     {
         self.tick(alloc)?;

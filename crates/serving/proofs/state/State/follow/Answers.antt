@@ -1,4 +1,4 @@
-use Rattle.std.proofs.Common.{[], ◌∷◌, refl}
+use Rattle.std.proofs.Common.{[], refl}
 use Rattle.member.specs.declared.input.Tick.TheVariants.{CatchUp}
 use Rattle.serving.proofs.Going.{halts_later, no_begin, on_both, went_both, went_by, went_err}
 use Rattle.serving.specs.Serves.{AreAny, AreHeld}

@@ -1,4 +1,4 @@
-use Rattle.std.proofs.Common.{◌∙◌, [], ◌∷◌, Ok, Some, ap, refl, inr, take}
+use Rattle.std.proofs.Common.{◌∙◌, [], ◌∷◌, Ok, ap, refl, inr, take}
 use Rattle.member.specs.declared.input.Tick.TheVariants.{CatchUp, Resend}
 use Rattle.serving.proofs.Closing.{first_after, given_beside}
 use Rattle.serving.proofs.Going.{brought_none, brought_one, goes_hearing, halts_after, hears_first, passed_err, passed_none, passed_waiting}

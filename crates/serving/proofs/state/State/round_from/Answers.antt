@@ -1,4 +1,4 @@
-use Rattle.std.proofs.Common.{[], ◌∷◌, ap}
+use Rattle.std.proofs.Common.{[], ap}
 use Rattle.serving.proofs.Closing.{first_after, given_beside, halted_beside, on_beside, passed_closing, passed_ending}
 use Rattle.serving.proofs.Giving.{given_none}
 use Rattle.serving.proofs.Going.{goes_hearing, halts_after, halts_at_once, on_hearing, passed_err, passed_stops}

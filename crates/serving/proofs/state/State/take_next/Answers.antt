@@ -1,4 +1,4 @@
-use Rattle.std.proofs.Common.{◌≡◌, ◌-◌, [], ◌∷◌, Ok, Some, ap, refl, ◌∙◌, take, arith}
+use Rattle.std.proofs.Common.{◌≡◌, ◌-◌, [], ◌∷◌, Ok, ap, refl, ◌∙◌, take, arith}
 use Rattle.serving.proofs.Closing.{given_beside, halted_beside, on_beside}
 use Rattle.serving.proofs.Going.{brought_none, brought_one, goes_hearing, halts_after, hears_first, passed_err, passed_none, passed_taking}
 use Rattle.serving.specs.Serves.{Server, has_brought_beside, shown, was_given_or_held}

@@ -1,4 +1,4 @@
-use Rattle.std.proofs.Common.{◌≡◌, Bool, [], ◌∷◌, refl, inl, inr}
+use Rattle.std.proofs.Common.{Bool, [], ◌∷◌, refl, inl, inr}
 use Rattle.member.specs.declared.input.Tick.TheVariants.{CatchUp, Resend}
 use Rattle.serving.specs.Serving.{BeginsIfTold, Ticked}
 use Rattle.serving.proofs.Going.{goes_both, halts_after, halts_later, no_begin, on_both, on_just, went_both, went_err}
