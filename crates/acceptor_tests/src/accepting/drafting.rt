@@ -164,6 +164,8 @@ impl Records for Counting {
 
     ghost passes = { λ s. false };
 
+    ghost base = { λ s a. ⊥ };
+
     fn load(&mut self, alloc: Global) -> Result<Record, RecordsFault> {
         Ok(Record::new(alloc))
     }
