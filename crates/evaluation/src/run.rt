@@ -33,7 +33,7 @@ const MOST_TURNS: u64 = 1_000_000;
 const MOST_WORK: u64 = 100_000_000;
 
 /// The work of a node that is put in document order, where it is not the only one.
-const ORDERING: u64 = 16;
+const ORDERING: u64 = 32;
 
 /// How many bytes of a copied text are one unit of work.
 const BYTES_A_UNIT: u64 = 16;
@@ -144,7 +144,7 @@ impl<'a> Evaluation<'a> {
         }
     }
 
-    /// Takes the work of putting so many nodes in document order: 16 units for each but one. Code: PXQ0002 where less is left.
+    /// Takes the work of putting so many nodes in document order: 32 units for each but one. Code: PXQ0002 where less is left.
     #[tactic(auto, unfolding(query_meaning::specs::Running::most_work))]
     pub fn order(&mut self, nodes: usize) -> Result<(), ValueFault>
         ensures ordered { GivesIn Any (ordering nodes) self.old result self.new }

@@ -191,12 +191,13 @@ module _ (R : Run → Run → Type 0) (s : IsQuiet R) where
   ranged xs ys = step (come (operands xs ys)) (λ r. come (operators.integers_to r))
 
   between_nodes : (holds : ℕ → ℕ → Trees → Bool) (left right : List Item) → K (operators.between_nodes holds left right)
-  between_nodes holds left right = step (come (operators.one_node left)) (λ a. step (come (operators.one_node right)) (λ b. seen_keeps R s (λ ts. operators.booleans (operators.of_both holds a b ts))))
+  between_nodes holds left right = step (come (operators.one_node left)) (λ a. step (come (operators.one_node right)) (λ b.
+      step (work_keeps R s (32 * (length left + length right - 1))) (λ _. seen_keeps R s (λ ts. operators.booleans (operators.of_both holds a b ts)))))
 
   set_of : (belongs : Bool → Bool → Bool) (left right : List Item) → K (operators.set_of belongs left right)
   set_of belongs left right =
       step (come (operators.all_nodes code.XPTY0004 left)) (λ xs. step (come (operators.all_nodes code.XPTY0004 right)) (λ ys.
-      step (work_keeps R s (16 * (length xs + length ys - 1))) (λ _. step (seen_keeps R s (λ ts. filter (λ i. belongs (is_in i xs) (is_in i ys)) (identities ts))) (λ is. come (within (operators.nodes is))))))
+      step (work_keeps R s (32 * (length xs + length ys - 1))) (λ _. step (seen_keeps R s (λ ts. filter (λ i. belongs (is_in i xs) (is_in i ys)) (identities ts))) (λ is. come (within (operators.nodes is))))))
 
   truth_of : (m : M (List Item)) → K m → K (operators.truth_of m)
   truth_of m k = step k (λ items. step (come (truth items)) (λ b. pure_ (one (atom.Boolean b))))
@@ -270,7 +271,7 @@ module _ (R : Run → Run → Type 0) (s : IsQuiet R) where
   all_found found xs = each_keeps R s {f = λ _ given x. come_to (paths.found_within (paths.and_found given x))} (λ n given x. come (paths.found_within (paths.and_found given x))) 0 xs found
 
   concluded : (mixed : Code) (is : List ℕ) (values : List Atom) → K (paths.concluded mixed is values)
-  concluded mixed is [] = step (work_keeps R s (16 * (length is - 1))) (λ _. seen_keeps R s (λ ts. operators.nodes (filter (λ i. is_in i is) (identities ts))))
+  concluded mixed is [] = step (work_keeps R s (32 * (length is - 1))) (λ _. seen_keeps R s (λ ts. operators.nodes (filter (λ i. is_in i is) (identities ts))))
   concluded mixed [] (a ∷ more) = pure_ (map (λ x. item.Atomic x) (a ∷ more))
   concluded mixed (i ∷ is) (a ∷ more) = come (Err mixed)
 

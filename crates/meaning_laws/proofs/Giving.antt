@@ -394,12 +394,14 @@ ranged : GivesBoth operators.ranged
 ranged r xs ys = bind (come_any (operands xs ys)) (λ b k o _. come (operators.integers_to o) (λ items e c j. to_given c o items e))
 
 between_nodes : {r : Run} (holds : ℕ → ℕ → Trees → Bool) (left right : List Item) → Holds r (List Item) Given (operators.between_nodes holds left right)
-between_nodes holds left right = bind (come_any (operators.one_node left)) (λ b _ x _. bind (come_any (operators.one_node right)) (λ c _ y _. see (λ ts. operators.booleans (operators.of_both holds x y ts)) (λ d s j. booleans_given (operators.of_both holds x y (trees_of d)))))
+between_nodes holds left right =
+    bind (come_any (operators.one_node left)) (λ b _ x _. bind (come_any (operators.one_node right)) (λ c _ y _.
+    bind (work_ (32 * (length left + length right - 1))) (λ e _ u _. see (λ ts. operators.booleans (operators.of_both holds x y ts)) (λ d s j. booleans_given (operators.of_both holds x y (trees_of d))))))
 
 set_of : {r : Run} (belongs : Bool → Bool → Bool) (left right : List Item) → Holds r (List Item) Given (operators.set_of belongs left right)
 set_of belongs left right =
     bind (come_any (operators.all_nodes code.XPTY0004 left)) (λ b _ xs _. bind (come_any (operators.all_nodes code.XPTY0004 right)) (λ c _ ys _.
-    bind (work_ (16 * (length xs + length ys - 1))) (λ d _ u _. bind (see {Q = λ d is. AllStand (trees_of d) (operators.nodes is)} (λ ts. filter (λ i. belongs (is_in i xs) (is_in i ys)) (identities ts))
+    bind (work_ (32 * (length xs + length ys - 1))) (λ d _ u _. bind (see {Q = λ d is. AllStand (trees_of d) (operators.nodes is)} (λ ts. filter (λ i. belongs (is_in i xs) (is_in i ys)) (identities ts))
     (λ d s j. nodes_stand (trees_of d) _ (in_filter (trees_of d) (λ i. belongs (is_in i xs) (is_in i ys)) (identities (trees_of d)) (listed (trees_of d)))))
     (λ d _ is q. limit (operators.nodes is) q))))
 
@@ -523,7 +525,7 @@ all_found {r = r} found xs h =
     (λ n b given x q p. come (paths.found_within (paths.and_found given x)) (λ g e c k. found_if (paths.and_found given x) g (nat_le (length (paths.and_found given x).nodes + length (paths.and_found given x).atoms) most_items) refl e)) 0 r xs (all_any r xs) found h
 
 concluded : {r : Run} (mixed : Code) (is : List ℕ) (values : List Atom) → length is + length values ≤ most_items → Holds r (List Item) Given (paths.concluded mixed is values)
-concluded mixed is [] h = bind (work_ (16 * (length is - 1))) (λ c _ u _. see (λ ts. operators.nodes (filter (λ i. is_in i is) (identities ts))) (λ b s k. record {
+concluded mixed is [] h = bind (work_ (32 * (length is - 1))) (λ c _ u _. see (λ ts. operators.nodes (filter (λ i. is_in i is) (identities ts))) (λ b s k. record {
   few =
       (let m = members is (identities (trees_of b)) (λ i. subst (λ n. n ≤ 1) (sym (held-identities i (trees_of b))) (s i)) in
       let l = length-map (filter (λ i. is_in i is) (identities (trees_of b))) (λ i. item.Node i) in omega (arith, m, l, h));

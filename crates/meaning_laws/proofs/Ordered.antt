@@ -42,7 +42,7 @@ listed : (is : List ℕ) → Gives IsConcluded (seen (λ ts. operators.nodes (fi
 listed is run q h = is_value IsConcluded (operators.nodes (filter (λ i. is_in i is) (identities (trees_of run))), run) q (Ok (operators.nodes (filter (λ i. is_in i is) (identities (trees_of run))), run)) (inl (is, refl)) refl h
 
 concluded : (mixed : Code) (is : List ℕ) (values : List Atom) → Gives IsConcluded (paths.concluded mixed is values)
-concluded mixed is [] run q h = after_step IsConcluded (work (16 * (length is - 1))) (λ _. seen (λ ts. operators.nodes (filter (λ i. is_in i is) (identities ts)))) (λ _. listed is) run q h
+concluded mixed is [] run q h = after_step IsConcluded (work (32 * (length is - 1))) (λ _. seen (λ ts. operators.nodes (filter (λ i. is_in i is) (identities ts)))) (λ _. listed is) run q h
 concluded mixed [] (a ∷ more) run q h = is_value IsConcluded (map (λ x. item.Atomic x) (a ∷ more), run) q (Ok (map (λ x. item.Atomic x) (a ∷ more), run)) (inr (a ∷ more, refl)) refl h
 concluded mixed (i ∷ is) (a ∷ more) run q h = absurd (no_value mixed q h)
 

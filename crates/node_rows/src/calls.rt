@@ -6,7 +6,7 @@ use document_names::NamesFault;
 use line_parts::read_names;
 use member::{Target, Tick};
 use node::{Node, NodeFault, Outbox, Sent};
-use records::MemRecords;
+use records::{ScriptRecords, Staged};
 use rows::{RowFault, Words, hex_bytes};
 use sessions::State;
 use std::alloc::{AllocError, Global};
@@ -14,17 +14,42 @@ use std::alloc::{AllocError, Global};
 /// How many calls a row has at most, and how many messages to itself a call delivers.
 const MOST_CALLS: u32 = 1_000;
 
+/// A node whose records hold back what is written until a flush.
+type RowNode = Node<Staged<ScriptRecords>, State>;
+
 /// A node, with the messages that it has sent to itself and that it has not had yet.
 #[derive(Drop)]
 struct Played {
-    node: Node<MemRecords, State>,
+    node: Option<RowNode>,
     number: u8,
     waiting: Vec<Vec<u8>>,
 }
 
+impl Played {
+    /// The node, which is there but while it crashes.
+    fn node(&mut self) -> Result<&mut RowNode, RowFault> {
+        match self.node.as_mut() {
+            Some(node) => Ok(node),
+            None => Err(RowFault::NotARow),
+        }
+    }
+}
+
 /// What the calls after a group, a member and a number of members give.
 pub(super) fn called(alloc: Global, words: &mut Words<'_>) -> Result<String, RowFault> {
-    let mut played = opened(alloc, words)?;
+    let mut played = opened(alloc, &[], words)?;
+    all_called(alloc, &mut played, words)
+}
+
+/// `NUMBER LEFT`: the same, where the store fails in the write of that number, and leaves what it was to write (1) or not (0).
+pub(super) fn called_failing(alloc: Global, words: &mut Words<'_>) -> Result<String, RowFault> {
+    let number = words.number()?;
+    let is_left = match words.plain()? {
+        "0" => false,
+        "1" => true,
+        _ => return Err(RowFault::NotARow),
+    };
+    let mut played = opened(alloc, &[(number, is_left)], words)?;
     all_called(alloc, &mut played, words)
 }
 
@@ -94,16 +119,25 @@ fn setup(alloc: Global, words: &mut Words<'_>) -> Result<Setup, RowFault> {
     }
 }
 
-/// A node that has never done anything.
-fn opened(alloc: Global, words: &mut Words<'_>) -> Result<Played, RowFault> {
+/// A node that has never done anything, over a store whose writes of those numbers fail.
+fn opened(alloc: Global, plan: &[(u64, bool)], words: &mut Words<'_>) -> Result<Played, RowFault> {
     let setup = setup(alloc, words)?;
     let number = setup.member();
-    match Node::open(alloc, setup, MemRecords::new(alloc)) {
-        Ok((node, _)) => Ok(Played {
-            node,
-            number,
-            waiting: Vec::new(alloc),
-        }),
+    let store = ScriptRecords::new(alloc, plan)?;
+    Ok(Played {
+        node: Some(node_over(alloc, setup, store)?),
+        number,
+        waiting: Vec::new(alloc),
+    })
+}
+
+/// A node over what a store keeps, which gives it.
+fn node_over(alloc: Global, setup: Setup, store: ScriptRecords) -> Result<RowNode, RowFault> {
+    let Ok(records) = Staged::open(alloc, store) else {
+        return Err(RowFault::Memory);
+    };
+    match Node::open(alloc, setup, records) {
+        Ok((node, _)) => Ok(node),
         Err(_) => Err(RowFault::Memory),
     }
 }
@@ -113,7 +147,7 @@ fn call(alloc: Global, played: &mut Played, words: &mut Words<'_>) -> Result<Str
     match words.plain()? {
         "receive" => {
             let bytes = bytes_of(alloc, words)?;
-            let given = played.node.receive(alloc, &bytes);
+            let given = played.node()?.receive(alloc, &bytes);
             stepped(alloc, played, given)
         }
         "taken" => taken(alloc, played, words),
@@ -121,6 +155,8 @@ fn call(alloc: Global, played: &mut Played, words: &mut Words<'_>) -> Result<Str
         "resend" => ticked(alloc, played, Tick::Resend),
         "catchup" => ticked(alloc, played, Tick::CatchUp),
         "keep" => ticked(alloc, played, Tick::Keep),
+        "flush" => flushed(alloc, played),
+        "crash" => crashed(alloc, played),
         "kept" => kept(alloc, played),
         "turn" => turned(alloc, played),
         "answer" => answered(alloc, played, words),
@@ -132,7 +168,7 @@ fn call(alloc: Global, played: &mut Played, words: &mut Words<'_>) -> Result<Str
 /// Whether bytes are taken, or their fault.
 fn taken(alloc: Global, played: &mut Played, words: &mut Words<'_>) -> Result<String, RowFault> {
     let bytes = bytes_of(alloc, words)?;
-    match played.node.receive(alloc, &bytes) {
+    match played.node()?.receive(alloc, &bytes) {
         Ok(_outbox) => Ok(format!(in alloc; "taken")?),
         Err(fault) => fault_text(alloc, fault),
     }
@@ -140,7 +176,7 @@ fn taken(alloc: Global, played: &mut Played, words: &mut Words<'_>) -> Result<St
 
 /// What a tick gives.
 fn ticked(alloc: Global, played: &mut Played, tick: Tick) -> Result<String, RowFault> {
-    let given = played.node.tick(alloc, tick);
+    let given = played.node()?.tick(alloc, tick);
     stepped(alloc, played, given)
 }
 
@@ -185,31 +221,53 @@ fn turned(alloc: Global, played: &mut Played) -> Result<String, RowFault> {
             return Ok(format!(in alloc; "{turns} messages")?);
         }
         let bytes = played.waiting.remove(0);
-        let given = played.node.receive(alloc, &bytes);
+        let given = played.node()?.receive(alloc, &bytes);
         let _said = stepped(alloc, played, given)?;
     }
     Err(RowFault::NotARow)
 }
 
 /// `FLOOR TEXT`: what a question reads.
-fn answered(alloc: Global, played: &Played, words: &mut Words<'_>) -> Result<String, RowFault> {
+fn answered(alloc: Global, played: &mut Played, words: &mut Words<'_>) -> Result<String, RowFault> {
     let floor = word(words)?;
     let text = words.text(alloc)?;
-    match played.node.answer(alloc, floor, 1, text.as_str()) {
+    match played.node()?.answer(alloc, floor, 1, text.as_str()) {
         Ok(reading) => reading_text(alloc, &reading),
         Err(fault) => fault_text(alloc, fault),
     }
 }
 
+/// Has a node write what its records hold back.
+fn flushed(alloc: Global, played: &mut Played) -> Result<String, RowFault> {
+    match played.node()?.flush(alloc) {
+        Ok(()) => Ok(format!(in alloc; "flushed")?),
+        Err(fault) => fault_text(alloc, fault),
+    }
+}
+
+/// Drops a node, and opens it over what its store was left with: how many writes the store had.
+fn crashed(alloc: Global, played: &mut Played) -> Result<String, RowFault> {
+    let Some(node) = played.node.take() else {
+        return Err(RowFault::NotARow);
+    };
+    let (setup, records) = node.into_parts();
+    let store = records.into_inner();
+    let writes = store.writes();
+    played.waiting = Vec::new(alloc);
+    played.node = Some(node_over(alloc, setup, store)?);
+    Ok(format!(in alloc; "opened after {writes} writes")?)
+}
+
 /// How many learnt values its record keeps.
-fn kept(alloc: Global, played: &Played) -> Result<String, RowFault> {
-    let kept = played.node.kept();
+fn kept(alloc: Global, played: &mut Played) -> Result<String, RowFault> {
+    let kept = played.node()?.kept();
     Ok(format!(in alloc; "kept {kept}")?)
 }
 
 /// How much a node has applied and learnt.
-fn seen(alloc: Global, played: &Played) -> Result<String, RowFault> {
-    let applied = played.node.state().applied();
-    let prefix = played.node.prefix();
+fn seen(alloc: Global, played: &mut Played) -> Result<String, RowFault> {
+    let node = played.node()?;
+    let applied = node.state().applied();
+    let prefix = node.prefix();
     Ok(format!(in alloc; "applied {applied}, learnt {prefix}")?)
 }

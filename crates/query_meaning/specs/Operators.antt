@@ -69,6 +69,10 @@ compared_by_pairs op xs ys = λ run. (do
   _ ← work (tried_work op xs ys)
   pure (one (atom.Boolean b))) run
 
+-- To put nodes in document order takes 32 units of work for each but one; so does a comparison of two nodes.
+abbrev pub ordering : ℕ → M (Unit {0})
+ordering n = work (32 * (n - 1))
+
 -- `is << >>` (section 3.5.3): one node a side, or none, else XPTY0004, which is judged before an empty side gives nothing (our own choice)
 abbrev pub one_node : List Item → Result (Option ℕ) Code
 one_node [] = Ok None
@@ -83,6 +87,7 @@ abbrev pub between_nodes : (ℕ → ℕ → Trees → Bool) → List Item → Li
 between_nodes holds left right = do
   a ← come_to (one_node left)
   b ← come_to (one_node right)
+  _ ← ordering (length left + length right)
   seen (λ ts. booleans (of_both holds a b ts))
 
 abbrev pub is_same : ℕ → ℕ → Trees → Bool
@@ -103,10 +108,6 @@ all_nodes code (item.Node i ∷ xs) = and_node (all_nodes code xs)
 
 abbrev pub nodes : List ℕ → List Item
 nodes is = map (λ i. item.Node i) is
-
--- To put nodes in document order takes 16 units of work for each but one.
-abbrev pub ordering : ℕ → M (Unit {0})
-ordering n = work (16 * (n - 1))
 
 -- `union`, `intersect`, `except` (section 3.3.3): sets of nodes, in document order
 abbrev pub set_of : (Bool → Bool → Bool) → List Item → List Item → M (List Item)

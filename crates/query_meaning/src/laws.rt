@@ -388,11 +388,16 @@ pub fn work()
     ensures descendant { said_of_filled_by 18 (call (codes "count") (path db (any axis.Descendant [] ∷ []) ∷ [])) ≡ one (codes "1") }
     ensures no_descendant { said_of_filled_by 17 (call (codes "count") (path db (any axis.Descendant [] ∷ []) ∷ [])) ≡ Err PXQ0002 }
     // count(doc("db")/a/node()): three nodes are put in order
-    ensures ordered { said_of_filled_by 60 (call (codes "count") (below_a axis.Child test.AnyNode ∷ [])) ≡ one (codes "3") }
-    ensures no_ordered { said_of_filled_by 59 (call (codes "count") (below_a axis.Child test.AnyNode ∷ [])) ≡ Err PXQ0002 }
+    ensures ordered { said_of_filled_by 92 (call (codes "count") (below_a axis.Child test.AnyNode ∷ [])) ≡ one (codes "3") }
+    ensures no_ordered { said_of_filled_by 91 (call (codes "count") (below_a axis.Child test.AnyNode ∷ [])) ≡ Err PXQ0002 }
     // count(doc("db") | text {"x"})
-    ensures set { said_by 32 (call (codes "count") ((binary Union db (txt (str (codes "x")))) ∷ [])) ≡ one (codes "2") }
-    ensures no_set { said_by 31 (call (codes "count") ((binary Union db (txt (str (codes "x")))) ∷ [])) ≡ Err PXQ0002 }
+    ensures set { said_by 48 (call (codes "count") ((binary Union db (txt (str (codes "x")))) ∷ [])) ≡ one (codes "2") }
+    ensures no_set { said_by 47 (call (codes "count") ((binary Union db (txt (str (codes "x")))) ∷ [])) ≡ Err PXQ0002 }
+    // doc("db") is doc("db")
+    ensures same { said_of_filled_by 44 (binary Is db db) ≡ one (codes "true()") }
+    ensures no_same { said_of_filled_by 43 (binary Is db db) ≡ Err PXQ0002 }
+    // doc("db") << ()
+    ensures no_node { said_of_filled_by 10 (binary Precedes db (list [])) ≡ Ok [] }
     // string(doc("db"))
     ensures typed { said_of_filled_by 12 (call (codes "string") (db ∷ [])) ≡ one (codes "\"x\"") }
     ensures no_typed { said_of_filled_by 11 (call (codes "string") (db ∷ [])) ≡ Err PXQ0002 }

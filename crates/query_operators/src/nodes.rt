@@ -10,8 +10,8 @@ use evaluation::{Evaluation, Sequence};
 use trees::NodeId;
 use values::{Code, Item, ValueFault};
 
-/// `is`: whether both sides are the same node (XQuery 1.0, section 3.5.3); nothing where a side is empty. Code: XPTY0004 where a side has
-/// more than one item, or an atomic value.
+/// `is`: whether both sides are the same node (XQuery 1.0, section 3.5.3); nothing where a side is empty. It takes the work of
+/// putting two nodes in order. Codes: XPTY0004 where a side has more than one item, or an atomic value; PXQ0002 where too little work is left.
 pub fn is_same(
     run: &mut Evaluation,
     left: &Sequence,
@@ -21,6 +21,7 @@ pub fn is_same(
 {
     let a = one_node(left.as_slice())?;
     let b = one_node(right.as_slice())?;
+    run.order(left.as_slice().len() + right.as_slice().len())?;
     match (a, b) {
         (Some(a), Some(b)) => Ok(boolean(run, a == b)?),
         _ => Ok(Sequence::new(run.alloc())),
@@ -28,7 +29,8 @@ pub fn is_same(
 }
 
 /// `<<`: whether the node on the left comes before that on the right in document order (XQuery 1.0, section 3.5.3); nothing where a side
-/// is empty. Code: XPTY0004 where a side has more than one item, or an atomic value.
+/// is empty. It takes the work of putting two nodes in order. Codes: XPTY0004 where a side has more than one item, or an atomic value; PXQ0002
+/// where too little work is left.
 pub fn precedes(
     run: &mut Evaluation,
     left: &Sequence,
@@ -40,6 +42,7 @@ pub fn precedes(
 {
     let a = one_node(left.as_slice())?;
     let b = one_node(right.as_slice())?;
+    run.order(left.as_slice().len() + right.as_slice().len())?;
     match (a, b) {
         (Some(a), Some(b)) => {
             let holds = run.shelf().before(a, b);
@@ -50,7 +53,8 @@ pub fn precedes(
 }
 
 /// `>>`: whether the node on the left comes after that on the right in document order (XQuery 1.0, section 3.5.3); nothing where a side
-/// is empty. Code: XPTY0004 where a side has more than one item, or an atomic value.
+/// is empty. It takes the work of putting two nodes in order. Codes: XPTY0004 where a side has more than one item, or an atomic value; PXQ0002
+/// where too little work is left.
 pub fn follows(
     run: &mut Evaluation,
     left: &Sequence,
@@ -62,6 +66,7 @@ pub fn follows(
 {
     let a = one_node(left.as_slice())?;
     let b = one_node(right.as_slice())?;
+    run.order(left.as_slice().len() + right.as_slice().len())?;
     match (a, b) {
         (Some(a), Some(b)) => {
             let holds = run.shelf().before(b, a);

@@ -97,6 +97,8 @@ impl PlannedRecords for MemRecords {
 impl FlushRecords for MemRecords {
     ghost leaves = { λ s a b. (s ≡ a) ⊎ (s ≡ b) };
 
+    ghost left = { λ s a h. absurd h };
+
     fn flush(&mut self, alloc: Global) -> Result<(), RecordsFault> {
         Ok(())
     }

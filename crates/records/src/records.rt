@@ -149,4 +149,7 @@ pub trait FlushRecords: Records {
         ensures counts { Counts (Self.failed self.old) (Self.failed self.new) result }
         ensures fates { (IsErrOf result RecordsFault.Store → ⊥) → (k : ℕ) → Self.fates self.new k ≡ Self.fates self.old k }
         ensures passes { Self.passes self.new ≡ Self.passes self.old };
+
+    /// Where all since a flush is held back, a crash at this moment leaves the record of that flush.
+    ghost left: { (s : Self) → (a : RecordTerm) → Self.base s a → leaves s a a };
 }

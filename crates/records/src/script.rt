@@ -263,6 +263,8 @@ impl PlannedRecords for ScriptRecords {
 impl FlushRecords for ScriptRecords {
     ghost leaves = { Stands };
 
+    ghost left = { λ s a h. absurd h };
+
     fn flush(&mut self, alloc: Global) -> Result<(), RecordsFault> {
         Ok(())
     }

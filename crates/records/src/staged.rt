@@ -250,6 +250,8 @@ impl<R: GroupRecords + Drop> PlannedRecords for Staged<R> {
 impl<R: GroupRecords + Drop> FlushRecords for Staged<R> {
     ghost leaves = { λ s a b. R.stands s.store a b };
 
+    ghost left = { λ s a h. h.1.0 };
+
     fn flush(&mut self, alloc: Global) -> Result<(), RecordsFault> {
         Staged::flush(self, alloc)
     }

@@ -1,5 +1,6 @@
 -- What the statements of a new record make of a database.
 use Rattle.std.proofs.Common.{◌≡◌, inl, ℕ, pos, List, [], ◌∷◌, false, None, Ok, Err, Result, OnOk, refl, sym, ap, subst, ◌∙◌, arith}
+use Rattle.std.proofs.lemmas.List.Sorted.{IsPermutation-refl}
 use Rattle.sqlite.specs.declared.types.Value.TheVariants.{Null, Int, Text}
 use Rattle.sqlite.specs.declared.error.Error.{Error}
 use Rattle.sqlite.specs.Order.{Row}
@@ -25,11 +26,14 @@ use Rattle.ballots.specs.Terms.{Setup}
 use Rattle.record_tables.specs.Texts.{meta, votes, learnt, no_schema, schema, schema_1, meta_text, votes_text, learnt_text, member_text}
 use Rattle.record_tables.specs.declared.version.Version.TheVariants.{Second}
 use Rattle.paxos.specs.Records.{empty_record}
-use Rattle.sql_records.specs.Stored.{AreKept, IsStored, joined, meta_row}
+use Rattle.record_writes.specs.Stored.{AreKept, IsStored, joined, meta_row}
 use Rattle.sql_records.specs.Created.{FirstIsEmpty, HaveNoneLearnt, HaveRows, Makes, half_schema}
 use Rattle.sql_records.proofs.Means.{meta_is, votes_is, learnt_is}
-use Rattle.sql_records.proofs.LearntRows.{nothing_kept}
-use Rattle.sql_records.proofs.Update.{went, same_value, cast_int, cast_null}
+use Rattle.record_writes.proofs.Update.{went, same_value, cast_int, cast_null}
+
+-- a table with no rows keeps nothing as learnt
+pub nothing_kept : AreKept [] []
+nothing_kept = record { rows = IsPermutation-refl []; few = omega arith; values = λ v none. absurd none }
 
 abbrev pub Compiles : Schema → List ℕ → Type 0
 Compiles before text = (command_of (understood before text) ≡ CreateTable) × (statement_of text (understood before text) ≡ text)

@@ -13,10 +13,10 @@ use Rattle.record_tables.specs.Texts.{schema}
 use Rattle.record_tables.specs.declared.version.Version.{Version}
 use Rattle.record_tables.specs.declared.version.Version.TheVariants.{Second}
 use Rattle.record_tables.specs.Versions.{tables_of}
-use Rattle.sql_records.specs.Stored.{IsStored, KeepsLearnt}
-use Rattle.sql_records.specs.Holds.{Holds}
+use Rattle.record_writes.specs.Stored.{IsStored, KeepsLearnt}
+use Rattle.record_writes.specs.Holds.{Holds}
 use Rattle.sql_records.specs.Reading.{meta_shown, vote_shown, AreShown, ShowsMember}
-use Rattle.sql_records.proofs.Holding.{SettledAt, StaysAt}
+use Rattle.record_writes.proofs.Holding.{SettledAt, StaysAt}
 use Rattle.sql_records.proofs.Loaded.{loaded, SpeltApart}
 use Rattle.sql_records.proofs.Kept.{one_record}
 

@@ -24,11 +24,12 @@ use Rattle.paxos.specs.Records.{Record}
 use Rattle.records.specs.Kept.{AreAbove}
 use Rattle.record_tables.specs.Texts.{schema, learnt_load_text}
 use Rattle.record_tables.specs.declared.version.Version.TheVariants.{Second}
-use Rattle.sql_records.specs.Stored.{AreKept, IsStored, learnt_row, learnt_rows, times}
+use Rattle.record_writes.specs.Stored.{AreKept, IsStored, learnt_row, learnt_rows, times}
 use Rattle.sql_records.specs.Reading.{AreLearnt, ShowsLearnt, ShowsNotNext, learnt_shown}
 use Rattle.sql_records.proofs.Means.{learnt_query, learnt_query_is, learnt_plain}
 use Rattle.sql_records.proofs.Queried.{both, paired}
-use Rattle.sql_records.proofs.Loaded.{SpeltApart, above_has, has_moved, once_rising, one_promise, one_vote, same_rising, times_permuted, unmapped}
+use Rattle.record_writes.proofs.Lists.{has_moved}
+use Rattle.sql_records.proofs.Loaded.{SpeltApart, above_has, once_rising, one_promise, one_vote, same_rising, times_permuted, unmapped}
 use Rattle.sql_records.proofs.Ordered.{IsOrdered, rise}
 
 -- the values as entries with no ballot

@@ -1,16 +1,16 @@
 -- From what the queries show to what the tables hold.
 use Rattle.std.proofs.Common.{◌≡◌, inl, inr, ℕ, ◌+◌, ◌≤◌, ◌<◌, suc, zero, List, [], ◌∷◌, ◌++◌, map, drop, length, fold, Bool, true, false, cond, ◌&&◌, ◌==◌, Some, Option, refl, sym, ap, subst, subst₂, ◌∙◌, arith, get_or, codes}
-use Rattle.std.specs.List.{swap, Contains}
+use Rattle.std.specs.List.{swap}
 use Rattle.std.specs.List.Sorted.{IsPermutation, apply_swaps, SwapsInRange}
 use Rattle.std.proofs.lemmas.List.Sorted.{IsPermutation-map, IsPermutation-sym, sum_by-IsPermutation}
 use Rattle.std.proofs.Math.Seq.{map-set}
 use Rattle.std.proofs.Math.ListN.{set, length-map, get_or-map}
 use Rattle.sqlite_rules.specs.Lists.{Has}
-use Rattle.std.specs.Prelude.{slice_index_or, not}
+use Rattle.std.specs.Prelude.{not}
 use Rattle.std.specs.List.{AllByRecursion}
 use Rattle.std.proofs.lemmas.Bool.Decides.{nat_tests}
-use Rattle.std.proofs.lemmas.List.Sorted.{Contains-permutation}
-use Rattle.sql_records.proofs.Upsert.{same_number}
+use Rattle.record_writes.proofs.Lists.{has_moved}
+use Rattle.record_writes.proofs.Upsert.{same_number}
 use Rattle.ballots.specs.declared.value.Value.{Value as Proposed}
 use Rattle.sqlite.specs.declared.types.Value.{Value}
 use Rattle.sqlite.specs.declared.types.Value.TheVariants.{Null, Int, Real, Text, Blob}
@@ -34,7 +34,7 @@ use Rattle.record_tables.specs.declared.version.Version.{Version}
 use Rattle.record_tables.specs.declared.version.Version.TheVariants.{First, Second}
 use Rattle.record_tables.specs.Versions.{number_of, tables_of}
 use Rattle.ballots.specs.Values.{positions}
-use Rattle.sql_records.specs.Stored.{AreKept, IsPromise, IsStored, KeepsLearnt, MayStand, learnt_row, learnt_rows, meta_row, vote_row, times}
+use Rattle.record_writes.specs.Stored.{AreKept, IsPromise, IsStored, KeepsLearnt, MayStand, learnt_row, learnt_rows, meta_row, vote_row, times}
 use Rattle.sql_records.specs.Reading.{learnt_shown, meta_shown, vote_shown, AreLearnt, AreShown, ShowsMember}
 
 -- ---- a row that obeys its table
@@ -139,19 +139,6 @@ once_rising p q (e ∷ es) h = by (once_rising p e.position es h.1) (λ low. non
     by rest none false eq = omega (arith, rest)
 
 -- ---- membership
-
-has_contains : {X : Type 0} (xs : List X) (x : X) → Has xs x → Contains xs x
-has_contains [] x none = absurd none
-has_contains (y ∷ ys) x (inl is) = (0, omega arith, sym is)
-has_contains (y ∷ ys) x (inr h) = let it = has_contains ys x h in let low = it.1 in (suc it.0, omega arith, it.2)
-
-contains_has : {X : Type 0} (xs : List X) (x : X) (k : ℕ) → k < length xs → slice_index_or xs k x ≡ x → Has xs x
-contains_has [] x k low is = absurd (omega (arith, low))
-contains_has (y ∷ ys) x zero low is = inl (sym is)
-contains_has (y ∷ ys) x (suc k) low is = inr (contains_has ys x k (omega (arith, low)) is)
-
-pub has_moved : {X : Type 0} (xs ys : List X) (x : X) → IsPermutation xs ys → Has xs x → Has ys x
-has_moved xs ys x h has = let it = Contains-permutation xs ys x h (has_contains xs x has) in contains_has ys x it.0 it.1 it.2
 
 pub above_has : (q : ℕ) (es : List Entry) (x : Entry) → AreAbove q es → Has es x → q < x.position
 above_has q [] x h none = absurd none

@@ -35,12 +35,12 @@ use Rattle.ballots.specs.Terms.{Setup}
 use Rattle.document_names.specs.Names.{is_document_name, is_document_name_byte, are_distinct, are_document_names}
 use Rattle.sql_records.specs.Created.{HaveNoneLearnt, Makes}
 use Rattle.sql_records.specs.Faults.{StoreFailed}
-use Rattle.sql_records.specs.Stored.{joined, meta_row}
+use Rattle.record_writes.specs.Stored.{joined, meta_row}
 use Rattle.record_tables.specs.Texts.{meta, schema, member_text}
 use Rattle.sql_records.proofs.Creating.{member_inserts, member_plain, member_params, member_shown, member_terms}
 use Rattle.sql_records.proofs.CreationFaults.{halted, inside_failed}
 use Rattle.sql_records.proofs.StoreFaults.{IsWhole}
-use Rattle.sql_records.proofs.Update.{cast_int, cast_null}
+use Rattle.record_writes.proofs.Update.{cast_int, cast_null}
 
 -- ---- the text of the names is short
 

@@ -15,10 +15,10 @@ use Rattle.record_tables.specs.Texts.{schema, schema_1}
 use Rattle.record_tables.specs.declared.version.Version.TheVariants.{First, Second}
 use Rattle.sql_records.specs.Created.{HaveRows, Makes, MigratesOnly}
 use Rattle.sql_records.specs.Faults.{StoreFailed}
-use Rattle.sql_records.specs.Holds.{Holds}
-use Rattle.sql_records.specs.Stored.{IsStored}
-use Rattle.sql_records.proofs.Both.{committed}
-use Rattle.sql_records.proofs.Holding.{SettledAt}
+use Rattle.record_writes.specs.Holds.{Holds}
+use Rattle.record_writes.specs.Stored.{IsStored}
+use Rattle.record_writes.proofs.Both.{committed}
+use Rattle.record_writes.proofs.Holding.{SettledAt}
 use Rattle.sql_records.proofs.StoreFaults.{fails_by}
 
 module _ {S : Type 0} (g : Ghosts S) (h b : Held S) (begun : b ≡ record h { in_transaction = true }) where

@@ -22,12 +22,13 @@ use Rattle.ballots.specs.declared.value.Entry.{Entry}
 use Rattle.records.specs.Kept.{AreAbove}
 use Rattle.record_tables.specs.Texts.{votes_load_text}
 use Rattle.record_tables.specs.Versions.{AreTables, tables_of}
-use Rattle.sql_records.specs.Stored.{times, vote_row}
+use Rattle.record_writes.specs.Stored.{times, vote_row}
 use Rattle.sql_records.specs.Reading.{AreShown, AreVotes, Shows, ShowsNoVote, vote_shown}
 use Rattle.sql_records.proofs.Means.{votes_query, votes_query_is, votes_plain}
 use Rattle.sql_records.proofs.Queried.{both, paired}
-use Rattle.sql_records.proofs.Loaded.{has_moved, times_permuted, unmapped}
-use Rattle.sql_records.proofs.Upsert.{same_number}
+use Rattle.record_writes.proofs.Lists.{has_moved}
+use Rattle.sql_records.proofs.Loaded.{times_permuted, unmapped}
+use Rattle.record_writes.proofs.Upsert.{same_number}
 use Rattle.sql_records.proofs.Read.{last_of}
 
 -- what a query shows of a vote

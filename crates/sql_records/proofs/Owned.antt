@@ -9,8 +9,8 @@ use Rattle.sqlite_value.specs.Order.{column}
 use Rattle.ballots.specs.Terms.{IsPlace, Setup}
 use Rattle.record_tables.specs.declared.version.Version.{Version}
 use Rattle.record_tables.specs.Versions.{number_of, tables_of}
-use Rattle.sql_records.specs.Stored.{IsSetup, meta_row}
-use Rattle.sql_records.specs.Reading.{ShowsOwner, ShowsAnother, meta_shown}
+use Rattle.record_writes.specs.Stored.{meta_row}
+use Rattle.sql_records.specs.Reading.{IsSetup, ShowsOwner, ShowsAnother, meta_shown}
 use Rattle.sql_records.specs.Faults.{IsAnothersIn}
 use Rattle.sql_records.proofs.Loaded.{member_row}
 

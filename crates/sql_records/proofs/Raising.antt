@@ -18,9 +18,10 @@ use Rattle.sqlite.specs.declared.error.ErrorCode.TheVariants as code
 use Rattle.sqlite.specs.declared.error.Error.{Error}
 use Rattle.sqlite.specs.declared.error.Error.TheVariants.{SqliteFailure}
 use Rattle.sqlite.specs.Command.TheVariants.{Update}
-use Rattle.sqlite.specs.Does.{Does}
+use Rattle.sqlite.specs.Does.{Does, Tally}
+use Rattle.sqlite.specs.declared.run.Mode.{Mode}
 use Rattle.sqlite.specs.Edit.{Edit, edit_of, edited}
-use Rattle.sqlite.specs.Effect.{RefusesQuery}
+use Rattle.sqlite.specs.Effect.{Database, RefusesQuery}
 use Rattle.sqlite.specs.Listing.{understood}
 use Rattle.sqlite.specs.Order.{Row}
 use Rattle.sqlite.specs.Rowids.TheVariants.{Given}
@@ -36,13 +37,34 @@ use Rattle.record_tables.specs.Texts.{meta, schema, version_text}
 use Rattle.record_tables.specs.declared.version.Version.TheVariants.{First, Second}
 use Rattle.sql_records.specs.Created.{HaveNoneLearnt, Makes}
 use Rattle.sql_records.specs.Faults.{StoreFailed}
-use Rattle.sql_records.specs.Stored.{IsStored, meta_row}
+use Rattle.record_writes.specs.Stored.{AreKept, IsStored, meta_row}
+use Rattle.sql_records.proofs.Creating.{nothing_kept}
 use Rattle.sql_records.proofs.CreationFaults.{halted, inside_failed}
 use Rattle.sql_records.proofs.MemberFaults.{no_keys, storable}
 use Rattle.sql_records.proofs.Means.{version_is, version_plain, version_query, version_terms}
 use Rattle.sql_records.proofs.StoreFaults.{IsWhole}
-use Rattle.sql_records.proofs.Stores.{raised}
-use Rattle.sql_records.proofs.Update.{cast_int, cast_null, raises, shown, shows}
+use Rattle.record_writes.proofs.Update.{cast_int, cast_null, shown, shows, updates}
+
+-- the UPDATE to version 2
+pub raises : (o : Setup) (round leader : ℕ) (limit : Option ℕ) (mode : Mode) (text : List ℕ) (db after : Database) (tally : Tally) → db.schema ≡ schema → db.trees 0 ≡ meta_row 1 o round leader ∷ []
+    → Does limit mode [] (record db { schema = schema }) text None (Update 0 (record { lets = []; body = version_query })) (Ok (tally, after))
+    → (after.schema ≡ schema) × (after.trees 0 ≡ meta_row 2 o round leader ∷ []) × (after.trees 1 ≡ db.trees 1) × (after.trees 2 ≡ db.trees 2)
+raises o round leader = updates o 1 round leader 2 round leader version_terms [] refl
+
+-- version 2 of a record of version 1
+pub raised : (o : Setup) (k : Record) (before after : Trees) → after 0 ≡ meta_row 2 o k.promise.round k.promise.member ∷ [] → after 1 ≡ before 1 → after 2 ≡ [] → IsStored First o before k → IsStored Second o after k
+raised o k before after meta votes none it = record {
+  meta = meta;
+  rows = it.rows;
+  votes = votes ∙ it.votes;
+  once = it.once;
+  sound = it.sound;
+  complete = it.complete;
+  rising = it.rising;
+  promise = it.promise;
+  each = it.each;
+  kept = subst (AreKept (after 2)) (sym it.kept) (subst (λ t. AreKept t []) (sym none) nothing_kept);
+}
 
 -- ---- the row can be stored, and no rule refuses it
 

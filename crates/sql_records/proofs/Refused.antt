@@ -14,8 +14,8 @@ use Rattle.record_tables.specs.Texts.{no_schema, schema, schema_1}
 use Rattle.record_tables.specs.declared.version.Version.{Version}
 use Rattle.record_tables.specs.declared.version.Version.TheVariants.{First, Second}
 use Rattle.record_tables.specs.Versions.{number_of, tables_of}
-use Rattle.sql_records.specs.Stored.{IsPromise, IsSetup, IsStored, KeepsLearnt, meta_row}
-use Rattle.sql_records.specs.Reading.{AreVotes, ShowsMember, ShowsNoMember, meta_shown}
+use Rattle.record_writes.specs.Stored.{IsPromise, IsStored, KeepsLearnt, meta_row}
+use Rattle.sql_records.specs.Reading.{IsSetup, AreVotes, ShowsMember, ShowsNoMember, meta_shown}
 use Rattle.sql_records.specs.Faults.{HoldsNone, IsAnothers, IsAnothersIn, IsDamaged}
 use Rattle.sql_records.proofs.Loaded.{above_has}
 

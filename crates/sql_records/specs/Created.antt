@@ -8,7 +8,7 @@ use Rattle.ballots.specs.Terms.{Setup}
 use Rattle.paxos.specs.Records.{Record, empty_record}
 use Rattle.record_tables.specs.Texts.{meta, no_schema, schema_1}
 use Rattle.record_tables.specs.declared.version.Version.TheVariants.{First, Second}
-use Rattle.sql_records.specs.Stored.{IsStored}
+use Rattle.record_writes.specs.Stored.{IsStored}
 
 -- What a crash leaves now it left before as well, or else there were no tables and it leaves the empty record.
 abbrev pub MakesOnly : Setup → (old new : State) → Type 0

@@ -9,7 +9,8 @@ use Rattle.paxos.specs.Records.{Record}
 use Rattle.record_tables.specs.Texts.{no_schema}
 use Rattle.record_tables.specs.declared.version.Version.{Version}
 use Rattle.record_tables.specs.Versions.{number_of, tables_of}
-use Rattle.sql_records.specs.Stored.{IsPromise, IsSetup, IsStored, meta_row}
+use Rattle.record_writes.specs.Stored.{IsPromise, IsStored, meta_row}
+use Rattle.sql_records.specs.Reading.{IsSetup}
 
 -- The one row of the member's table is that of some member, in the version of the tables, with a promise, and not the row of this one:
 -- another group, member, number of members or list of names.

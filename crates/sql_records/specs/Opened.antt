@@ -6,7 +6,7 @@ use Rattle.sqlite.specs.Store.{Ghosts}
 use Rattle.sqlite.specs.Held.{Held, held_code, state}
 use Rattle.ballots.specs.Terms.{Setup, setup_code}
 use Rattle.paxos.specs.Records.{Record}
-use Rattle.sql_records.specs.Holds.{Holds}
+use Rattle.record_writes.specs.Holds.{Holds}
 
 -- opened records: the connection, the member whose records they are, and in how many calls the store has failed
 pub record Opened (S : Type 0) : Type 0 where

@@ -10,8 +10,8 @@ ghost use Rattle.sqlite.specs.declared.error.ErrorCode.TheVariants.{OutOfMemory}
 ghost use Rattle.document_names.specs.Names.{are_document_names};
 ghost use Rattle.sql_records.specs.Created.{FirstIsEmpty, HaveNoneLearnt, HaveRows, Makes, MakesOnly, half_schema};
 ghost use Rattle.sql_records.specs.Faults.{StoreFailed};
-ghost use Rattle.sql_records.specs.Holds.{Holds};
-ghost use Rattle.sql_records.specs.Stored.{IsStored, joined};
+ghost use Rattle.record_writes.specs.Holds.{Holds};
+ghost use Rattle.record_writes.specs.Stored.{IsStored, joined};
 ghost use Rattle.paxos.specs.Records.{empty_record};
 ghost use Rattle.record_tables.specs.Texts.{no_schema, schema, schema_1};
 

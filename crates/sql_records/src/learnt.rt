@@ -8,8 +8,8 @@ ghost use Rattle.ballots.specs.declared.value.Value.{Value as ValueTerm};
 ghost use Rattle.record_tables.specs.Texts.{schema};
 ghost use Rattle.record_tables.specs.Versions.{tables_of};
 ghost use Rattle.sql_records.specs.Faults.{StoreFailed};
-ghost use Rattle.sql_records.specs.Holds.{Ended};
-ghost use Rattle.sql_records.specs.Stored.{AreKept, KeepsLearnt};
+ghost use Rattle.record_writes.specs.Holds.{Ended};
+ghost use Rattle.record_writes.specs.Stored.{AreKept, KeepsLearnt};
 
 use super::load::fault_of;
 use super::reading::{OpenFault, add_learnt};

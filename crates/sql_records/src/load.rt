@@ -9,19 +9,19 @@ ghost use Rattle.sqlite.specs.State.{HasCleanDisk, IsLive, IsUnchanged, Survives
 ghost use Rattle.sqlite.specs.Held.{state};
 ghost use Rattle.ballots.specs.Terms.{Setup as Owner};
 ghost use Rattle.paxos.specs.Records.{Record as RecordTerm};
-ghost use Rattle.sql_records.specs.Holds.{Holds};
-ghost use Rattle.sql_records.specs.Stored.{IsStored};
+ghost use Rattle.record_writes.specs.Holds.{Holds};
+ghost use Rattle.record_writes.specs.Stored.{IsStored};
 ghost use Rattle.record_tables.specs.Texts.{schema as our_schema};
 ghost use Rattle.record_tables.specs.Versions.{tables_of};
 
 use super::learnt::load_kept;
-use super::promise::is_memory;
 use super::reading::{OpenFault, are_numbers, read_member};
 use super::rows::meta_rows;
 use super::votes::load_votes;
 use ballots::Setup;
 use ballots::laws::spellings;
 use record_tables::{Version, has_tables};
+use record_writes::is_memory;
 use records::Record;
 use sqlite::{Alter, Connection, Error};
 use std::alloc::Global;

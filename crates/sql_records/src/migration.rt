@@ -10,8 +10,8 @@ ghost use Rattle.paxos.specs.Records.{Record};
 ghost use Rattle.record_tables.specs.Texts.{schema, schema_1};
 ghost use Rattle.sql_records.specs.Created.{HaveNoneLearnt, HaveRows, Makes, MigratesOnly};
 ghost use Rattle.sql_records.specs.Faults.{StoreFailed};
-ghost use Rattle.sql_records.specs.Holds.{Holds};
-ghost use Rattle.sql_records.specs.Stored.{IsStored};
+ghost use Rattle.record_writes.specs.Holds.{Holds};
+ghost use Rattle.record_writes.specs.Stored.{IsStored};
 
 use super::creation::{are_names, make_learnt};
 use super::load::fault_of;

@@ -11,8 +11,8 @@ ghost use Rattle.ballots.specs.declared.ballot.Ballot.{Ballot as BallotTerm};
 ghost use Rattle.ballots.specs.declared.value.Entry.{Entry as EntryTerm};
 ghost use Rattle.ballots.specs.declared.value.Value.{Value as ValueTerm};
 ghost use Rattle.paxos.specs.Records.{NewLearnt, with_vote, written};
-ghost use Rattle.sql_records.specs.Stored.{IsPromise, IsSetup, joined};
-ghost use Rattle.sql_records.specs.Reading.{Shows, ShowsAnother, ShowsLearnt, ShowsMember, ShowsNoMember, ShowsNotNext, ShowsNoVote, ShowsOwner};
+ghost use Rattle.record_writes.specs.Stored.{IsPromise, joined};
+ghost use Rattle.sql_records.specs.Reading.{IsSetup, Shows, ShowsAnother, ShowsLearnt, ShowsMember, ShowsNoMember, ShowsNotNext, ShowsNoVote, ShowsOwner};
 
 use super::docs;
 use ballots::laws::spellings;

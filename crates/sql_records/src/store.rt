@@ -2,17 +2,14 @@
 
 ghost use Rattle.std.specs.Prelude.{◌≡◌, ◌≤◌, ◌↔◌, None, Some, false, IsTrue};
 ghost use Rattle.records.specs.Law.{Counts, Grew};
-ghost use Rattle.sql_records.specs.Members.{HasMember, HasMembers};
+ghost use Rattle.record_writes.specs.Members.{HasMember, HasMembers};
 ghost use Rattle.sql_records.specs.Opened.{IsCurrent, connection_of};
 
-use super::group::put_all;
-use super::keep::put_learnt;
 use super::load::load;
-use super::promise::put_promise;
 use super::reading::OpenFault;
-use super::vote::put_vote;
 use ballots::laws::spellings;
 use ballots::{Ballot, Setup, Value, put_value};
+use record_writes::{put_all, put_learnt, put_promise, put_vote};
 use records::{GroupRecords, PlannedRecords, Record, Records, RecordsFault, Write};
 use sqlite::{Alter, Connection};
 use std::alloc::Global;
@@ -126,7 +123,7 @@ fn are_of_members(setup: &Setup, writes: &[Write]) -> bool
 impl<S: Alter> Records for SqlRecords<S> {
     ghost use Rattle.sqlite.specs.State.{HasCleanDisk};
     ghost use Rattle.sqlite.specs.Held.{state};
-    ghost use Rattle.sql_records.specs.Holds.{Holds};
+    ghost use Rattle.record_writes.specs.Holds.{Holds};
     ghost use Rattle.sql_records.specs.Opened.{connection_of, owner};
 
     ghost stands = { λ s a b. Holds (state S.Store (connection_of s)) (owner s) a b };
@@ -138,6 +135,8 @@ impl<S: Alter> Records for SqlRecords<S> {
     ghost fates = { λ s k. None };
 
     ghost passes = { λ s. false };
+
+    ghost base = { λ s a. ⊥ };
 
     fn load(&mut self, alloc: Global) -> Result<Record, RecordsFault> {
         spellings();

@@ -7,7 +7,7 @@ ghost use Rattle.sqlite.specs.Held.{state};
 ghost use Rattle.ballots.specs.declared.value.Entry.{Entry as EntryTerm};
 ghost use Rattle.records.specs.Kept.{IsRising};
 ghost use Rattle.sql_records.specs.Faults.{StoreFailed};
-ghost use Rattle.sql_records.specs.Holds.{Ended};
+ghost use Rattle.record_writes.specs.Holds.{Ended};
 ghost use Rattle.sql_records.specs.Reading.{AreShown, AreVotes, vote_shown};
 ghost use Rattle.record_tables.specs.Versions.{AreTables};
 

@@ -9,7 +9,7 @@ use Rattle.sqlite.proofs.StateLemmas.{survives_then}
 use Rattle.sqlite.proofs.Callers.{IsPlain, begun_plain, given_begin, unchanged_then}
 use Rattle.paxos.specs.Records.{Record}
 use Rattle.std.specs.List.Sorted.{IsPermutation}
-use Rattle.sql_records.specs.Stored.{AreKept}
+use Rattle.record_writes.specs.Stored.{AreKept}
 use Rattle.sql_records.specs.Reading.{AreLearnt, ShowsLearnt, ShowsNotNext, learnt_shown}
 use Rattle.record_tables.specs.Texts.{schema, learnt_load_text}
 use Rattle.sql_records.proofs.Means.{learnt_plain}

@@ -8,14 +8,14 @@ use Rattle.sqlite.proofs.Callers.{unchanged_then}
 use Rattle.sqlite_catalog.specs.Listing.{IsSound}
 use Rattle.record_tables.specs.Versions.{tables_of}
 use Rattle.sql_records.specs.Reading.{AreShown, AreVotes, meta_shown, vote_shown, ShowsAnother, ShowsNoMember}
-use Rattle.sql_records.specs.Stored.{KeepsLearnt}
+use Rattle.record_writes.specs.Stored.{KeepsLearnt}
 use Rattle.sql_records.proofs.Loaded.{member_row}
 use Rattle.sql_records.proofs.Refused.{no_member, no_values, no_votes}
 use Rattle.sql_records.proofs.Owned.{anothers}
 use Rattle.sql_records.proofs.Judged.{sound, stored}
 use Rattle.sql_records.proofs.StoreFaults.{since}
 use Rattle.sql_records.proofs.Queried.{was_clean}
-use Rattle.sql_records.proofs.Holding.{quiet}
+use Rattle.record_writes.proofs.Holding.{quiet}
 use Rattle.ballots.specs.declared.value.Entry.{Entry}
 use Rattle.sql_records.proofs.load.read.Goals as goal
 

@@ -3,7 +3,7 @@ use Rattle.sqlite.specs.State.{HasCleanDisk}
 use Rattle.sqlite.specs.Held.{state}
 use Rattle.sql_records.specs.Created.{MigratesOnly}
 use Rattle.sql_records.specs.Faults.{StoreFailed}
-use Rattle.sql_records.specs.Holds.{Holds}
+use Rattle.record_writes.specs.Holds.{Holds}
 use Rattle.sql_records.proofs.Migrating.{begins, commit_failed, failed_since, made_now, migrates, survived}
 use Rattle.sql_records.proofs.Queried.{was_clean}
 use Rattle.sql_records.proofs.StoreFaults.{later, store_still}

@@ -1,6 +1,6 @@
 use Rattle.std.proofs.Common.{drop}
 use Rattle.std.specs.Prelude.{◌↔◌}
-use Rattle.sql_records.specs.Members.{HasMembers}
+use Rattle.record_writes.specs.Members.{HasMembers}
 use Rattle.sql_records.proofs.store.are_of_members.Given as goal
 
 abbrev pub invariant-loop-write : goal.invariant-loop-write

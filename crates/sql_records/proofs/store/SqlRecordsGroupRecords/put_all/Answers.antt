@@ -3,8 +3,8 @@ use Rattle.sqlite.specs.State.{HasCleanDisk}
 use Rattle.sqlite.specs.Held.{state}
 use Rattle.records.specs.Group.{MayBeWritten, after}
 use Rattle.records.specs.Law.{Puts}
-use Rattle.sql_records.specs.Holds.{Holds}
-use Rattle.sql_records.specs.Members.{HasMembers}
+use Rattle.record_writes.specs.Holds.{Holds}
+use Rattle.record_writes.specs.Members.{HasMembers}
 use Rattle.sql_records.proofs.Judged.{one_stands}
 use Rattle.sql_records.proofs.store.SqlRecordsGroupRecords.put_all.Goals as goal
 

@@ -4,7 +4,7 @@ use Rattle.sqlite.specs.State.{HasCleanDisk}
 use Rattle.sqlite.specs.Held.{state}
 use Rattle.paxos.specs.Records.{Record, NewPromise, written}
 use Rattle.records.specs.Law.{Puts}
-use Rattle.sql_records.specs.Holds.{Holds}
+use Rattle.record_writes.specs.Holds.{Holds}
 use Rattle.sql_records.proofs.Judged.{one_stands}
 use Rattle.sql_records.proofs.store.SqlRecordsRecords.put_promise.Goals as goal
 

@@ -1,0 +1,11 @@
+pub mod Means
+pub mod Lists
+pub mod Update
+pub mod LearntRows
+pub mod Inserted
+pub mod Upsert
+pub mod Upserted
+pub mod Stores
+pub mod Holding
+pub mod Both
+pub mod Several
