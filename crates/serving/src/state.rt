@@ -25,8 +25,8 @@ use wires::Arrival;
 /// How far a message has to bring a member on for it to ask at once for what comes next: as many positions as one message tells.
 const AT_ONCE: u32 = 8;
 
-/// A node at its seat, its place and what is held there for the wire, the requests that wait for replies, up to which position these were told of what was applied, and the word to
-/// lead.
+/// A node at its seat, its place and what is held there for the wire, the requests that wait for replies, up to which position these were told of
+/// what was applied, and the word to lead.
 #[derive(Drop)]
 pub(super) struct State<R: FlushRecords + Drop, A: Application + Drop, D: Copy + Eq + Drop> {
     pub(super) seat: Seat<R, A>,
