@@ -58,6 +58,14 @@ impl<W: Wire + Drop> Wire for FloodedWire<W> {
         }))
     }
 
+    /// Only what comes on the other wire waits: the datagram of no bytes comes to one that waits for it.
+    fn receive_waiting(
+        &mut self,
+        buffer: &mut [u8],
+    ) -> Result<Option<Arrival<W::Address>>, Unheard> {
+        self.wire.receive_waiting(buffer)
+    }
+
     fn has_while_passed(&mut self) -> bool {
         self.asked = self.asked.saturating_add(1);
         self.each != 0 && self.asked.is_multiple_of(self.each)

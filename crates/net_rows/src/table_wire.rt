@@ -62,6 +62,21 @@ impl TableWire {
         &self.sent
     }
 
+    /// What comes next, if something does.
+    fn take_next(&mut self, buffer: &mut [u8]) -> Option<Arrival<u8>>
+        ensures fits { IfSome result (λ a. a.length ≤ length buffer.new) }
+        ensures room { length buffer.new ≡ length buffer.old }
+    {
+        let datagram = self.coming.pop_front()?;
+        let length = datagram.bytes.len().min(buffer.len());
+        buffer[..length].copy_from_slice(&datagram.bytes[..length]);
+        Some(Arrival {
+            end: 0,
+            from: datagram.peer,
+            length,
+        })
+    }
+
     /// Keeps what is sent.
     fn keep(&mut self, peer: u8, bytes: &[u8]) -> Result<(), AllocError> {
         let bytes = bytes.to_vec(self.alloc)?;
@@ -91,16 +106,11 @@ impl Wire for TableWire {
     }
 
     fn receive(&mut self, buffer: &mut [u8]) -> Result<Option<Arrival<u8>>, Unheard> {
-        let Some(datagram) = self.coming.pop_front() else {
-            return Ok(None);
-        };
-        let length = datagram.bytes.len().min(buffer.len());
-        buffer[..length].copy_from_slice(&datagram.bytes[..length]);
-        Ok(Some(Arrival {
-            end: 0,
-            from: datagram.peer,
-            length,
-        }))
+        Ok(self.take_next(buffer))
+    }
+
+    fn receive_waiting(&mut self, buffer: &mut [u8]) -> Result<Option<Arrival<u8>>, Unheard> {
+        Ok(self.take_next(buffer))
     }
 
     fn has_while_passed(&mut self) -> bool {

@@ -6,4 +6,4 @@ mod run;
 mod service;
 
 pub use run::run_node;
-pub use service::{End, serve_over};
+pub use service::{End, serve_over, serve_staged};

@@ -1,11 +1,11 @@
 //! A node from its configuration's file to its end.
 
 use super::config::{NoConfig, configuration};
-use super::service::{End, serve_over};
+use super::service::{End, serve_over, serve_staged};
 use ballots::{Setup, SetupFault};
 use configuration::Config;
 use program_reports::{cannot_read, no_memory, no_network, store_failed, wrong_config};
-use records::{MemRecords, Records};
+use records::MemRecords;
 use sessions::State;
 use sql_records::{OpenFault, SqlRecords};
 use sqlite::{Alter, Connection, Error};
@@ -123,7 +123,15 @@ fn run_at<W: Wire>(
     match &config.records {
         None => {
             let records = MemRecords::new(alloc);
-            serve_state(alloc, setup, records, wire, peers, config.begin, turns)
+            serve_over::<MemRecords, State, W>(
+                alloc,
+                setup,
+                records,
+                wire,
+                peers,
+                config.begin,
+                turns,
+            )
         }
         Some(path) => {
             let connection = Connection::open_with_sums(rt, path.as_str());
@@ -146,21 +154,10 @@ fn run_over<S: Alter + Drop, W: Wire>(
         return End::Store;
     };
     match SqlRecords::open(alloc, connection, &setup) {
-        Ok(records) => serve_state(alloc, setup, records, wire, peers, leads, turns),
+        Ok(records) => serve_staged::<SqlRecords<S>, State, W>(
+            alloc, setup, records, wire, peers, leads, turns,
+        ),
         Err((OpenFault::Memory, _)) => End::Memory,
         Err((_, _)) => End::Store,
     }
-}
-
-/// Serves a store of documents.
-fn serve_state<R: Records + Drop, W: Wire>(
-    alloc: Global,
-    setup: Setup,
-    records: R,
-    wire: &mut W,
-    peers: Vec<W::Address>,
-    leads: bool,
-    turns: u64,
-) -> End {
-    serve_over::<R, State, W>(alloc, setup, records, wire, peers, leads, turns)
 }

@@ -166,7 +166,7 @@ module _ {R A D : Type 0} (has_applied : List (List ℕ) → List Value → A �
     pub told_so : (x y : Server R A D) (v w : W) (ds : List (Deed D)) (bs : List (Carried D)) → Goes has_applied app failed eq was_given has_brought x y v w ds bs → is_told y.word ≡ is_told x.word
     told_so x y v w ds bs goes = (goes x.waiting (λ d has. has)).told
 
-    begins_both : (x y : Server R A D) (v w : W) (ds es : List (Deed D)) (bs : List (Carried D)) → Goes has_applied app failed eq was_given has_brought x y v w ds bs → BeginsIfTold (is_told x.word) ds → BeginsIfTold (is_told y.word) es → BeginsIfTold (is_told x.word) (ds ++ es)
+    pub begins_both : (x y : Server R A D) (v w : W) (ds es : List (Deed D)) (bs : List (Carried D)) → Goes has_applied app failed eq was_given has_brought x y v w ds bs → BeginsIfTold (is_told x.word) ds → BeginsIfTold (is_told y.word) es → BeginsIfTold (is_told x.word) (ds ++ es)
     begins_both x y v w ds es bs goes first second has = ⊎_elim first (λ then. sym (told_so x y v w ds bs goes) ∙ second then) (has_cases ds es (Ticked Begin) has)
 
     -- the one, and then the other
@@ -243,13 +243,13 @@ module _ {R A D : Type 0} (has_applied : List (List ℕ) → List Value → A �
     on_hearing fs cs bs x y v w u gives brings h =
         (fs ++ h.0, h.1, h.2, subst (λ l. Goes has_applied app failed eq was_given has_brought x y v u (fs ++ h.0) l) (append-nil bs) (goes_both x x y v w u [] (fs ++ h.0) bs [] (goes_hearing x v w bs gives brings) h.3))
 
-    module _ (stands : R → Record → Record → Type 0) (is_kept : R → Type 0) where
+    module _ (stands : R → Record → Record → Type 0) (is_kept : R → Type 0) (base : R → Record → Type 0) (leaves : R → Record → Record → Type 0) where
       -- the node stopped at once
-      pub halts_at_once : (x z : Server R A D) (v w : W) → Halts has_applied app failed stands is_kept x.seat z.seat → ((ds : List (Carried D)) → was_given v ds → was_given w ds) → ((ds : List (Carried D)) → has_brought v ds → has_brought w ds) → Halted has_applied app failed eq was_given has_brought stands is_kept [] x z v w
+      pub halts_at_once : (x z : Server R A D) (v w : W) → Halts has_applied app failed stands is_kept base leaves x.seat z.seat → ((ds : List (Carried D)) → was_given v ds → was_given w ds) → ((ds : List (Carried D)) → has_brought v ds → has_brought w ds) → Halted has_applied app failed eq was_given has_brought stands is_kept base leaves [] x z v w
       halts_at_once x z v w halts silent idle = record { last = x; wire = v; deeds = []; begins = λ has. absurd has; goes = goes_none x v; halts = halts; silent = silent; idle = idle }
 
       -- it went on, and then until it stopped
-      pub halts_after : (x y z : Server R A D) (v w u : W) (ds : List (Deed D)) (bs cs : List (Carried D)) → BeginsIfTold (is_told x.word) ds → Goes has_applied app failed eq was_given has_brought x y v w ds bs → Halted has_applied app failed eq was_given has_brought stands is_kept cs y z w u → Halted has_applied app failed eq was_given has_brought stands is_kept (bs ++ cs) x z v u
+      pub halts_after : (x y z : Server R A D) (v w u : W) (ds : List (Deed D)) (bs cs : List (Carried D)) → BeginsIfTold (is_told x.word) ds → Goes has_applied app failed eq was_given has_brought x y v w ds bs → Halted has_applied app failed eq was_given has_brought stands is_kept base leaves cs y z w u → Halted has_applied app failed eq was_given has_brought stands is_kept base leaves (bs ++ cs) x z v u
       halts_after x y z v w u ds bs cs begins first h = record {
         last = h.last;
         wire = h.wire;
@@ -262,63 +262,63 @@ module _ {R A D : Type 0} (has_applied : List (List ℕ) → List Value → A �
       }
 
       -- the same, by whatever deeds
-      pub halts_later : (fs : List (Deed D)) (cs bs es : List (Carried D)) (x y z : Server R A D) (v w u : W) → GoesOn has_applied app failed eq was_given has_brought fs cs bs x y v w → Halted has_applied app failed eq was_given has_brought stands is_kept es y z w u → Halted has_applied app failed eq was_given has_brought stands is_kept (bs ++ es) x z v u
+      pub halts_later : (fs : List (Deed D)) (cs bs es : List (Carried D)) (x y z : Server R A D) (v w u : W) → GoesOn has_applied app failed eq was_given has_brought fs cs bs x y v w → Halted has_applied app failed eq was_given has_brought stands is_kept base leaves es y z w u → Halted has_applied app failed eq was_given has_brought stands is_kept base leaves (bs ++ es) x z v u
       halts_later fs cs bs es x y z v w u first h = halts_after x y z v w u (fs ++ first.0) bs es first.2 first.3 h
 
       -- the one, and then the other as far as it went
       pub went_both : {T : Type 0} (r : Result T ServeFault) (fs : List (Deed D)) (cs ds bs es : List (Carried D)) (x y z : Server R A D) (v w u : W)
-          → GoesOn has_applied app failed eq was_given has_brought fs cs bs x y v w → Went has_applied app failed eq was_given has_brought stands is_kept r [] ds es y z w u → Went has_applied app failed eq was_given has_brought stands is_kept r fs (cs ++ ds) (bs ++ es) x z v u
+          → GoesOn has_applied app failed eq was_given has_brought fs cs bs x y v w → Went has_applied app failed eq was_given has_brought stands is_kept base leaves r [] ds es y z w u → Went has_applied app failed eq was_given has_brought stands is_kept base leaves r fs (cs ++ ds) (bs ++ es) x z v u
       went_both (Ok t) fs cs ds bs es x y z v w u first second = on_both fs cs ds bs es x y z v w u first second
       went_both (Err e) fs cs ds bs es x y z v w u first second = halts_later fs cs bs es x y z v w u first second
 
       -- it stopped, and that is the result
-      pub went_err : {T : Type 0} (r : Result T ServeFault) (fs : List (Deed D)) (cs bs : List (Carried D)) (x z : Server R A D) (v w : W) → IsErr r → Halted has_applied app failed eq was_given has_brought stands is_kept bs x z v w → Went has_applied app failed eq was_given has_brought stands is_kept r fs cs bs x z v w
+      pub went_err : {T : Type 0} (r : Result T ServeFault) (fs : List (Deed D)) (cs bs : List (Carried D)) (x z : Server R A D) (v w : W) → IsErr r → Halted has_applied app failed eq was_given has_brought stands is_kept base leaves bs x z v w → Went has_applied app failed eq was_given has_brought stands is_kept base leaves r fs cs bs x z v w
       went_err (Ok t) fs cs bs x z v w is h = absurd (let e : false ≡ true = is in cc)
       went_err (Err e) fs cs bs x z v w is h = h
 
       -- the same of what the wire brings
-      pub passed_err : {T : Type 0} (AreSo : T → List (Deed D) → Type 0) (r : Result T ServeFault) (bs : List (Carried D)) (x z : Server R A D) (v w : W) → IsErr r → Halted has_applied app failed eq was_given has_brought stands is_kept bs x z v w → Passed has_applied app failed eq was_given has_brought stands is_kept AreSo r x z v w
+      pub passed_err : {T : Type 0} (AreSo : T → List (Deed D) → Type 0) (r : Result T ServeFault) (bs : List (Carried D)) (x z : Server R A D) (v w : W) → IsErr r → Halted has_applied app failed eq was_given has_brought stands is_kept base leaves bs x z v w → Passed has_applied app failed eq was_given has_brought stands is_kept base leaves AreSo r x z v w
       passed_err AreSo (Ok t) bs x z v w is h = absurd (let e : false ≡ true = is in cc)
       passed_err AreSo (Err e) bs x z v w is h = (bs, h)
 
       -- just that was done, and nothing came
-      pub went_by : {T : Type 0} (r : Result T ServeFault) (ds : List (Deed D)) (x y : Server R A D) (v w : W) → came_by ds ≡ [] → BeginsIfTold (is_told x.word) ds → WentBy has_applied app failed eq was_given has_brought stands is_kept r ds x y v w → Went has_applied app failed eq was_given has_brought stands is_kept r [] [] [] x y v w
+      pub went_by : {T : Type 0} (r : Result T ServeFault) (ds : List (Deed D)) (x y : Server R A D) (v w : W) → came_by ds ≡ [] → BeginsIfTold (is_told x.word) ds → WentBy has_applied app failed eq was_given has_brought stands is_kept base leaves r ds x y v w → Went has_applied app failed eq was_given has_brought stands is_kept base leaves r [] [] [] x y v w
       went_by (Ok t) ds x y v w none begins h = on_any ds [] [] x y v w (on_just ds [] x y v w none begins h)
       went_by (Err e) ds x y v w none begins h = h
 
       -- as much as the wire had brought, it has brought still, where it stopped at once
-      halted_keeps : (x z : Server R A D) (v w : W) → Halted has_applied app failed eq was_given has_brought stands is_kept [] x z v w → (ds : List (Carried D)) → has_brought v ds → has_brought w ds
+      halted_keeps : (x z : Server R A D) (v w : W) → Halted has_applied app failed eq was_given has_brought stands is_kept base leaves [] x z v w → (ds : List (Carried D)) → has_brought v ds → has_brought w ds
       halted_keeps x z v w h ds b = subst (has_brought w) (append-nil ds) (h.idle (ds ++ []) ((h.goes x.waiting (λ d has. has)).brings ds b))
 
       -- the wire brought nothing
-      pub went_keeps : {T : Type 0} (r : Result T ServeFault) (fs : List (Deed D)) (cs : List (Carried D)) (x y : Server R A D) (v w : W) → Went has_applied app failed eq was_given has_brought stands is_kept r fs cs [] x y v w → (ds : List (Carried D)) → has_brought v ds → has_brought w ds
+      pub went_keeps : {T : Type 0} (r : Result T ServeFault) (fs : List (Deed D)) (cs : List (Carried D)) (x y : Server R A D) (v w : W) → Went has_applied app failed eq was_given has_brought stands is_kept base leaves r fs cs [] x y v w → (ds : List (Carried D)) → has_brought v ds → has_brought w ds
       went_keeps (Ok t) fs cs x y v w h ds b = subst (has_brought w) (append-nil ds) ((h.3 x.waiting (λ d has. has)).brings ds b)
       went_keeps (Err e) fs cs x y v w h ds b = halted_keeps x y v w h ds b
 
-      pub went_by_keeps : {T : Type 0} (r : Result T ServeFault) (ds : List (Deed D)) (x y : Server R A D) (v w : W) → WentBy has_applied app failed eq was_given has_brought stands is_kept r ds x y v w → (es : List (Carried D)) → has_brought v es → has_brought w es
+      pub went_by_keeps : {T : Type 0} (r : Result T ServeFault) (ds : List (Deed D)) (x y : Server R A D) (v w : W) → WentBy has_applied app failed eq was_given has_brought stands is_kept base leaves r ds x y v w → (es : List (Carried D)) → has_brought v es → has_brought w es
       went_by_keeps (Ok t) ds x y v w h es b = subst (has_brought w) (append-nil es) ((h x.waiting (λ d has. has)).brings es b)
       went_by_keeps (Err e) ds x y v w h es b = halted_keeps x y v w h es b
 
       -- the wire brought something, and then the server went on, or until it stopped
       pub went_hearing : {T : Type 0} (r : Result T ServeFault) (fs : List (Deed D)) (cs bs : List (Carried D)) (x y : Server R A D) (v w u : W) → ((ds : List (Carried D)) → was_given v ds → was_given w ds) → ((ds : List (Carried D)) → has_brought v ds → has_brought w (ds ++ bs))
-          → Went has_applied app failed eq was_given has_brought stands is_kept r fs cs [] x y w u → Went has_applied app failed eq was_given has_brought stands is_kept r [] cs bs x y v u
+          → Went has_applied app failed eq was_given has_brought stands is_kept base leaves r fs cs [] x y w u → Went has_applied app failed eq was_given has_brought stands is_kept base leaves r [] cs bs x y v u
       went_hearing (Ok t) fs cs bs x y v w u gives brings h = on_hearing fs cs bs x y v w u gives brings h
-      went_hearing (Err e) fs cs bs x y v w u gives brings h = subst (λ l. Halted has_applied app failed eq was_given has_brought stands is_kept l x y v u) (append-nil bs) (halts_after x x y v w u [] bs [] (λ has. absurd has) (goes_hearing x v w bs gives brings) h)
+      went_hearing (Err e) fs cs bs x y v w u gives brings h = subst (λ l. Halted has_applied app failed eq was_given has_brought stands is_kept base leaves l x y v u) (append-nil bs) (halts_after x x y v w u [] bs [] (λ has. absurd has) (goes_hearing x v w bs gives brings) h)
 
       -- a turn at which a datagram came
-      pub passed_taking : (d : Carried D) (x y : Server R A D) (v w : W) → GoesOn has_applied app failed eq was_given has_brought (Took d ∷ []) (d ∷ []) (d ∷ []) x y v w → Passed has_applied app failed eq was_given has_brought stands is_kept AreTurns (Ok 1) x y v w
+      pub passed_taking : (d : Carried D) (x y : Server R A D) (v w : W) → GoesOn has_applied app failed eq was_given has_brought (Took d ∷ []) (d ∷ []) (d ∷ []) x y v w → Passed has_applied app failed eq was_given has_brought stands is_kept base leaves AreTurns (Ok 1) x y v w
       passed_taking d x y v w h = (Took d ∷ h.0, taken_turn d h.0 h.1, h.2, subst (λ l. Goes has_applied app failed eq was_given has_brought x y v w (Took d ∷ h.0) l) (sym h.1) h.3)
 
       -- one at which none came
-      pub passed_waiting : (x y : Server R A D) (v w : W) → GoesOn has_applied app failed eq was_given has_brought (Ticked Resend ∷ Ticked CatchUp ∷ []) [] [] x y v w → Passed has_applied app failed eq was_given has_brought stands is_kept AreTurns (Ok 1) x y v w
+      pub passed_waiting : (x y : Server R A D) (v w : W) → GoesOn has_applied app failed eq was_given has_brought (Ticked Resend ∷ Ticked CatchUp ∷ []) [] [] x y v w → Passed has_applied app failed eq was_given has_brought stands is_kept base leaves AreTurns (Ok 1) x y v w
       passed_waiting x y v w h = (Ticked Resend ∷ Ticked CatchUp ∷ h.0, waited_turn h.0 h.1, h.2, subst (λ l. Goes has_applied app failed eq was_given has_brought x y v w (Ticked Resend ∷ Ticked CatchUp ∷ h.0) l) (sym h.1) h.3)
 
       -- nothing was done
-      pub passed_none : (x : Server R A D) (v w : W) → Goes has_applied app failed eq was_given has_brought x x v w [] [] → Passed has_applied app failed eq was_given has_brought stands is_kept AreTurns (Ok 0) x x v w
+      pub passed_none : (x : Server R A D) (v w : W) → Goes has_applied app failed eq was_given has_brought x x v w [] [] → Passed has_applied app failed eq was_given has_brought stands is_kept base leaves AreTurns (Ok 0) x x v w
       passed_none x v w goes = ([], no_turn, λ has. absurd has, goes)
 
       -- some turns, and then others
-      pub passed_both : (n m : ℕ) (x y z : Server R A D) (v w u : W) → Passed has_applied app failed eq was_given has_brought stands is_kept AreTurns (Ok n) x y v w → Passed has_applied app failed eq was_given has_brought stands is_kept AreTurns (Ok m) y z w u → Passed has_applied app failed eq was_given has_brought stands is_kept AreTurns (Ok (n + m)) x z v u
+      pub passed_both : (n m : ℕ) (x y z : Server R A D) (v w u : W) → Passed has_applied app failed eq was_given has_brought stands is_kept base leaves AreTurns (Ok n) x y v w → Passed has_applied app failed eq was_given has_brought stands is_kept base leaves AreTurns (Ok m) y z w u → Passed has_applied app failed eq was_given has_brought stands is_kept base leaves AreTurns (Ok (n + m)) x z v u
       passed_both n m x y z v w u first second = (
         first.0 ++ second.0,
         turns_both n m first.0 second.0 first.1 second.1,
@@ -327,5 +327,5 @@ module _ {R A D : Type 0} (has_applied : List (List ℕ) → List Value → A �
       )
 
       -- some turns, and then it stopped
-      pub passed_stops : {T : Type 0} (AreSo : T → List (Deed D) → Type 0) (r : Result T ServeFault) (n : ℕ) (bs : List (Carried D)) (x y z : Server R A D) (v w u : W) → IsErr r → Passed has_applied app failed eq was_given has_brought stands is_kept AreTurns (Ok n) x y v w → Halted has_applied app failed eq was_given has_brought stands is_kept bs y z w u → Passed has_applied app failed eq was_given has_brought stands is_kept AreSo r x z v u
+      pub passed_stops : {T : Type 0} (AreSo : T → List (Deed D) → Type 0) (r : Result T ServeFault) (n : ℕ) (bs : List (Carried D)) (x y z : Server R A D) (v w u : W) → IsErr r → Passed has_applied app failed eq was_given has_brought stands is_kept base leaves AreTurns (Ok n) x y v w → Halted has_applied app failed eq was_given has_brought stands is_kept base leaves bs y z w u → Passed has_applied app failed eq was_given has_brought stands is_kept base leaves AreSo r x z v u
       passed_stops AreSo r n bs x y z v w u is first h = passed_err AreSo r (came_by first.0 ++ bs) x z v u is (halts_after x y z v w u first.0 (came_by first.0) bs first.2 first.3 h)

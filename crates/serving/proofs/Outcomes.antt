@@ -13,3 +13,7 @@ module _ {T E : Type 0} {P Q : Type 0} where
   pub on_err : (r : Result T E) → OnErr r P → (P → Q) → OnErr r Q
   on_err (Ok x) p f = tt
   on_err (Err e) p f = f p
+
+pub any_err : {T E P : Type 0} (r : Result T E) → P → OnErr r P
+any_err (Ok x) p = tt
+any_err (Err e) p = p

@@ -27,8 +27,11 @@ sender_byte s bytes k from = ap (λ bs. slice_get bs 8) from.spelt_so
 
 module _ {R A : Type 0} (has_applied : List (List ℕ) → List Value → A → Type 0) (app : List (List ℕ) → Application) (failed : R → ℕ) where
   -- nothing has changed where nothing was done
+  pub stays_node : (x : Node R A) → IsUnchanged has_applied failed x x
+  stays_node x = record { setup = refl; acceptor = record { kept = refl; failures = refl }; runs_as = λ u r. r }
+
   pub stays : (x : Seat R A) → Stays has_applied app failed x x
-  stays x = record { node = record { setup = refl; acceptor = record { kept = refl; failures = refl }; runs_as = λ u r. r }; lost = refl }
+  stays x = record { node = stays_node x.node; lost = refl }
 
   module _ {D : Type 0} (eq : D → D → Bool) (p : Place D) (d : Carried D) (x y : Seat R A) (n : Node R A) (is_left : y.node ≡ n) where
     -- what the node was left as is what sits there
@@ -64,14 +67,14 @@ module _ {R A : Type 0} (has_applied : List (List ℕ) → List Value → A → 
   refuses_tick p t Stopped is why same = absurd is
 
   -- the node has stopped
-  pub halts : (stands : R → Record → Record → Type 0) (is_kept : R → Type 0) (fault : NodeFault) → IsHalted fault
+  pub halts : (stands : R → Record → Record → Type 0) (is_kept : R → Type 0) (base : R → Record → Type 0) (leaves : R → Record → Record → Type 0) (fault : NodeFault) → IsHalted fault
       → (fault ≡ Store → (i : Input) × HasFailed stands is_kept failed has_applied (app x.node.setup.names) i x.node n)
       → (fault ≡ Stopped → x.node.member.acceptor.is_stopped ≡ true)
-      → ((fault ≡ Store → ⊥) → IsUnchanged has_applied failed x.node n) → Halts has_applied app failed stands is_kept x y
-  halts stands is_kept Store is store stopped same =
+      → ((fault ≡ Store → ⊥) → IsUnchanged has_applied failed x.node n) → Halts has_applied app failed stands is_kept base leaves x y
+  halts stands is_kept base leaves Store is store stopped same =
       let h = store refl in fails h.0 (subst (λ m. HasFailed stands is_kept failed has_applied (app x.node.setup.names) h.0 x.node m) (sym is_left) h.1)
-  halts stands is_kept Stopped is store stopped same = had_stopped (stopped refl) (sits (same (λ e. cc)))
-  halts stands is_kept (Wire f) is store stopped same = absurd is
-  halts stands is_kept Stranger is store stopped same = absurd is
-  halts stands is_kept Memory is store stopped same = absurd is
-  halts stands is_kept Spent is store stopped same = absurd is
+  halts stands is_kept base leaves Stopped is store stopped same = had_stopped (stopped refl) (sits (same (λ e. cc)))
+  halts stands is_kept base leaves (Wire f) is store stopped same = absurd is
+  halts stands is_kept base leaves Stranger is store stopped same = absurd is
+  halts stands is_kept base leaves Memory is store stopped same = absurd is
+  halts stands is_kept base leaves Spent is store stopped same = absurd is

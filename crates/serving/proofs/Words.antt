@@ -1,8 +1,8 @@
 -- A word to lead, at a tick.
-use Rattle.std.proofs.Common.{◌≡◌, ◌∙◌, ℕ, Bool, true, false, refl, sym, ap, subst}
+use Rattle.std.proofs.Common.{◌≡◌, ◌∙◌, ℕ, Bool, true, false, refl, sym, ap}
 use Rattle.std.specs.Prelude.{◌==◌, ◌*◌, ◌-◌, if◌then◌else◌, min, nat_le}
 use Rattle.std.proofs.lemmas.Bool.{false≢true}
-use Rattle.serving.specs.Leading.{after_pause, after_tick, first_pause, is_told, longest_pause}
+use Rattle.serving.specs.Leading.{after_tick, first_pause, is_told, longest_pause}
 use Rattle.serving.specs.declared.leading.Word.{Word}
 use Rattle.serving.specs.declared.leading.Word.TheVariants.{Unsaid, Said, CatchingUp, Begun, Spent}
 

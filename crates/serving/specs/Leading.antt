@@ -1,5 +1,5 @@
 -- When a member that was told to lead begins a ballot.
-use Rattle.std.specs.Prelude.{ℕ, ◌==◌, ◌*◌, ◌-◌, ◌≤◌, Bool, true, false, if◌then◌else◌, min, nat_le}
+use Rattle.std.specs.Prelude.{ℕ, ◌==◌, ◌*◌, ◌-◌, Bool, true, false, if◌then◌else◌, min, nat_le}
 use Rattle.serving.specs.declared.leading.Word.{Word}
 use Rattle.serving.specs.declared.leading.Word.TheVariants.{Unsaid, Said, CatchingUp, Begun, Spent}
 

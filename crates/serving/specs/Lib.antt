@@ -1,5 +1,6 @@
 pub mod Addressed
 pub mod Held
+pub mod Hold
 pub mod Leading
 pub mod Refusals
 pub mod Serves

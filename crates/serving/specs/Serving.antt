@@ -1,5 +1,6 @@
 -- What a server does: its node takes steps, one after the other, and its wire is given what they send.
 use Rattle.std.specs.Prelude.{◌≡◌, ◌⊎◌, ℕ, zero, suc, ◌+◌, Bool, true, false, List, [], ◌∷◌, ◌++◌, map, flat_map, Option, Some, None, slice_get}
+use Rattle.acceptor.specs.Steps.{FlushFailed}
 use Rattle.ballots.specs.Messages.{Packet}
 use Rattle.ballots.specs.Terms.{Setup}
 use Rattle.ballots.specs.declared.value.Value.{Value}
@@ -132,7 +133,9 @@ module _ {R A : Type 0} (has_applied : List (List ℕ) → List Value → A → 
   AreDone eq p before old [] = Unit {0}
   AreDone eq p before old (m ∷ ms) = IsDone eq p before old m × AreDone eq p (before ++ came_with m.deed) m.after ms
 
-  -- The node's store has failed in a step, or it had failed before; the node has stopped.
-  pub data Halts (stands : R → Record → Record → Type 0) (is_kept : R → Type 0) (old new : Seat R A) : Type 0 where
-    fails : (i : Input) → HasFailed stands is_kept failed has_applied (app old.node.setup.names) i old.node new.node → Halts stands is_kept old new
-    had_stopped : old.node.member.acceptor.is_stopped ≡ true → IsUnchanged has_applied failed old.node new.node → Halts stands is_kept old new
+  -- The node's store has failed in a step, or in a flush: then a crash leaves what one before the flush did, or the record with all that was written.
+  -- Or it had failed before. The node has stopped.
+  pub data Halts (stands : R → Record → Record → Type 0) (is_kept : R → Type 0) (base : R → Record → Type 0) (leaves : R → Record → Record → Type 0) (old new : Seat R A) : Type 0 where
+    fails : (i : Input) → HasFailed stands is_kept failed has_applied (app old.node.setup.names) i old.node new.node → Halts stands is_kept base leaves old new
+    flush_fails : FlushFailed base leaves is_kept failed old.node.member.acceptor new.node.member.acceptor → Halts stands is_kept base leaves old new
+    had_stopped : old.node.member.acceptor.is_stopped ≡ true → IsUnchanged has_applied failed old.node new.node → Halts stands is_kept base leaves old new

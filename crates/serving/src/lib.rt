@@ -1,12 +1,16 @@
 //! A node that serves over a wire: what comes to it is taken, what its steps send is given to the wire, and it ticks by the wire's while.
 //!
-//! Nothing here waits but by the wire, and nothing is sent before the node's record is acknowledged.
+//! It goes by rounds. In one it takes what waits, its node's records are then written in one, and only after that is given to the wire what the
+//! steps sent: so several requests share a write, and nothing is sent before the record that it rests on is acknowledged. Nothing here waits but
+//! by the wire, and a round waits for no more than its first datagram.
 #![tactic(auto)]
 
 mod fault;
+mod hold;
 mod leading;
 mod place;
 mod requests;
+mod rounds;
 mod seat;
 mod sending;
 mod server;

@@ -1,21 +1,20 @@
-//! A node at its seat, which takes steps and sends what comes of them.
+//! A node at its seat, which takes steps; what they send is held.
 
-ghost use Rattle.std.specs.Prelude.{◌≡◌, ℕ, IfOk, OnErr, OnOk, List, ◌++◌};
+ghost use Rattle.std.specs.Prelude.{◌≡◌, ◌⊎◌, ℕ, true, false, IfOk, OnErr, OnOk, List, ◌++◌};
 ghost use Rattle.node.specs.Nodes.{IsOfTick};
+ghost use Rattle.serving.specs.Hold.{held_by};
 ghost use Rattle.serving.specs.Refusals.{IsHalted, IsRefused, IsRefusedTick};
-ghost use Rattle.serving.specs.Serving.{Halts, Takes, Ticks};
+ghost use Rattle.serving.specs.Serving.{Halts, Stays, Takes, Ticks};
 ghost use Rattle.wires.specs.Wires.{Carried};
 
 use super::fault::ServeFault;
-use super::place::Place;
-use super::sending::post;
+use super::hold::{HeldOutbox, Hold};
 use applications::Application;
 use ballots::{RequestId, Value};
 use member::{Target, Tick};
 use node::{Node, NodeFault, Sent};
-use records::Records;
+use records::FlushRecords;
 use std::alloc::Global;
-use wires::Wire;
 
 /// What a step sent.
 #[derive(Clone, Copy, PartialEq, Eq, Debug)]
@@ -32,7 +31,7 @@ pub(super) enum Told {
 
 /// A node that serves.
 #[derive(Drop)]
-pub(super) struct Seat<R: Records + Drop, A: Application + Drop> {
+pub(super) struct Seat<R: FlushRecords + Drop, A: Application + Drop> {
     pub(super) node: Node<R, A>,
     /// Whether memory was ever refused to what came.
     pub(super) has_lost: bool,
@@ -49,34 +48,60 @@ fn told_by(sent: &[Sent]) -> Told {
     Told::Members
 }
 
-impl<R: Records + Drop, A: Application + Drop> Seat<R, A> {
-    /// Takes a datagram from an address: the node takes the step of its message, and what that sends is put on the wire.
+/// What the refusal of a write of the records comes to. The fault: it ends the node's service.
+fn refuse_write(fault: NodeFault) -> Result<bool, ServeFault>
+    requires { (fault ≡ NodeFault.Stopped) ⊎ (fault ≡ NodeFault.Memory) ⊎ (fault ≡ NodeFault.Store) }
+    ensures held { IfOk result (λ is. (is ≡ false) × (fault ≡ NodeFault.Memory)) }
+    ensures halted { OnErr result (IsHalted fault) }
+{
+    match fault {
+        NodeFault::Memory => Ok(false),
+        NodeFault::Store => Err(ServeFault::Store),
+        NodeFault::Stopped => Err(ServeFault::Store),
+        // No write refuses so.
+        NodeFault::Spent => Ok(false),
+        NodeFault::Wire(_) => Ok(false),
+        NodeFault::Stranger => Ok(false),
+    }
+}
+
+impl<R: FlushRecords + Drop, A: Application + Drop> Seat<R, A> {
+    /// Takes a datagram from an address: the node takes the step of its message, and what that sends is held.
     ///
     /// What is no message to this node, or says that it is sent by a member from whose address it does not come, is dropped. What memory was
-    /// refused to is lost. The fault: the store failed, and nothing is sent.
-    pub(super) fn hear<W: Wire>(
+    /// refused to is lost: room for what the step sends is found before it is taken. The fault: the store failed, and nothing more is held.
+    pub(super) fn hear<D: Copy + Eq + Drop>(
         &mut self,
         alloc: Global,
-        place: &Place<W::Address>,
-        wire: &mut W,
-        from: W::Address,
+        hold: &mut Hold<D>,
+        from: D,
         bytes: &[u8],
     ) -> Result<Told, ServeFault>
-        ensures heard { IfOk result (λ _. (end : ℕ) → (sent : List (Carried W.Address)) × Takes A.has_applied A.meaning R.failed W.Address.eq place.now (record { end = end; peer = from; bytes = bytes.now }) self.old self.new sent
-            × ((ds : List (Carried W.Address)) → W.was_given wire.old ds → W.was_given wire.new (ds ++ sent))) }
-        ensures halted { OnErr result (Halts A.has_applied A.meaning R.failed R.stands R.is_kept self.old self.new
-            × ((ds : List (Carried W.Address)) → W.was_given wire.old ds → W.was_given wire.new ds)) }
-        ensures brought { (ds : List (Carried W.Address)) → W.has_brought wire.old ds → W.has_brought wire.new ds }
+        ensures heard { IfOk result (λ _. (end : ℕ) → (sent : List (Carried D)) × Takes A.has_applied A.meaning R.failed D.eq hold.old.place (record { end = end; peer = from; bytes = bytes.now }) self.old self.new sent
+            × (held_by hold.new.place hold.new.outboxes.items ≡ held_by hold.old.place hold.old.outboxes.items ++ sent)) }
+        ensures halted { OnErr result (Halts A.has_applied A.meaning R.failed R.stands R.is_kept R.base R.leaves self.old self.new
+            × (held_by hold.new.place hold.new.outboxes.items ≡ held_by hold.old.place hold.old.outboxes.items)) }
+        ensures place { hold.new.place ≡ hold.old.place }
     {
-        if !place.is_from_sender(from, bytes) {
+        if !hold.place.is_from_sender(from, bytes) {
+            return Ok(Told::Unheard);
+        }
+        if hold.reserve().is_err() {
+            self.has_lost = true;
             return Ok(Told::Unheard);
         }
         let members = self.node.setup().members().count();
         let member = self.node.setup().member();
         match self.node.receive(alloc, bytes) {
             Ok(outbox) => {
-                post(wire, place, Some(from), members, member, outbox.sent());
-                Ok(told_by(outbox.sent()))
+                let told = told_by(outbox.sent());
+                hold.push(HeldOutbox {
+                    client: Some(from),
+                    members,
+                    member,
+                    outbox,
+                });
+                Ok(told)
             }
             Err(fault) => self.refuse(fault),
         }
@@ -105,25 +130,34 @@ impl<R: Records + Drop, A: Application + Drop> Seat<R, A> {
         }
     }
 
-    /// Ticks: the node takes that step, and what it sends is put on the wire. The fault: the store failed, and nothing is sent.
-    pub(super) fn tick<W: Wire>(
+    /// Ticks: the node takes that step, and what it sends is held. Where memory was refused there is no step. The fault: the store failed, and
+    /// nothing more is held.
+    pub(super) fn tick<D: Copy + Eq + Drop>(
         &mut self,
         alloc: Global,
-        place: &Place<W::Address>,
-        wire: &mut W,
+        hold: &mut Hold<D>,
         tick: Tick,
     ) -> Result<(), ServeFault>
-        ensures ticked { OnOk result ((sent : List (Carried W.Address)) × Ticks A.has_applied A.meaning R.failed place.now tick self.old self.new sent
-            × ((ds : List (Carried W.Address)) → W.was_given wire.old ds → W.was_given wire.new (ds ++ sent))) }
-        ensures halted { OnErr result (Halts A.has_applied A.meaning R.failed R.stands R.is_kept self.old self.new
-            × ((ds : List (Carried W.Address)) → W.was_given wire.old ds → W.was_given wire.new ds)) }
-        ensures brought { (ds : List (Carried W.Address)) → W.has_brought wire.old ds → W.has_brought wire.new ds }
+        ensures ticked { OnOk result ((sent : List (Carried D)) × Ticks A.has_applied A.meaning R.failed hold.old.place tick self.old self.new sent
+            × (held_by hold.new.place hold.new.outboxes.items ≡ held_by hold.old.place hold.old.outboxes.items ++ sent)) }
+        ensures halted { OnErr result (Halts A.has_applied A.meaning R.failed R.stands R.is_kept R.base R.leaves self.old self.new
+            × (held_by hold.new.place hold.new.outboxes.items ≡ held_by hold.old.place hold.old.outboxes.items)) }
+        ensures place { hold.new.place ≡ hold.old.place }
     {
+        if hold.reserve().is_err() {
+            self.has_lost = true;
+            return Ok(());
+        }
         let members = self.node.setup().members().count();
         let member = self.node.setup().member();
         match self.node.tick(alloc, tick) {
             Ok(outbox) => {
-                post(wire, place, None, members, member, outbox.sent());
+                hold.push(HeldOutbox {
+                    client: None,
+                    members,
+                    member,
+                    outbox,
+                });
                 Ok(())
             }
             Err(fault) => self.refuse_tick(fault),
@@ -148,6 +182,20 @@ impl<R: Records + Drop, A: Application + Drop> Seat<R, A> {
             NodeFault::Stranger => Ok(()),
             NodeFault::Store => Err(ServeFault::Store),
             NodeFault::Stopped => Err(ServeFault::Store),
+        }
+    }
+
+    /// Writes in one what its node's records hold back. Says whether they have it: they have not where memory was refused, and hold all of it on.
+    ///
+    /// The fault: the store failed, and the node has stopped.
+    pub(super) fn write(&mut self, alloc: Global) -> Result<bool, ServeFault>
+        ensures stays { OnOk result (Stays A.has_applied A.meaning R.failed self.old self.new) }
+        ensures written { IfOk result (λ is. is ≡ true → R.is_kept self.new.node.member.acceptor.records → R.leaves self.new.node.member.acceptor.records self.new.node.member.acceptor.kept self.new.node.member.acceptor.kept) }
+        ensures halted { OnErr result (Halts A.has_applied A.meaning R.failed R.stands R.is_kept R.base R.leaves self.old self.new) }
+    {
+        match self.node.flush(alloc) {
+            Ok(()) => Ok(true),
+            Err(fault) => refuse_write(fault),
         }
     }
 

@@ -1,11 +1,12 @@
 //! A server: a node that serves over a wire.
 
-ghost use Rattle.std.specs.Prelude.{◌≡◌, ◌≤◌, false, List, [], ◌∷◌, IfOk};
-ghost use Rattle.serving.specs.Serves.{Passed, Went, WentBy, told_to_lead};
+ghost use Rattle.std.specs.Prelude.{◌≡◌, ◌≤◌, false, List, [], ◌∷◌, IfOk, OnErr, OnOk};
+ghost use Rattle.serving.specs.Serves.{IsGivenNothing, IsWrittenFirst, Passed, Went, WentJustBy, WritesFirst, has_brought_beside, told_to_lead, was_given_or_held};
 ghost use Rattle.serving.specs.Serving.{AreTurns, Ticked, Took};
 ghost use Rattle.wires.specs.Wires.{Carried};
 
 use super::fault::ServeFault;
+use super::hold::Hold;
 use super::leading::Word;
 use super::place::Place;
 use super::seat::Seat;
@@ -14,7 +15,7 @@ use super::waiting::Waiting;
 use applications::Application;
 use member::Tick;
 use node::Node;
-use records::Records;
+use records::FlushRecords;
 use std::alloc::Global;
 use std::marker::Model;
 use wires::{Arrival, Wire};
@@ -28,11 +29,11 @@ pub const MOST_BYTES: usize = 33_029;
 /// a place is free. So a client gets its reply when its request is applied, and not when it asks again. At most 1,024 requests wait; of each
 /// client and number the newest datagram; past that the oldest one is dropped, and its client asks again as ever.
 #[derive(Drop)]
-pub struct Server<R: Records + Drop, A: Application + Drop, D: Copy + Eq + Drop> {
+pub struct Server<R: FlushRecords + Drop, A: Application + Drop, D: Copy + Eq + Drop> {
     state: State<R, A, D>,
 }
 
-impl<R: Records + Drop, A: Application + Drop, D: Copy + Eq + Drop> Model for Server<R, A, D> {
+impl<R: FlushRecords + Drop, A: Application + Drop, D: Copy + Eq + Drop> Model for Server<R, A, D> {
     ghost use Rattle.serving.specs.Serves.{Server as ServerTerm, shown};
 
     ghost Value = { ServerTerm R A D };
@@ -40,12 +41,13 @@ impl<R: Records + Drop, A: Application + Drop, D: Copy + Eq + Drop> Model for Se
     ghost view = { λ x. shown x.state };
 }
 
-impl<R: Records + Drop, A: Application + Drop, D: Copy + Eq + Drop> Server<R, A, D> {
+impl<R: FlushRecords + Drop, A: Application + Drop, D: Copy + Eq + Drop> Server<R, A, D> {
     /// A server over a node, at an end of its wire, with the addresses of all members in member order.
     pub fn new(alloc: Global, node: Node<R, A>, end: usize, peers: Vec<D>) -> Server<R, A, D>
         ensures node { result.seat.node ≡ node }
         ensures lost { result.seat.has_lost ≡ false }
         ensures place { result.place ≡ record { end = end; peers = peers.items } }
+        ensures held { result.held ≡ [] }
         ensures waiting { result.waiting ≡ [] }
         ensures word { result.word ≡ Word.Unsaid }
     {
@@ -57,7 +59,7 @@ impl<R: Records + Drop, A: Application + Drop, D: Copy + Eq + Drop> Server<R, A,
                     node,
                     has_lost: false,
                 },
-                place: Place { end, peers },
+                hold: Hold::new(alloc, Place { end, peers }),
                 waiting: Waiting::new(alloc),
             },
         }
@@ -88,7 +90,15 @@ impl<R: Records + Drop, A: Application + Drop, D: Copy + Eq + Drop> Server<R, A,
         self.state.word = Word::Said;
     }
 
-    /// Begins a ballot, so that the node leads once a majority has promised it; nothing happens where positions or rounds are spent.
+    /// How many outboxes of its node's steps are held, which the wire was not given yet: none, unless memory was refused to the write of the records.
+    pub fn held(&self) -> usize
+        ensures { result ≡ 0 → self.now.held ≡ [] }
+    {
+        self.state.hold.outboxes.len()
+    }
+
+    /// Begins a ballot, so that the node leads once a majority has promised it; nothing happens where positions or rounds are spent. Then its records
+    /// are written, and what it sends, and what was held before, is given to the wire: it is held on where memory was refused to that write.
     ///
     /// The fault: the store failed, and the node has stopped. Nothing was sent.
     pub fn begin<W: Wire<Address = D>>(
@@ -96,31 +106,36 @@ impl<R: Records + Drop, A: Application + Drop, D: Copy + Eq + Drop> Server<R, A,
         alloc: Global,
         wire: &mut W,
     ) -> Result<(), ServeFault>
-        ensures went { WentBy A.has_applied A.meaning R.failed D.eq W.was_given W.has_brought R.stands R.is_kept result (Ticked Tick.Begin ∷ []) self.old self.new wire.old wire.new }
+        ensures went { WentJustBy A.has_applied A.meaning R.failed D.eq (was_given_or_held W.was_given) (has_brought_beside W.has_brought) R.stands R.is_kept R.base R.leaves result (Ticked Tick.Begin ∷ []) self.old self.new (self.old.held, wire.old) (self.new.held, wire.new) }
+        ensures acknowledged { OnOk result (IsWrittenFirst R.is_kept R.leaves W.was_given self.new wire.old wire.new) }
+        ensures unsent { OnErr result (IsGivenNothing W.was_given wire.old wire.new) }
         ensures brought { (ds : List (Carried D)) → W.has_brought wire.old ds → W.has_brought wire.new ds }
     {
-        self.state.begin(alloc, wire)
+        self.state.begin_round(alloc, wire)
     }
 
     /// Ticks: the node sends again what it waits for where it leads, and asks the others for what it has not learnt. Where another member leads
     /// now, clients whose requests wait are told so. Where it was told to lead, a ballot may begin. At last what is learnt is kept in its record.
+    /// Then its records are written, and what it sends, and what was held before, is given to the wire: it is held on where memory was refused to that write.
     ///
-    /// The fault: the store failed, and the node has stopped. Nothing was sent since.
+    /// The fault: the store failed, and the node has stopped. Nothing was sent.
     pub fn tick<W: Wire<Address = D>>(
         &mut self,
         alloc: Global,
         wire: &mut W,
     ) -> Result<(), ServeFault>
-        ensures went { Went A.has_applied A.meaning R.failed D.eq W.was_given W.has_brought R.stands R.is_kept result (Ticked Tick.Resend ∷ Ticked Tick.CatchUp ∷ []) [] [] self.old self.new wire.old wire.new }
+        ensures went { Went A.has_applied A.meaning R.failed D.eq (was_given_or_held W.was_given) (has_brought_beside W.has_brought) R.stands R.is_kept R.base R.leaves result (Ticked Tick.Resend ∷ Ticked Tick.CatchUp ∷ []) [] [] self.old self.new (self.old.held, wire.old) (self.new.held, wire.new) }
+        ensures acknowledged { OnOk result (IsWrittenFirst R.is_kept R.leaves W.was_given self.new wire.old wire.new) }
+        ensures unsent { OnErr result (IsGivenNothing W.was_given wire.old wire.new) }
         ensures brought { (ds : List (Carried D)) → W.has_brought wire.old ds → W.has_brought wire.new ds }
     {
-        self.state.tick_and_keep(alloc, wire)
+        self.state.tick_round(alloc, wire)
     }
 
-    /// Takes a datagram that a wire has brought: the node takes the step of its message, and what it sends is put on the wire. At last what is
-    /// learnt is kept in its record, so that no reply waits for that.
+    /// Takes a datagram that a wire has brought: the node takes the step of its message, and then what is learnt is kept in its record. Then its records
+    /// are written, and what it sends, and what was held before, is given to the wire: it is held on where memory was refused to that write.
     ///
-    /// The fault: the store failed, and the node has stopped. Nothing was sent since.
+    /// The fault: the store failed, and the node has stopped. Nothing was sent.
     pub fn take<W: Wire<Address = D>>(
         &mut self,
         alloc: Global,
@@ -128,18 +143,22 @@ impl<R: Records + Drop, A: Application + Drop, D: Copy + Eq + Drop> Server<R, A,
         arrival: Arrival<D>,
         bytes: &[u8],
     ) -> Result<(), ServeFault>
-        ensures went { Went A.has_applied A.meaning R.failed D.eq W.was_given W.has_brought R.stands R.is_kept result (Took (record { end = arrival.end; peer = arrival.from; bytes = bytes.now }) ∷ []) (record { end = arrival.end; peer = arrival.from; bytes = bytes.now } ∷ []) [] self.old self.new wire.old wire.new }
+        ensures went { Went A.has_applied A.meaning R.failed D.eq (was_given_or_held W.was_given) (has_brought_beside W.has_brought) R.stands R.is_kept R.base R.leaves result (Took (record { end = arrival.end; peer = arrival.from; bytes = bytes.now }) ∷ []) (record { end = arrival.end; peer = arrival.from; bytes = bytes.now } ∷ []) [] self.old self.new (self.old.held, wire.old) (self.new.held, wire.new) }
+        ensures acknowledged { OnOk result (IsWrittenFirst R.is_kept R.leaves W.was_given self.new wire.old wire.new) }
+        ensures unsent { OnErr result (IsGivenNothing W.was_given wire.old wire.new) }
         ensures brought { (ds : List (Carried D)) → W.has_brought wire.old ds → W.has_brought wire.new ds }
     {
-        self.state.take_and_keep(alloc, wire, arrival, bytes)
+        self.state.take_round(alloc, wire, arrival, bytes)
     }
 
-    /// Serves for so many turns. In each it takes one datagram, or ticks where the wire brought none for a while; and it ticks too where a while has
-    /// passed since it last did; at the end of each what is learnt is kept in its record. Says how many turns it took: all of them, unless the wire fails to say what came more often
-    /// than can be.
+    /// Serves for so many turns: in each it takes one datagram, or ticks where the wire brought none for a while. It goes by rounds: it waits for a
+    /// datagram and takes it, and what waits behind it already, at most 64 in all; it ticks too where a while has passed since it last did; and what is
+    /// learnt is kept in its record. Then its records are written in one, and what was sent is given to the wire: it is held on where memory was refused to
+    /// that write, and given at the end of a later round. Says how many turns it took: all of them, unless the wire fails to say what came more often than
+    /// can be.
     ///
     /// The buffer holds one datagram, [`MOST_BYTES`] of it. The fault: the store failed, and the node has stopped.
-    /// Nothing was sent since.
+    /// Nothing was sent in that round.
     pub fn serve<W: Wire<Address = D>>(
         &mut self,
         alloc: Global,
@@ -147,8 +166,9 @@ impl<R: Records + Drop, A: Application + Drop, D: Copy + Eq + Drop> Server<R, A,
         buffer: &mut [u8],
         turns: u64,
     ) -> Result<u64, ServeFault>
-        ensures took { Passed A.has_applied A.meaning R.failed D.eq W.was_given W.has_brought R.stands R.is_kept AreTurns result self.old self.new wire.old wire.new }
+        ensures took { Passed A.has_applied A.meaning R.failed D.eq (was_given_or_held W.was_given) (has_brought_beside W.has_brought) R.stands R.is_kept R.base R.leaves AreTurns result self.old self.new (self.old.held, wire.old) (self.new.held, wire.new) }
         ensures most { IfOk result (λ taken. taken ≤ turns) }
+        ensures acknowledged { WritesFirst A.has_applied A.meaning R.failed D.eq W.was_given W.has_brought R.is_kept R.leaves self.old wire.old wire.new }
     {
         self.state.serve(alloc, wire, buffer, turns)
     }

@@ -86,7 +86,7 @@ impl ScriptedWire {
         self.sends
     }
 
-    /// How often it was asked for one; at 2^64 - 1 it stays.
+    /// How often it was asked to wait for one; at 2^64 - 1 it stays.
     pub fn receives(&self) -> u64 {
         self.receives
     }
@@ -95,6 +95,20 @@ impl ScriptedWire {
     pub fn put(&mut self, from: u8, to: u8, bytes: &[u8]) -> Result<(), Lost> {
         let (from, to) = (usize::from(from), usize::from(to));
         keep(self.alloc, &mut self.waiting, from, to, bytes).map_err(|_| Lost)
+    }
+
+    /// The datagram that waits first, if one does.
+    fn take_front(&mut self, buffer: &mut [u8]) -> Option<Arrival<u8>>
+        ensures fits { IfSome result (λ a. a.length ≤ length buffer.new) }
+        ensures room { length buffer.new ≡ length buffer.old }
+    {
+        let kept = self.waiting.pop_front()?;
+        let from = u8::try_from(kept.from).ok()?;
+        Some(Arrival {
+            end: kept.to,
+            from,
+            length: copy_front(&kept.bytes, buffer),
+        })
     }
 
     /// Counts a send from one end to another, and says whether it fails.
@@ -128,17 +142,12 @@ impl Wire for ScriptedWire {
         if self.failing_receives.has(self.receives) {
             return Err(Unheard);
         }
-        let Some(kept) = self.waiting.pop_front() else {
-            return Ok(None);
-        };
-        let Ok(from) = u8::try_from(kept.from) else {
-            return Ok(None);
-        };
-        Ok(Some(Arrival {
-            end: kept.to,
-            from,
-            length: copy_front(&kept.bytes, buffer),
-        }))
+        Ok(self.take_front(buffer))
+    }
+
+    /// It counts as no receive, and does not fail.
+    fn receive_waiting(&mut self, buffer: &mut [u8]) -> Result<Option<Arrival<u8>>, Unheard> {
+        Ok(self.take_front(buffer))
     }
 
     fn has_while_passed(&mut self) -> bool {

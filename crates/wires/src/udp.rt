@@ -24,6 +24,8 @@ pub struct UdpWire<C: Clock + Drop> {
     next: usize,
     /// What ends have sent to themselves, which no socket carries.
     own: VecDeque<Kept>,
+    /// Whether the first socket waits, or is only looked at too.
+    waits: bool,
     /// How long it waits, and when it last had.
     wait: Duration,
     waited: Option<Instant>,
@@ -55,6 +57,7 @@ impl<C: Clock + Drop> UdpWire<C> {
             addresses,
             next: 1,
             own: VecDeque::new(alloc),
+            waits: true,
             wait,
         })
     }
@@ -73,7 +76,7 @@ impl<C: Clock + Drop> UdpWire<C> {
         })
     }
 
-    /// The datagram that has come to an end, if there is one; at the first one after a while.
+    /// The datagram that has come to an end, if there is one; at the first one after a while, where that waits.
     fn receive_at(
         &self,
         end: usize,
@@ -105,6 +108,29 @@ impl<C: Clock + Drop> UdpWire<C> {
             }
         }
         Ok(None)
+    }
+
+    /// What has come to an end already, but for the first one: what ends have sent to themselves comes before all else.
+    fn look_about(&mut self, buffer: &mut [u8]) -> Result<Option<Arrival<SocketAddr>>, Unheard>
+        ensures fits { IfOk result (λ came. IfSome came (λ a. a.length ≤ length buffer.new)) }
+        ensures room { length buffer.new ≡ length buffer.old }
+    {
+        if let Some(arrival) = self.take_own(buffer) {
+            return Ok(Some(arrival));
+        }
+        self.look(buffer)
+    }
+
+    /// The first socket waits from now on, or is only looked at. A system call is made only where it was otherwise before.
+    fn let_wait(&mut self, waits: bool) -> Result<(), Unheard> {
+        if self.waits == waits {
+            return Ok(());
+        }
+        if let Some(socket) = self.sockets.first() {
+            socket.set_nonblocking(!waits).map_err(|_| Unheard)?;
+        }
+        self.waits = waits;
+        Ok(())
     }
 
     /// The end after one, of those that are only looked at.
@@ -177,17 +203,26 @@ impl<C: Clock + Drop> Wire for UdpWire<C> {
     }
 
     fn receive(&mut self, buffer: &mut [u8]) -> Result<Option<Arrival<SocketAddr>>, Unheard> {
-        if let Some(arrival) = self.take_own(buffer) {
+        if let Some(arrival) = self.look_about(buffer)? {
             return Ok(Some(arrival));
         }
-        if let Some(arrival) = self.look(buffer)? {
-            return Ok(Some(arrival));
-        }
+        self.let_wait(true)?;
         let came = self.receive_at(0, buffer)?;
         if came.is_none() {
             self.note_now();
         }
         Ok(came)
+    }
+
+    fn receive_waiting(
+        &mut self,
+        buffer: &mut [u8],
+    ) -> Result<Option<Arrival<SocketAddr>>, Unheard> {
+        if let Some(arrival) = self.look_about(buffer)? {
+            return Ok(Some(arrival));
+        }
+        self.let_wait(false)?;
+        self.receive_at(0, buffer)
     }
 
     fn has_while_passed(&mut self) -> bool {

@@ -53,6 +53,19 @@ pub trait Wire {
         ensures given { (ds : List (Carried Self.Address)) → was_given self.old ds → was_given self.new ds }
         ensures brought { (ds : List (Carried Self.Address)) → has_brought self.old ds → has_brought self.new (ds ++ carried_in result buffer.new) };
 
+    /// Takes a datagram to any of the ends that waits already, and puts its bytes at the front of the buffer. There is none where none waits: it
+    /// never waits for one itself.
+    ///
+    /// `Unheard` where that failed: nothing has come, as far as is known.
+    fn receive_waiting(
+        &mut self,
+        buffer: &mut [u8],
+    ) -> Result<Option<Arrival<Self::Address>>, Unheard>
+        ensures fits { IfOk result (λ came. IfSome came (λ a. a.length ≤ length buffer.new)) }
+        ensures room { length buffer.new ≡ length buffer.old }
+        ensures given { (ds : List (Carried Self.Address)) → was_given self.old ds → was_given self.new ds }
+        ensures brought { (ds : List (Carried Self.Address)) → has_brought self.old ds → has_brought self.new (ds ++ carried_in result buffer.new) };
+
     /// Whether the wire's while has passed since it was last asked this and said yes, or since it last waited in vain. A wire without a clock
     /// may say anything.
     fn has_while_passed(&mut self) -> bool

@@ -1,13 +1,13 @@
 use Rattle.std.proofs.Common.{[], ◌∷◌}
 use Rattle.member.specs.declared.input.Tick.TheVariants.{CatchUp, Resend}
 use Rattle.serving.specs.Serving.{Ticked}
-use Rattle.serving.proofs.Giving.{given_none}
-use Rattle.serving.proofs.Going.{goes_hearing, on_hearing, on_none, went_hearing}
+use Rattle.serving.proofs.Going.{on_none, went_hearing}
+use Rattle.serving.specs.Serves.{AreAny, AreHeld}
 use Rattle.serving.proofs.state.State.tick_if_due.Goals as goal
 
-pub returns-then-not-has_while_passed : goal.returns-then-not-has_while_passed
-returns-then-not-has_while_passed g c = on_hearing {R = g.row.R.Denot} {A = g.row.A.Denot} {D = g.row.D.Denot} g.A.Application.has_applied g.A.Application.meaning g.R.Records.failed g.D.PartialEq.eq {W = g.row.W.Denot} g.W.Wire.was_given g.W.Wire.has_brought [] [] [] _ _ _ _ _ c.has_while_passed.ensures.given (λ ds b. given_none g.W.Wire.has_brought _ ds (c.has_while_passed.ensures.brought ds b)) (on_none {R = g.row.R.Denot} {A = g.row.A.Denot} {D = g.row.D.Denot} g.A.Application.has_applied g.A.Application.meaning g.R.Records.failed g.D.PartialEq.eq {W = g.row.W.Denot} g.W.Wire.was_given g.W.Wire.has_brought _ _)
+pub returns-then-not-has_passed : goal.returns-then-not-has_passed
+returns-then-not-has_passed g c = on_none {R = g.row.R.Denot} {A = g.row.A.Denot} {D = g.row.D.Denot} g.A.Application.has_applied g.A.Application.meaning g.R.Records.failed g.D.PartialEq.eq AreHeld AreAny _ _
 
 pub returns : goal.returns
 returns g c =
-    went_hearing {R = g.row.R.Denot} {A = g.row.A.Denot} {D = g.row.D.Denot} g.A.Application.has_applied g.A.Application.meaning g.R.Records.failed g.D.PartialEq.eq {W = g.row.W.Denot} g.W.Wire.was_given g.W.Wire.has_brought g.R.Records.stands g.R.Records.is_kept c.tick.result (Ticked Resend ∷ Ticked CatchUp ∷ []) [] [] _ _ _ _ _ c.has_while_passed.ensures.given (λ ds b. given_none g.W.Wire.has_brought _ ds (c.has_while_passed.ensures.brought ds b)) c.tick.ensures
+    went_hearing {R = g.row.R.Denot} {A = g.row.A.Denot} {D = g.row.D.Denot} g.A.Application.has_applied g.A.Application.meaning g.R.Records.failed g.D.PartialEq.eq AreHeld AreAny g.R.Records.stands g.R.Records.is_kept g.R.Records.base g.R.FlushRecords.leaves c.tick.result (Ticked Resend ∷ Ticked CatchUp ∷ []) [] [] _ _ _ _ _ (λ ds h. h) (λ ds b. tt) c.tick.ensures
