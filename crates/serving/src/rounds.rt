@@ -1,5 +1,8 @@
 //! What a server does over its wire, round by round: steps, of which what they send is held; then one write of its node's records; and then all
 //! that is held is given to the wire.
+//!
+//! What a round learns is kept in the write of the next one, or of the next tick: so no reply waits for it, and it takes no write of its own where
+//! there is work.
 
 ghost use Rattle.std.specs.Prelude.{◌≡◌, ◌≤◌, ◌++◌, [], ◌∷◌, List, length, take, IfOk, OnErr, OnOk};
 ghost use Rattle.serving.specs.Serves.{IsGivenNothing, IsWrittenFirst, Passed, Went, WentJustBy, WritesFirst, has_brought_beside, shown, was_given_or_held};
@@ -55,7 +58,7 @@ impl<R: FlushRecords + Drop, A: Application + Drop, D: Copy + Eq + Drop> State<R
         self.close(alloc, wire)
     }
 
-    /// A round in which the node ticks, and keeps what was learnt.
+    /// A round in which the node ticks, and keeps what was learnt before.
     pub(super) fn tick_round<W: Wire<Address = D>>(
         &mut self,
         alloc: Global,
@@ -70,7 +73,7 @@ impl<R: FlushRecords + Drop, A: Application + Drop, D: Copy + Eq + Drop> State<R
         self.close(alloc, wire)
     }
 
-    /// A round of one datagram, as it comes; what was learnt is kept.
+    /// A round of one datagram, as it comes; what was learnt before is kept.
     pub(super) fn take_round<W: Wire<Address = D>>(
         &mut self,
         alloc: Global,
@@ -154,7 +157,7 @@ impl<R: FlushRecords + Drop, A: Application + Drop, D: Copy + Eq + Drop> State<R
     }
 
     /// A round of a datagram that the wire has just brought and of what waits behind it already, so many in all at most: they are taken, the node
-    /// ticks where a while has passed, so that no number of datagrams keeps it from that, and what was learnt is kept. Says how many were taken.
+    /// ticks where a while has passed, so that no number of datagrams keeps it from that, and what was learnt before is kept. Says how many were taken.
     fn round_from<W: Wire<Address = D>>(
         &mut self,
         alloc: Global,
@@ -171,9 +174,10 @@ impl<R: FlushRecords + Drop, A: Application + Drop, D: Copy + Eq + Drop> State<R
         ensures acknowledged { OnOk result (IsWrittenFirst R.is_kept R.leaves W.was_given (shown self.new) wire.old wire.new) }
         ensures unsent { OnErr result (IsGivenNothing W.was_given wire.old wire.new) }
     {
+        let learnt = self.seat.node.prefix();
         let taken = self.take_all(alloc, wire, buffer, arrival, most)?;
         let has_passed = wire.has_while_passed();
-        self.tick_if_due_and_keep(alloc, has_passed)?;
+        self.tick_if_due_and_keep(alloc, has_passed, learnt)?;
         self.close(alloc, wire)?;
         Ok(taken)
     }

@@ -115,7 +115,7 @@ impl<R: FlushRecords + Drop, A: Application + Drop, D: Copy + Eq + Drop> Server<
     }
 
     /// Ticks: the node sends again what it waits for where it leads, and asks the others for what it has not learnt. Where another member leads
-    /// now, clients whose requests wait are told so. Where it was told to lead, a ballot may begin. At last what is learnt is kept in its record.
+    /// now, clients whose requests wait are told so. Where it was told to lead, a ballot may begin. At last what was learnt before is kept in its record.
     /// Then its records are written, and what it sends, and what was held before, is given to the wire: it is held on where memory was refused to that write.
     ///
     /// The fault: the store failed, and the node has stopped. Nothing was sent.
@@ -132,7 +132,7 @@ impl<R: FlushRecords + Drop, A: Application + Drop, D: Copy + Eq + Drop> Server<
         self.state.tick_round(alloc, wire)
     }
 
-    /// Takes a datagram that a wire has brought: the node takes the step of its message, and then what is learnt is kept in its record. Then its records
+    /// Takes a datagram that a wire has brought: the node takes the step of its message, and then what was learnt before is kept in its record. Then its records
     /// are written, and what it sends, and what was held before, is given to the wire: it is held on where memory was refused to that write.
     ///
     /// The fault: the store failed, and the node has stopped. Nothing was sent.
@@ -152,8 +152,8 @@ impl<R: FlushRecords + Drop, A: Application + Drop, D: Copy + Eq + Drop> Server<
     }
 
     /// Serves for so many turns: in each it takes one datagram, or ticks where the wire brought none for a while. It goes by rounds: it waits for a
-    /// datagram and takes it, and what waits behind it already, at most 64 in all; it ticks too where a while has passed since it last did; and what is
-    /// learnt is kept in its record. Then its records are written in one, and what was sent is given to the wire: it is held on where memory was refused to
+    /// datagram and takes it, and what waits behind it already, at most 64 in all; it ticks too where a while has passed since it last did; and what was
+    /// learnt before is kept in its record. Then its records are written in one, and what was sent is given to the wire: it is held on where memory was refused to
     /// that write, and given at the end of a later round. Says how many turns it took: all of them, unless the wire fails to say what came more often than
     /// can be.
     ///

@@ -261,31 +261,32 @@ impl<R: FlushRecords + Drop, A: Application + Drop, D: Copy + Eq + Drop> State<R
         self.tick(alloc)
     }
 
-    /// Writes the next learnt value that the record lacks, if there is one. Says whether it was kept: it is not where memory is refused.
-    fn keep_next(&mut self, alloc: Global) -> Result<bool, ServeFault>
+    /// Writes the next learnt value that the record lacks, if that is one of the first so many. Says whether it was kept: it is not where memory is
+    /// refused.
+    fn keep_next(&mut self, alloc: Global, learnt: u32) -> Result<bool, ServeFault>
         ensures { WentHolding A.has_applied A.meaning R.failed D.eq R.stands R.is_kept R.base R.leaves result [] [] (shown self.old) (shown self.new) }
     {
         let kept = self.seat.node.kept();
-        if kept >= self.seat.node.prefix() {
+        if kept >= learnt {
             return Ok(false);
         }
         self.tick_once(alloc, Tick::Keep)?;
         Ok(kept < self.seat.node.kept())
     }
 
-    /// Writes what is learnt and not kept to the record, one value after the other.
-    fn keep_learnt(&mut self, alloc: Global) -> Result<(), ServeFault>
+    /// Writes the first so many learnt values to the record, those that it does not keep, one after the other.
+    fn keep_learnt(&mut self, alloc: Global, learnt: u32) -> Result<(), ServeFault>
         ensures { WentHolding A.has_applied A.meaning R.failed D.eq R.stands R.is_kept R.base R.leaves result [] [] (shown self.old) (shown self.new) }
     {
         for _position in 0..POSITIONS {
-            if !self.keep_next(alloc)? {
+            if !self.keep_next(alloc, learnt)? {
                 break;
             }
         }
         Ok(())
     }
 
-    /// Takes a datagram as it comes, does what follows, and keeps what was learnt.
+    /// Takes a datagram as it comes, does what follows, and keeps what was learnt before.
     pub(super) fn take_and_keep(
         &mut self,
         alloc: Global,
@@ -294,27 +295,30 @@ impl<R: FlushRecords + Drop, A: Application + Drop, D: Copy + Eq + Drop> State<R
     ) -> Result<(), ServeFault>
         ensures { WentHolding A.has_applied A.meaning R.failed D.eq R.stands R.is_kept R.base R.leaves result (Took (record { end = arrival.end; peer = arrival.from; bytes = bytes.now }) ∷ []) (record { end = arrival.end; peer = arrival.from; bytes = bytes.now } ∷ []) (shown self.old) (shown self.new) }
     {
+        let learnt = self.seat.node.prefix();
         self.take(alloc, arrival, bytes)?;
-        self.keep_learnt(alloc)
+        self.keep_learnt(alloc, learnt)
     }
 
-    /// What ends a round of datagrams: the node ticks where a while has passed, and what was learnt is kept.
+    /// What ends a round of datagrams: the node ticks where a while has passed, and of what was learnt the first so many values are kept.
     pub(super) fn tick_if_due_and_keep(
         &mut self,
         alloc: Global,
         has_passed: bool,
+        learnt: u32,
     ) -> Result<(), ServeFault>
         ensures { WentHolding A.has_applied A.meaning R.failed D.eq R.stands R.is_kept R.base R.leaves result [] [] (shown self.old) (shown self.new) }
     {
         self.tick_if_due(alloc, has_passed)?;
-        self.keep_learnt(alloc)
+        self.keep_learnt(alloc, learnt)
     }
 
-    /// Ticks, and keeps what was learnt.
+    /// Ticks, and keeps what was learnt before.
     pub(super) fn tick_and_keep(&mut self, alloc: Global) -> Result<(), ServeFault>
         ensures { WentHolding A.has_applied A.meaning R.failed D.eq R.stands R.is_kept R.base R.leaves result (Ticked Tick.Resend ∷ Ticked Tick.CatchUp ∷ []) [] (shown self.old) (shown self.new) }
     {
+        let learnt = self.seat.node.prefix();
         self.tick(alloc)?;
-        self.keep_learnt(alloc)
+        self.keep_learnt(alloc, learnt)
     }
 }
