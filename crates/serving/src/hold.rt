@@ -6,6 +6,7 @@ ghost use Rattle.serving.specs.Hold.{datagrams_of, held_by};
 ghost use Rattle.wires.specs.Wires.{Carried};
 
 use super::place::Place;
+use super::requests::is_vote;
 use super::sending::post;
 use node::Outbox;
 use std::alloc::{AllocError, Global};
@@ -58,6 +59,16 @@ impl<D: Copy + Eq + Drop> Hold<D> {
         if !held.outbox.sent().is_empty() {
             self.outboxes.push_reserved(held);
         }
+    }
+
+    /// Whether a vote is told by what is held: then the record is to be written before that is given, whatever else is written with it.
+    pub(super) fn has_vote(&self) -> bool {
+        for held in &self.outboxes {
+            if held.outbox.sent().iter().any(|one| is_vote(&one.bytes)) {
+                return true;
+            }
+        }
+        false
     }
 
     /// Gives the wire all that is held, in order: a datagram that it does not take is lost, as one may be on its way. Nothing is held then.

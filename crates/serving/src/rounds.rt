@@ -1,8 +1,8 @@
 //! What a server does over its wire, round by round: steps, of which what they send is held; then one write of its node's records; and then all
 //! that is held is given to the wire.
 //!
-//! What a round learns is kept in the write of the next one, or of the next tick: so no reply waits for it, and it takes no write of its own where
-//! there is work.
+//! What a round learns is kept in the write of the next one that writes a vote, or of the next tick: so nothing that is sent waits for it, and it
+//! takes no write of its own where there is work.
 
 ghost use Rattle.std.specs.Prelude.{◌≡◌, ◌≤◌, ◌++◌, [], ◌∷◌, List, length, take, IfOk, OnErr, OnOk};
 ghost use Rattle.serving.specs.Serves.{IsGivenNothing, IsWrittenFirst, Passed, Went, WentJustBy, WritesFirst, has_brought_beside, shown, was_given_or_held};
@@ -156,6 +156,16 @@ impl<R: FlushRecords + Drop, A: Application + Drop, D: Copy + Eq + Drop> State<R
         Ok(1 + more)
     }
 
+    /// How many of the values that were learnt before a round are kept in it: all of them where it writes a vote, or where a while has passed;
+    /// else none, for they would have what is sent wait for a write of their own.
+    fn to_keep(&self, before: u32, has_passed: bool) -> u32 {
+        if has_passed || self.hold.has_vote() {
+            before
+        } else {
+            0
+        }
+    }
+
     /// A round of a datagram that the wire has just brought and of what waits behind it already, so many in all at most: they are taken, the node
     /// ticks where a while has passed, so that no number of datagrams keeps it from that, and what was learnt before is kept. Says how many were taken.
     fn round_from<W: Wire<Address = D>>(
@@ -174,9 +184,10 @@ impl<R: FlushRecords + Drop, A: Application + Drop, D: Copy + Eq + Drop> State<R
         ensures acknowledged { OnOk result (IsWrittenFirst R.is_kept R.leaves W.was_given (shown self.new) wire.old wire.new) }
         ensures unsent { OnErr result (IsGivenNothing W.was_given wire.old wire.new) }
     {
-        let learnt = self.seat.node.prefix();
+        let before = self.seat.node.prefix();
         let taken = self.take_all(alloc, wire, buffer, arrival, most)?;
         let has_passed = wire.has_while_passed();
+        let learnt = self.to_keep(before, has_passed);
         self.tick_if_due_and_keep(alloc, has_passed, learnt)?;
         self.close(alloc, wire)?;
         Ok(taken)
