@@ -1,5 +1,3 @@
-//! Why a server serves no longer.
-
 /// Why a server serves no longer.
 #[derive(Clone, Copy, PartialEq, Eq, Debug)]
 pub enum ServeFault {

@@ -40,8 +40,7 @@ impl<D: Copy + Eq + Drop> Hold<D> {
         }
     }
 
-    /// Makes room for what one more step sends, so that it is not lost once it is sent. It fails where memory is refused; nothing has changed
-    /// either way.
+    /// Makes room for what one more step sends, so that it is not lost once it is sent. It fails where memory is refused; nothing has changed either way.
     pub(super) fn reserve(&mut self) -> Result<(), AllocError>
         ensures same { self.new.outboxes.items ≡ self.old.outboxes.items }
         ensures place { self.new.place ≡ self.old.place }

@@ -1,8 +1,5 @@
 //! What a server does over its wire, round by round: steps, of which what they send is held; then one write of its node's records; and then all
 //! that is held is given to the wire.
-//!
-//! What a round learns is kept in the write of the next one that writes a vote, or of the next tick: so nothing that is sent waits for it, and it
-//! takes no write of its own where there is work.
 
 ghost use Rattle.std.specs.Prelude.{◌≡◌, ◌≤◌, ◌++◌, [], ◌∷◌, List, length, take, IfOk, OnErr, OnOk};
 ghost use Rattle.serving.specs.Serves.{IsGivenNothing, IsWrittenFirst, Passed, Went, WentJustBy, WritesFirst, has_brought_beside, shown, was_given_or_held};
@@ -167,7 +164,7 @@ impl<R: FlushRecords + Drop, A: Application + Drop, D: Copy + Eq + Drop> State<R
     }
 
     /// A round of a datagram that the wire has just brought and of what waits behind it already, so many in all at most: they are taken, the node
-    /// ticks where a while has passed, so that no number of datagrams keeps it from that, and what was learnt before is kept. Says how many were taken.
+    /// ticks where a while has passed, so that no number of datagrams keeps it from that, and `to_keep` of what was learnt is kept. Says how many were taken.
     fn round_from<W: Wire<Address = D>>(
         &mut self,
         alloc: Global,

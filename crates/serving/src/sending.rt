@@ -12,8 +12,7 @@ use member::Target;
 use node::Sent;
 use wires::Wire;
 
-/// Sends bytes to a member, or to the client (0), where it has an address. A datagram that the wire does not take is lost, as one may be on
-/// its way.
+/// Sends bytes to a member, or to the client (0), where it has an address. A datagram that the wire does not take is lost, as one may be on its way.
 pub(super) fn send_to<W: Wire>(
     wire: &mut W,
     place: &Place<W::Address>,

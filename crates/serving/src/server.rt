@@ -81,9 +81,7 @@ impl<R: FlushRecords + Drop, A: Application + Drop, D: Copy + Eq + Drop> Server<
 
     /// From now on it is to lead: its ticks begin ballots. It first learns what the others tell it, and begins at the first tick before which a while
     /// brought it nothing new; while nobody follows it, it begins again after 10 ticks, and then after 20, 40 and each further 64. Once it is followed, or
-    /// has yielded to another member, that is over, until it is told again.
-    ///
-    /// Nothing is done at once.
+    /// has yielded to another member, that is over, until it is told again. Nothing is done at once.
     pub fn lead(&mut self)
         ensures { self.new ≡ told_to_lead self.old }
     {
@@ -151,14 +149,13 @@ impl<R: FlushRecords + Drop, A: Application + Drop, D: Copy + Eq + Drop> Server<
         self.state.take_round(alloc, wire, arrival, bytes)
     }
 
-    /// Serves for so many turns: in each it takes one datagram, or ticks where the wire brought none for a while. It goes by rounds: it waits for a
-    /// datagram and takes it, and what waits behind it already, at most 64 in all; it ticks too where a while has passed since it last did; and what was
-    /// learnt before is kept in its record. Then its records are written in one, and what was sent is given to the wire: it is held on where memory was refused to
-    /// that write, and given at the end of a later round. Says how many turns it took: all of them, unless the wire fails to say what came more often than
-    /// can be.
+    /// Serves for so many turns: in each it takes one datagram, or ticks where the wire brought none for a while. It goes by rounds: it waits for a datagram and
+    /// takes it, and what waits behind it already, at most 64 in all; it ticks too where a while has passed since it last did; and what was learnt before is kept
+    /// in its record, where it ticks or a vote is written. Then its records are written in one, and what was sent is given to the wire: it is held on where memory
+    /// was refused to that write, and given at the end of a later round. Says how many turns it took: all of them, unless the wire fails to say what came more
+    /// often than can be.
     ///
-    /// The buffer holds one datagram, [`MOST_BYTES`] of it. The fault: the store failed, and the node has stopped.
-    /// Nothing was sent in that round.
+    /// The buffer holds one datagram, [`MOST_BYTES`] of it. The fault: the store failed, and the node has stopped. Nothing was sent in that round.
     pub fn serve<W: Wire<Address = D>>(
         &mut self,
         alloc: Global,
