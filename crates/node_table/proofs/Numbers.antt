@@ -5,7 +5,7 @@ use Rattle.std.specs.List.{slice_get}
 use Rattle.std.proofs.Math.Nat.{add-mul, mul-le-mul_left, mul_comm, mul-div-le, le-div_iff_mul-le}
 use Rattle.std.proofs.lemmas.List.{take-append-drop, append_assoc, length-take-le, length-append}
 use Rattle.std.proofs.lemmas.Bool.Decides.{eqb_tells}
-use Rattle.data_model.specs.Trees.{Trees, no_trees, tree, Content, append, roots, count, size}
+use Rattle.data_model.specs.Trees.{Trees, no_trees, tree, append, roots, count, size}
 use Rattle.data_model.specs.Changes.{renumbered, ranked}
 use Rattle.data_model.specs.Walks.{held}
 use Rattle.node_table.specs.Flat.{Entry, Table, Holds, IsTableOf, IsChangedAt, Puts, listed, with_child}

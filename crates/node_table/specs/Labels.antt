@@ -1,5 +1,5 @@
 -- Labels: numbers that rise among the nodes of one list, and what they say of document order.
-use Rattle.std.specs.Prelude.{◌≡◌, ℕ, ◌+◌, ◌<◌, ◌≤◌, ◌^◌, Bool, true, false, List, [], ◌∷◌, ◌++◌, length, cond, eqb, ltb, Option, Some, None, IfSome, nat_eq}
+use Rattle.std.specs.Prelude.{◌≡◌, ℕ, ◌+◌, ◌<◌, ◌≤◌, ◌^◌, Bool, true, false, List, [], ◌∷◌, ◌++◌, length, cond, eqb, ltb, Option, Some, None, IfSome}
 use Rattle.std.specs.List.{slice_get}
 use Prim.Native.Nat.{zero, suc}
 use Rattle.row_pages.specs.Rows.{Term, get}

@@ -1,5 +1,5 @@
 -- What rows say of nodes, and what room they have.
-use Rattle.std.specs.Prelude.{ℕ, ◌≤◌, ◌+◌, Option, Some, None, option_map, string_bytes, vec_len, vec_capacity, nat_eq}
+use Rattle.std.specs.Prelude.{ℕ, ◌≤◌, ◌+◌, Option, Some, None, option_map, string_bytes, vec_len, vec_capacity}
 use Rattle.row_pages.specs.Rows.{Term, get}
 use Rattle.std.specs.declared.alloc.Global.{Global}
 use Rattle.std.specs.declared.vec.Vec.{Vec}

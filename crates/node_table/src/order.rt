@@ -5,7 +5,7 @@ ghost use Rattle.std.specs.List.{slice_get};
 ghost use Rattle.data_model.specs.declared.node.Part.{Part};
 ghost use Rattle.data_model.specs.Walks.{held};
 ghost use Rattle.node_table.specs.Rows.{table_of, HasRoom};
-ghost use Rattle.node_table.specs.Labels.{place_of, lists_in, position_in, get_before, Ascends, HasNumbers, RisesBut, AreListed, IsBetween};
+ghost use Rattle.node_table.specs.Labels.{parent_in, place_of, lists_in, position_in, get_before, Ascends, HasNumbers, RisesBut, AreListed, IsBetween};
 
 use super::table::Rows;
 use data_model::{NodeId, Part};
@@ -21,6 +21,16 @@ pub fn place(rows: &Rows, id: NodeId) -> u64
         Some(row) => row.place,
         None => id.number(),
     }
+}
+
+/// The parent of a node and the number that its row carries, by one look-up; `None` where it has no row, or its row no parent.
+pub fn place_below(rows: &Rows, id: NodeId) -> Option<(NodeId, u64)>
+    ensures parent { IfSome result (λ r. parent_in (table_of rows.now id) ≡ Some r.0) }
+    ensures place { IfSome result (λ r. r.1 ≡ place_of rows.now id) }
+{
+    let row = rows.get(id.number())?;
+    let parent = row.parent?;
+    Some((parent, row.place))
 }
 
 /// Gives a node another number.

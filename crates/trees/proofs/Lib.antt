@@ -7,6 +7,7 @@ pub mod CallerLemmas
 pub mod Lent
 pub mod Nests
 pub mod Planted
+pub mod Rising
 pub mod Numbered
 pub mod Views
 pub mod Drafts

@@ -408,18 +408,59 @@ impl Forest {
     /// The nodes of a list in document order, each once (XQuery 1.0 and XPath 2.0 Data Model, section 2.4). Those that do not stand
     /// here are left out.
     ///
-    /// A node's label is read once, by going up from it, and a list of n nodes takes n log n comparisons of labels, or n where it is
-    /// in order already. A node alone takes no label. Where memory is refused, the list is gone.
+    /// A list whose nodes have as many others above each and come in that order already is told by looking up the parents of neighbours, as far as they
+    /// differ, and given back. Else a node's label is read once, by going up from it, and the labels are sorted: lists that are in order each, one
+    /// behind the other, are merged, and n other nodes take n log n comparisons. Where memory is refused, the list is gone.
     pub fn document_order(&self, alloc: Global, ids: Vec<NodeId>) -> Result<Vec<NodeId>, AllocError>
         ensures { IfOk result (λ nodes. nodes.items ≡ filter (λ i. is_in i ids.items) (identities self.now.trees)) }
     {
         self.facts();
-        if ids.len() == 1 && self.has(ids[0]) {
+        if self.rises(&ids) {
             return Ok(ids);
         }
         let mut labelled = label::with_labels(&self.rows, alloc, &ids, self.next)?;
-        labelled.sort_unstable();
+        labelled.sort()?;
         label::nodes_of(&labelled, ids)
+    }
+
+    /// Whether two nodes stand here, with as many others above each, and the node `a` comes before the node `b`. It goes up from both until their parents
+    /// are one, by a look-up a level.
+    fn comes_next(&self, a: NodeId, b: NodeId) -> bool
+        ensures has_a { result ≡ true → IsSome (find a self.now.trees) }
+        ensures has_b { result ≡ true → IsSome (find b self.now.trees) }
+        ensures before { result ≡ true → precedes a b self.now.trees ≡ true }
+    {
+        self.facts();
+        let mut first = a;
+        let mut second = b;
+        while let Some(above_first) = order::place_below(&self.rows, first) {
+            let Some(above_second) = order::place_below(&self.rows, second) else {
+                return false;
+            };
+            if above_first.0 == above_second.0 {
+                return above_first.1 < above_second.1;
+            }
+            first = above_first.0;
+            second = above_second.0;
+        }
+        false
+    }
+
+    /// Whether a list has a node, and all of it stand here and come in document order, each once, as far as each with the one before it tells: they
+    /// have as many nodes above them. Where this says no, they may come so all the same.
+    fn rises(&self, ids: &[NodeId]) -> bool
+        ensures { result ≡ true → filter (λ i. is_in i ids.now) (identities self.now.trees) ≡ ids.now }
+    {
+        self.facts();
+        if ids.is_empty() || !self.has(ids[0]) {
+            return false;
+        }
+        for at in 1..ids.len() {
+            if !self.comes_next(ids[at - 1], ids[at]) {
+                return false;
+            }
+        }
+        true
     }
 
     /// Makes a node with no parent, which takes the next identity.

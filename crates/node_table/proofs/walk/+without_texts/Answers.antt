@@ -1,6 +1,5 @@
 -- The bytes that are left, and those of the texts that are still to come.
 use Rattle.std.proofs.Common.{◌≡◌, ◌∙◌, ◌-◌, ap, sym, arith, option_copied, length, string_bytes}
-use Rattle.data_model.specs.Trees.{bytes_in}
 use Rattle.node_table.specs.Flat.{read_trees}
 use Rattle.node_table.specs.Rows.{table_of, entry_of_row}
 use Rattle.node_table.proofs.Texts.{bytes-turn, bytes-stop}

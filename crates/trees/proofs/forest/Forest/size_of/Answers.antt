@@ -1,4 +1,4 @@
-use Rattle.std.proofs.Common.{◌≡◌, ◌∙◌, ap, arith}
+use Rattle.std.proofs.Common.{◌∙◌, ap, arith}
 use Rattle.data_model.specs.Trees.{size}
 use Rattle.trees.proofs.Copied.{own-read, copy-size}
 use Rattle.trees.proofs.forest.Forest.size_of.Goals as goal

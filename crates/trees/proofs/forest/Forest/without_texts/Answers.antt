@@ -1,4 +1,3 @@
-use Rattle.std.proofs.Common.{◌≡◌}
 use Rattle.trees.proofs.Copied.{own-read}
 use Rattle.trees.proofs.forest.Forest.without_texts.Goals as goal
 
