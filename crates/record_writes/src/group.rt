@@ -1,14 +1,15 @@
 //! Several writes in one transaction.
 
-ghost use Rattle.std.specs.Prelude.{◌≡◌, ◌≤◌, suc, length, false, IfErr, IfOk, IsTrue, OnOk};
+ghost use Rattle.std.specs.Prelude.{◌≡◌, ◌≤◌, suc, length, false, IfErr, IfOk, IfSome, IsTrue, OnOk};
 ghost use Rattle.sqlite.specs.State.{HasCleanDisk};
 ghost use Rattle.sqlite_trees.specs.View.{doubt};
 ghost use Rattle.sqlite.specs.Held.{state};
+ghost use Rattle.ballots.specs.Ballot.{IsBallot, below};
 ghost use Rattle.ballots.specs.Values.{positions};
 ghost use Rattle.ballots.specs.Terms.{Setup};
 ghost use Rattle.ballots.specs.Spelling.{IsValue, value_spelling};
 ghost use Rattle.ballots.specs.declared.value.Value.{Value as ValueTerm};
-ghost use Rattle.paxos.specs.Records.{Record, NewLearnt, written};
+ghost use Rattle.paxos.specs.Records.{Record, NewLearnt, NewPromise, written};
 ghost use Rattle.records.specs.Group.{AreWrites, IsDue, IsWrite, MayBeWritten, after, write_of};
 ghost use Rattle.records.specs.Law.{Puts};
 ghost use Rattle.record_writes.specs.Holds.{Holds, Under, Sees, Written};
@@ -16,7 +17,7 @@ ghost use Rattle.record_writes.specs.Members.{HasMember, HasMembers};
 
 use super::promise::{PROMISE, is_memory, judge, look};
 use super::vote::{first, second};
-use ballots::{Value, put_value};
+use ballots::{Ballot, Value, put_value};
 use records::{RecordsFault, Write};
 use sqlite::{Alter, Connection, Error, ErrorCode, Transaction, params};
 use std::alloc::Global;
@@ -46,36 +47,66 @@ fn third<S: Alter>(tx: &mut Transaction<'_, S>, position: u32, value: &[u8]) -> 
     )
 }
 
-/// Makes one write, in the transaction.
+/// Writes the ballot as the promise, in the transaction, unless it is the promise already.
+fn promise_unless<S: Alter>(
+    tx: &mut Transaction<'_, S>,
+    ballot: Ballot,
+    promised: Option<Ballot>,
+) -> Result<(), Error>
+    requires { IsBallot ballot }
+    ensures same_reference { tx.new.conn.ghost_name ≡ tx.old.conn.ghost_name }
+    ensures law { HasCleanDisk (state S.Store tx.new.conn.now) → (o : Setup) (last now : Record) → IfSome promised (λ b. now.promise ≡ b) → ballot.member ≤ o.members → below ballot now.promise ≡ false → Under (state S.Store tx.old.conn.now) o last → Sees (state S.Store tx.old.conn.now) o now
+        → Under (state S.Store tx.new.conn.now) o last × OnOk result (Sees (state S.Store tx.new.conn.now) o (written (NewPromise ballot) now)) }
+    ensures clean { doubt (state S.Store tx.old.conn.now).is_clean ≤ doubt (state S.Store tx.new.conn.now).is_clean }
+{
+    if promised == Some(ballot) {
+        return Ok(());
+    }
+    first(tx, ballot)?;
+    Ok(())
+}
+
+/// Makes one write, in the transaction, over a record whose promise is this one, if that is known.
 fn write_one<S: Alter>(
     alloc: Global,
     tx: &mut Transaction<'_, S>,
     write: &Write,
+    promised: Option<Ballot>,
 ) -> Result<(), Error>
     requires { IsWrite write.now }
     ensures same_reference { tx.new.conn.ghost_name ≡ tx.old.conn.ghost_name }
-    ensures law { HasCleanDisk (state S.Store tx.new.conn.now) → (o : Setup) (last now : Record) → HasMember o.members write.now → IsDue write.now now → Under (state S.Store tx.old.conn.now) o last → Sees (state S.Store tx.old.conn.now) o now
+    ensures law { HasCleanDisk (state S.Store tx.new.conn.now) → (o : Setup) (last now : Record) → IfSome promised (λ b. now.promise ≡ b) → HasMember o.members write.now → IsDue write.now now → Under (state S.Store tx.old.conn.now) o last → Sees (state S.Store tx.old.conn.now) o now
         → Under (state S.Store tx.new.conn.now) o last × OnOk result (Sees (state S.Store tx.new.conn.now) o (written (write_of write.now) now)) }
     ensures clean { doubt (state S.Store tx.old.conn.now).is_clean ≤ doubt (state S.Store tx.new.conn.now).is_clean }
 {
     match write {
-        Write::Promise(ballot) => {
-            first(tx, *ballot)?;
-        }
+        Write::Promise(ballot) => promise_unless(tx, *ballot, promised),
         Write::Vote(position, vote) => {
             let bytes = spelled(alloc, &vote.value)?;
-            first(tx, vote.ballot)?;
+            promise_unless(tx, vote.ballot, promised)?;
             second(tx, vote.ballot, *position, bytes.as_slice())?;
+            Ok(())
         }
         Write::Learnt(position, value) => {
             let bytes = spelled(alloc, value)?;
             third(tx, *position, bytes.as_slice())?;
+            Ok(())
         }
     }
-    Ok(())
 }
 
-/// Makes the writes in their order, in the transaction.
+/// The promise of a record after a write, if it is known: that of the write, or the one before it.
+fn promised_after(write: &Write, promised: Option<Ballot>) -> Option<Ballot>
+    ensures { IfSome result (λ b. (now : Record) → IfSome promised (λ before. now.promise ≡ before) → (written (write_of write.now) now).promise ≡ b) }
+{
+    match write {
+        Write::Promise(ballot) => Some(*ballot),
+        Write::Vote(_position, vote) => Some(vote.ballot),
+        Write::Learnt(_position, _value) => promised,
+    }
+}
+
+/// Makes the writes in their order, in the transaction. The promise is written once for all that have the same ballot.
 fn write_all<S: Alter>(
     alloc: Global,
     tx: &mut Transaction<'_, S>,
@@ -87,8 +118,10 @@ fn write_all<S: Alter>(
         → Under (state S.Store tx.new.conn.now) o last × OnOk result (Sees (state S.Store tx.new.conn.now) o (after writes.now now)) }
     ensures clean { doubt (state S.Store tx.old.conn.now).is_clean ≤ doubt (state S.Store tx.new.conn.now).is_clean }
 {
+    let mut promised = None;
     for write in writes.iter() {
-        write_one(alloc, tx, write)?;
+        write_one(alloc, tx, write, promised)?;
+        promised = promised_after(write, promised);
     }
     Ok(())
 }

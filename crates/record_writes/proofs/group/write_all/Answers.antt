@@ -15,8 +15,8 @@ returns-in_err-write_one-clause-law g c clean o last first members due u see =
     let rest : drop i ws ≡ w ∷ drop (i + 1) ws = drop_more ws i w here ∙ ap (λ x. x ∷ drop (i + 1) ws) (sym c.write-item.is) in
     let mid : HasCleanDisk (state g.S.Store c.loop-write.tx.conn.now) = omega (arith, c.write_one.ensures.clean) in
     let it = c.loop-write.invariant.3 mid o last first members due u see in
-    let next = next_due (state g.S.Store c.loop-write.tx.conn.now) o last first ws (drop i ws) w (drop (i + 1) ws) rest it in
-    ((c.in_err-write_one.ensures.law clean o last it.now next.0 next.1 it.under it.sees).0, search rules)
+    let next = next_due (state g.S.Store c.loop-write.tx.conn.now) o last first ws (drop i ws) w (drop (i + 1) ws) c.loop-write.promised rest it in
+    ((c.in_err-write_one.ensures.law clean o last it.now it.known next.0 next.1 it.under it.sees).0, search rules)
 
 pub loop-write-preserved : goal.loop-write-preserved
 loop-write-preserved g c =
@@ -33,9 +33,9 @@ loop-write-preserved g c =
       λ clean o last first members due u see.
           let mid : HasCleanDisk old = omega (arith, c.write_one.ensures.clean) in
           let it = c.loop-write.invariant.3 mid o last first members due u see in
-          let next = next_due old o last first ws (drop i ws) w (drop (i + 1) ws) rest it in
-          let wrote = c.in_ok-write_one.ensures.law clean o last it.now next.0 next.1 it.under it.sees in
-          goes_on old new o last first ws (drop i ws) w (drop (i + 1) ws) rest it wrote.0 wrote.1,
+          let next = next_due old o last first ws (drop i ws) w (drop (i + 1) ws) c.loop-write.promised rest it in
+          let wrote = c.in_ok-write_one.ensures.law clean o last it.now it.known next.0 next.1 it.under it.sees in
+          goes_on old new o last first ws (drop i ws) w (drop (i + 1) ws) c.loop-write.promised rest it c.promised_after-promised.result c.promised_after-promised.ensures wrote.0 wrote.1,
     )
 
 pub returns-clause-law : goal.returns-clause-law
@@ -46,4 +46,4 @@ returns-clause-law g c clean o last first members due u see =
     let none : drop i ws ≡ [] = drop_all i ws past in
     let s = state g.S.Store c.loop-write.tx.conn.now in
     let it = c.loop-write.invariant.3 clean o last first members due u see in
-    (it.under, ends s o last first ws (drop i ws) none it)
+    (it.under, ends s o last first ws (drop i ws) c.loop-write.promised none it)

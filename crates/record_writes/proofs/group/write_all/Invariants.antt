@@ -16,4 +16,4 @@ invariant-loop-write g l =
     let now = state g.S.Store l.tx.conn.now in
     let rest = drop l.write-index l.writes in
     (l.tx.conn.ghost_name ≡ l.initial.tx.conn.ghost_name) × (doubt old.is_clean ≤ doubt now.is_clean) × AreWrites rest
-    × (HasCleanDisk now → (o : Setup) (last first : Record) → HasMembers o.members l.writes → MayBeWritten l.writes first → Under old o last → Sees old o first → IsWriting now o last first l.writes rest)
+    × (HasCleanDisk now → (o : Setup) (last first : Record) → HasMembers o.members l.writes → MayBeWritten l.writes first → Under old o last → Sees old o first → IsWriting now o last first l.writes rest l.promised)
