@@ -13,14 +13,16 @@ use Rattle.values.specs.declared.fault.ValueFault.TheVariants as fault
 use Rattle.query_grammar.specs.declared.ast.NodeTest.{NodeTest}
 use Rattle.query_meaning.specs.Environment.{Environment}
 use Rattle.query_meaning.specs.Operators.{nodes}
-use Rattle.query_meaning.specs.Paths.{tested_nodes, passes_at, predicates, in_direction, is_reverse}
-use Rattle.query_meaning.specs.Running.{Run, come_to, trees_of, within}
+use Rattle.query_meaning.specs.Paths.{looked_at, tested_nodes, passes_at, predicates, in_direction, is_reverse}
+use Rattle.query_meaning.specs.Running as running
+use Rattle.query_meaning.specs.Running.{M, Run, ◌>>=◌, come_to, trees_of, within, work}
 use Rattle.query_meaning.specs.Sequences.{Meaning}
-use Rattle.evaluation.specs.Gives.{Gives, Says, Stand}
+use Rattle.evaluation.specs.Gives.{Any, Fails, Gives, GivesIn, Says, Stand}
 use Rattle.evaluation.proofs.Each.{grows_refl, then_gives}
 use Rattle.query_steps.proofs.Lists.{filter-both}
 use Rattle.query_steps.proofs.Members.{filtered-stand, within-is}
-use Rattle.query_paths.specs.Steps.{listed_at}
+use Rattle.query_paths.specs.Steps.{chosen_from, step_at}
+use Rattle.query_paths.proofs.Work.{fails_first}
 
 -- the items of a list stand in any order
 single_there : (ts : Trees) (x : Item) → IsThere ts x → AreThere ts (x ∷ [])
@@ -47,10 +49,14 @@ tested_stand a t i run =
     let P : List ℕ → Type 0 = λ is. Stand (nodes is) run in
     subst P (sym (filter-both (λ j. passes_at a t (find j ts)) (is_on a ts i) (identities ts))) (filtered-stand (λ j. is_on a ts i j && passes_at a t (find j ts)) run)
 
-pub found_stand : (a : Axis) (t : NodeTest) (i : ℕ) (run : Run) (is seen : List ℕ) (xs : List Item) → is ≡ tested_nodes a t i (trees_of run) → seen ≡ is → xs ≡ in_direction a (nodes seen) → Stand xs run
-found_stand a t i run is seen xs found same directed =
-    let P : List Item → Type 0 = λ ys. Stand ys run in
-    subst P (sym (directed ∙ ap (λ js. in_direction a (nodes js)) (same ∙ found))) (directed_stand a (nodes (tested_nodes a t i (trees_of run))) run (tested_stand a t i run))
+-- and so do they in a run whose trees are the same
+pub found_stand : (a : Axis) (t : NodeTest) (i : ℕ) (old new : Run) (is seen : List ℕ) → new ≡ record old { work = new.work } → is ≡ tested_nodes a t i (trees_of old) → seen ≡ is → Stand (nodes seen) new
+found_stand a t i old new is seen worked found same =
+    let P : List ℕ → Type 0 = λ js. Stand (nodes js) new in
+    subst P (ap (λ (run : Run). tested_nodes a t i (trees_of run)) worked ∙ sym (same ∙ found)) (tested_stand a t i new)
+
+pub kept_stand : (a : Axis) (is : List ℕ) (xs : List Item) (run : Run) → Stand (nodes is) run → xs ≡ in_direction a (nodes is) → Stand xs run
+kept_stand a is xs run stand directed = let P : List Item → Type 0 = λ ys. Stand ys run in subst P (sym directed) (directed_stand a (nodes is) run stand)
 
 -- what is left is given, if it is not too much
 within_gives : (xs : List Item) (run : Run) (r : Result (List Item) ValueFault) → Stand xs run → Says (within xs) r → Gives (come_to (within xs)) run r run
@@ -58,12 +64,33 @@ within_gives xs run (Ok ys) stand says = let P : List Item → Type 0 = λ zs. S
 within_gives xs run (Err fault.Memory) stand says = tt
 within_gives xs run (Err (fault.Code code)) stand says = ap (λ o. come_to o run) says
 
-pub listed_gives : (a : Axis) (t : NodeTest) (ms : List Meaning) (i : ℕ) (env : Environment) (old mid : Run) (is seen : List ℕ) (xs left turned : List Item) (r : Result (List Item) ValueFault)
-    → is ≡ tested_nodes a t i (trees_of old) → seen ≡ is → xs ≡ in_direction a (nodes seen) → Gives (predicates ms env xs) old (Ok left) mid → turned ≡ in_direction a left → Says (within turned) r
-    → Gives (listed_at a t ms i env) old r mid
-listed_gives a t ms i env old mid is seen xs left turned r found same directed kept back says =
+pub chosen_gives : (a : Axis) (ms : List Meaning) (is : List ℕ) (env : Environment) (old mid : Run) (xs left turned : List Item) (r : Result (List Item) ValueFault)
+    → xs ≡ in_direction a (nodes is) → Gives (predicates ms env xs) old (Ok left) mid → turned ≡ in_direction a left → Says (within turned) r → Gives (chosen_from a ms is env) old r mid
+chosen_gives a ms is env old mid xs left turned r directed kept back says =
     let P : List Item → Type 0 = λ ys. Gives (predicates ms env ys) old (Ok left) mid in
     let Q : List Item → Type 0 = λ ys. Says (within ys) r in
-    then_gives Stand Stand (predicates ms env (in_direction a (nodes (tested_nodes a t i (trees_of old))))) (λ ys. come_to (within (in_direction a ys))) old mid mid left r
-    (subst P (directed ∙ ap (λ js. in_direction a (nodes js)) (same ∙ found)) kept)
-    (within_gives (in_direction a left) mid r (directed_stand a left mid kept.1.1) (subst Q back says))
+    then_gives Stand Stand (predicates ms env (in_direction a (nodes is))) (λ ys. come_to (within (in_direction a ys))) old mid mid left r
+    (subst P directed kept) (within_gives (in_direction a left) mid r (directed_stand a left mid kept.1.1) (subst Q back says))
+
+-- the step, by its work and what is chosen
+pub step_gives : (a : Axis) (t : NodeTest) (ms : List Meaning) (i : ℕ) (env : Environment) (old mid new : Run) (looked : ℕ) (is seen : List ℕ) (r : Result (List Item) ValueFault)
+    → looked ≡ looked_at a i (trees_of old) → is ≡ tested_nodes a t i (trees_of old) → seen ≡ is → GivesIn Any (work looked) old (Ok tt) mid → mid ≡ record old { work = mid.work }
+    → Gives (chosen_from a ms seen env) mid r new → Gives (step_at a t ms i env) old r new
+step_gives a t ms i env old mid new looked is seen r long found same paid worked given =
+    let P : ℕ → Type 0 = λ n. GivesIn Any (work n) old (Ok tt) mid in
+    let Q : List ℕ → Type 0 = λ js. Gives (chosen_from a ms js env) mid r new in
+    then_gives Any Stand (seen_first) (λ _. rest) old mid new tt r (subst P long paid)
+    (subst Q (same ∙ found ∙ ap (λ (run : Run). tested_nodes a t i (trees_of run)) (sym worked)) given)
+  where
+    seen_first : M (Unit {0})
+    seen_first = running.seen (looked_at a i) >>= work
+
+    rest : M (List Item)
+    rest = running.seen (tested_nodes a t i) >>= (λ js. chosen_from a ms js env)
+
+-- too little work
+pub step_fails : (a : Axis) (t : NodeTest) (ms : List Meaning) (i : ℕ) (env : Environment) (old new : Run) (looked : ℕ) (e : ValueFault)
+    → looked ≡ looked_at a i (trees_of old) → GivesIn Any (work looked) old (Err e) new → Fails (step_at a t ms i env old) e
+step_fails a t ms i env old new looked e long failed =
+    let P : ℕ → Type 0 = λ n. GivesIn Any (work n) old (Err e) new in
+    fails_first Any (running.seen (looked_at a i) >>= work) (λ _. running.seen (tested_nodes a t i) >>= (λ js. chosen_from a ms js env)) old new e (subst P long failed)

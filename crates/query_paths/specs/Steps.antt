@@ -18,13 +18,12 @@ node_in (Err code) = Err code
 abbrev pub context_node : Environment → Result ℕ Code
 context_node env = node_in (focus_of env)
 
--- what the step gives from a node, but for the work of looking
-abbrev pub listed_at : Axis → NodeTest → List Meaning → (node : ℕ) → Environment → M (List Item)
-listed_at a t ms i env = do
-  is ← seen (tested_nodes a t i)
+-- what the step gives of the nodes that it finds
+abbrev pub chosen_from : Axis → List Meaning → (found : List ℕ) → Environment → M (List Item)
+chosen_from a ms is env = do
   left ← predicates ms env (in_direction a (nodes is))
   come_to (within (in_direction a left))
 
 -- what the step gives from a node
 abbrev pub step_at : Axis → NodeTest → List Meaning → (node : ℕ) → Environment → M (List Item)
-step_at a t ms i env = (seen (looked_at a i) >>= work) >>= (λ _. listed_at a t ms i env)
+step_at a t ms i env = (seen (looked_at a i) >>= work) >>= (λ _. seen (tested_nodes a t i) >>= (λ is. chosen_from a ms is env))

@@ -7,14 +7,14 @@ ghost use Rattle.query_meaning.specs.Operators.{nodes};
 ghost use Rattle.query_meaning.specs.Paths as meaning;
 ghost use Rattle.query_meaning.specs.Running.{trees_of};
 ghost use Rattle.evaluation.specs.Evaluates.{Evaluates};
-ghost use Rattle.evaluation.specs.Gives.{Gives, IsReady, Says};
-ghost use Rattle.query_paths.specs.Steps.{context_node, listed_at, step_at};
+ghost use Rattle.evaluation.specs.Gives.{Gives, IsReady, Says, Stand};
+ghost use Rattle.query_paths.specs.Steps.{chosen_from, context_node, step_at};
 
 use crate::filters::Paths;
 use crate::kept::Kept;
 use evaluation::{Environment, Evaluation, Sequence};
 use query_grammar::{Expr, NodeTest};
-use query_steps::{looked_at, nodes_of_step};
+use query_steps::nodes_of_step;
 use sqlite_items::Items;
 use std::alloc::{AllocError, Global};
 use trees::{Axis, NodeId};
@@ -22,7 +22,7 @@ use values::{Code, Item, ValueFault};
 
 impl<F: Fn(&mut Evaluation, &Expr, &Environment) -> Result<Sequence, ValueFault>> Paths<F> {
     /// `axis::test[a][b]`: the nodes on the axis from the context item that pass the test and that each predicate keeps, in document
-    /// order (XQuery 1.0, section 3.2.1). It takes a unit of work for each node that it looks at, before it lists any. Codes: XPDY0002 where
+    /// order (XQuery 1.0, section 3.2.1). It takes a unit of work for each node that it looks at, before any predicate. Codes: XPDY0002 where
     /// there is no context item; XPTY0020 where it is no node; that of the first predicate that has one; PXQ0002 where no turn or less work is
     /// left, or where more than 10,000 nodes are left.
     pub fn step(
@@ -41,7 +41,7 @@ impl<F: Fn(&mut Evaluation, &Expr, &Environment) -> Result<Sequence, ValueFault>
         self.step_from(run, axis, test, predicates.as_slice(), node, env)
     }
 
-    /// The step from a node, with the work of looking. Code: PXQ0002 where less is left.
+    /// The step from a node: one walk lists the nodes and tells the work of looking. Codes: PXQ0002 where less is left, and those of `step`.
     fn step_from(
         &self,
         run: &mut Evaluation,
@@ -56,27 +56,26 @@ impl<F: Fn(&mut Evaluation, &Expr, &Environment) -> Result<Sequence, ValueFault>
         requires stands { IsSome (find node (trees_of run.old)) }
         ensures { Gives (step_at axis test.now (map mean predicates.now) node env.now) run.old result run.new }
     {
-        run.spend(looked_at(run, axis, node))?;
-        self.listed_from(run, axis, test, predicates, node, env)
+        let listing = nodes_of_step(run, axis, test, node)?;
+        run.spend(listing.looked_at)?;
+        self.chosen_from(run, axis, &listing.nodes, predicates, env)
     }
 
-    /// The same, but for the work of looking.
-    fn listed_from(
+    /// Those of the nodes that it finds, however many, that each predicate keeps.
+    fn chosen_from(
         &self,
         run: &mut Evaluation,
         axis: Axis,
-        test: &NodeTest,
+        found: &[NodeId],
         predicates: &[Expr],
-        node: NodeId,
         env: &Environment,
     ) -> Result<Sequence, ValueFault>
         requires evaluates { Evaluates (F.pre self.now.value_of) (F.post self.now.value_of) predicates.now }
         requires ready { IsReady env.now run.old }
-        requires stands { IsSome (find node (trees_of run.old)) }
-        ensures { Gives (listed_at axis test.now (map mean predicates.now) node env.now) run.old result run.new }
+        requires stand { Stand (nodes found.now) run.old }
+        ensures { Gives (chosen_from axis (map mean predicates.now) found.now env.now) run.old result run.new }
     {
-        let found = nodes_of_step(run, axis, test, node)?;
-        let items = in_direction(run.alloc(), axis, &found)?;
+        let items = in_direction(run.alloc(), axis, found)?;
         let left = self.filtered_by_all(run, items, predicates, env)?;
         turned(axis, left).into_sequence()
     }

@@ -3,7 +3,9 @@ use Prim.Native.Nat.{zero, suc}
 use Rattle.std.proofs.Common.{◌≡◌, ℕ, ◌+◌, ◌≤◌, ◌<◌, Bool, true, false, not, ◌&&◌, ◌||◌, List, [], ◌∷◌, ◌++◌, filter, cond, eqb, refl, ap, sym, ◌∙◌, arith, ⊎_elim, ◌⊎◌, inl, inr, Option, Some, None, IsSome, subst}
 use Rattle.std.proofs.lemmas.Bool.Decides.{eqb_tells}
 use Rattle.std.proofs.lemmas.List.Elements.{filter-append}
+use Rattle.std.proofs.lemmas.List.Sums.{sum_by-cons}
 use Rattle.std.proofs.lemmas.Option.{same_Some}
+use Rattle.data_model.specs.Changes.{pick}
 use Rattle.data_model.specs.Trees.{Trees, no_trees, tree, Content, Place, first, find, find_below, parent_of, children_at, children_of, attributes_at, attributes_of, roots, count, size, height}
 use Rattle.data_model.specs.Order.{identities}
 use Rattle.data_model.specs.Walks.{held, depth_of}
@@ -12,8 +14,9 @@ use Rattle.data_model.specs.declared.axis.Axis.TheVariants.{Descendant, Descenda
 use Rattle.data_model.proofs.Weights.{eqb-same, height-le}
 use Rattle.data_model.proofs.Climbs.{AreDistinct, any-tells, find-absent, find-present, first-some}
 use Rattle.data_model.proofs.Firsts.{held-append, held-identities, identities-tree}
+use Rattle.trees.proofs.CallerLemmas.{picked-place}
 use Rattle.node_table.proofs.Axes.{Among, in-yes, in-held, filter-same, filter-among, parent-lists, listed-parent, child-no-attribute, ancestor-up, ancestor-down}
-use Rattle.query_steps.specs.Below.{levels_below}
+use Rattle.query_steps.specs.Below.{counted_below, levels_below}
 use Rattle.query_steps.proofs.Lists.{same-tests, filter-both, among-later, among-after, among-before, among-same, among-first, among-rest, among-first-filter, in-filter, eqb-turned, and-turned}
 use Rattle.query_steps.proofs.Ancestors.{parent-is, held-once, up}
 
@@ -56,7 +59,7 @@ record Found (ts us : Trees) (a : ℕ) (x : Place) : Type 0 where
   attributes : Places ts (Some a) x.attributes
   children : Places ts (Some a) x.children
   among : Among (a ∷ identities x.attributes ++ identities x.children) (identities us)
-  few : size x.attributes + size x.children ≤ size us
+  few : size x.attributes + size x.children < size us
 
 found-in : (ts : Trees) (p : Option ℕ) (us : Trees) (a : ℕ) (x : Place) → Places ts p us → find_below p a us ≡ Some x → Found ts us a x
 unfolding Places
@@ -110,6 +113,23 @@ walk-is (suc n) ts p (tree c bs cs rest) l h k =
     ap (λ xs. cond l (c.identity ∷ []) [] ++ (xs ++ levels_below n ts true (children_of c.identity ts)) ++ levels_below (suc n) ts l (roots rest)) in_bs
     ∙ ap (λ ys. cond l (c.identity ∷ []) [] ++ (under false bs ++ ys) ++ levels_below (suc n) ts l (roots rest)) in_cs
     ∙ ap (λ zs. cond l (c.identity ∷ []) [] ++ (under false bs ++ under true cs) ++ zs) after
+
+-- the nodes of the lists of a node, which the walk down the levels counts
+abbrev counted_at : ℕ → Trees → ℕ → ℕ
+counted_at n ts i = counted_below n ts (attributes_of i ts) + counted_below n ts (children_of i ts)
+
+-- the walk counts each node of the trees
+walk-counts : (n : ℕ) (ts : Trees) (p : Option ℕ) (us : Trees) → Places ts p us → height us ≤ n → counted_below n ts (roots us) ≡ size us
+unfolding Places
+walk-counts zero ts p no_trees h k = refl
+walk-counts zero ts p (tree c bs cs rest) h k = absurd (omega (arith, k))
+walk-counts (suc n) ts p no_trees h k = refl
+walk-counts (suc n) ts p (tree c bs cs rest) h k =
+    let in_bs : counted_below n ts (attributes_of c.identity ts) ≡ size bs = ap (λ o. counted_below n ts (attributes_at o)) h.0 ∙ walk-counts n ts (Some c.identity) bs h.1 (omega (arith, k)) in
+    let in_cs : counted_below n ts (children_of c.identity ts) ≡ size cs = ap (λ o. counted_below n ts (children_at o)) h.0 ∙ walk-counts n ts (Some c.identity) cs h.2 (omega (arith, k)) in
+    let after = walk-counts (suc n) ts p rest h.3 (omega (arith, k)) in
+    let all = sum_by-cons (counted_at n ts) c.identity (roots rest) in
+    omega (arith, in_bs, in_cs, after, all)
 
 module _ (ts : Trees) (d : AreDistinct ts) where
   -- an ancestor's parent is an ancestor
@@ -280,6 +300,15 @@ module _ (ts : Trees) (d : AreDistinct ts) where
         ∙ ap (λ xs. xs ++ levels_below (size ts) ts true (roots cs)) (walk-is (size ts) ts (Some a) bs false of.attributes few-levels.0)
         ∙ ap (λ xs. under false bs ++ xs) (walk-is (size ts) ts (Some a) cs true of.children few-levels.1)
 
+    -- the nodes of its tree are counted
+    pub all-counted : (1 + counted_at (size ts) ts a ≡ size (pick a ts)) × (size (pick a ts) ≤ size ts)
+    all-counted =
+        let in_bs : counted_below (size ts) ts (attributes_of a ts) ≡ size bs = ap (λ o. counted_below (size ts) ts (attributes_at o)) is ∙ walk-counts (size ts) ts (Some a) bs of.attributes few-levels.0 in
+        let in_cs : counted_below (size ts) ts (children_of a ts) ≡ size cs = ap (λ o. counted_below (size ts) ts (children_at o)) is ∙ walk-counts (size ts) ts (Some a) cs of.children few-levels.1 in
+        let whole : size (pick a ts) ≡ 1 + size bs + size cs + 0 = ap size (picked-place None a ts x d is) in
+        let few = of.few in
+        (omega (arith, in_bs, in_cs, whole), omega (arith, whole, few))
+
     all-among : Among all (identities ts)
     all-among = among-rest a all (identities ts) of.among
 
@@ -316,3 +345,8 @@ descendants-walked ts d a there = let p = some-place (find a ts) there in on-des
 pub descendants-or-self-walked : (ts : Trees) → AreDistinct ts → (a : ℕ) → IsSome (find a ts)
     → on_axis DescendantOrSelf ts a ≡ a ∷ (levels_below (size ts) ts false (attributes_of a ts) ++ levels_below (size ts) ts true (children_of a ts))
 descendants-or-self-walked ts d a there = let p = some-place (find a ts) there in on-descendants-or-self ts d a p.0 p.1
+
+-- the nodes of the tree of a node that stands, which are no more than all nodes
+pub descendants-counted : (ts : Trees) → AreDistinct ts → (a : ℕ) → IsSome (find a ts) → (n : ℕ) (bs cs : List ℕ) → n ≡ size ts → bs ≡ attributes_of a ts → cs ≡ children_of a ts
+    → (1 + (counted_below n ts bs + counted_below n ts cs) ≡ size (pick a ts)) × (size (pick a ts) ≤ n)
+descendants-counted ts d a there n bs cs long of_bs of_cs = let p = some-place (find a ts) there in rw (long, of_bs, of_cs) (all-counted ts d a p.0 p.1)

@@ -3,10 +3,11 @@
 ghost use Rattle.std.specs.Prelude.{◌≡◌, IfOk, IsSome};
 ghost use Rattle.data_model.specs.Trees.{find};
 ghost use Rattle.shelves.specs.Shelf.{shelf_trees};
-ghost use Rattle.query_meaning.specs.Paths.{tested_nodes};
+ghost use Rattle.query_meaning.specs.Paths.{looked_at, tested_nodes};
 ghost use Rattle.query_meaning.specs.Running.{trees_of};
 
 use crate::below::add_descendants;
+use crate::listing::Listing;
 use crate::node_tests::{add_passing, passing};
 use crate::siblings::{following, preceding};
 use evaluation::Evaluation;
@@ -15,16 +16,18 @@ use shelves::Shelf;
 use std::alloc::{AllocError, Global};
 use trees::{Axis, NodeId};
 
-/// The nodes on an axis from a node that pass the test, in document order (XQuery 1.0, section 3.2.1). No other nodes than those of the axis
-/// are looked at, but for the attributes below a node whose descendants are wanted. It fails where memory is refused.
+/// The nodes on an axis from a node that pass the test, in document order (XQuery 1.0, section 3.2.1), and how many nodes were looked at,
+/// whichever of them pass: those on the axis, and where descendants are wanted all of the tree of the node, itself and attributes counted (our
+/// own measure). No others are looked at. It fails where memory is refused.
 pub fn nodes_of_step(
     run: &Evaluation,
     axis: Axis,
     test: &NodeTest,
     node: NodeId,
-) -> Result<Vec<NodeId>, AllocError>
+) -> Result<Listing, AllocError>
     requires stands { IsSome (find node (trees_of run.now)) }
-    ensures { IfOk result (λ v. v.items ≡ tested_nodes axis test.now node (trees_of run.now)) }
+    ensures nodes { IfOk result (λ l. l.nodes.items ≡ tested_nodes axis test.now node (trees_of run.now)) }
+    ensures looked { IfOk result (λ l. l.looked_at ≡ looked_at axis node (trees_of run.now)) }
 {
     let alloc = run.alloc();
     let shelf = run.shelf();
@@ -46,9 +49,10 @@ fn children(
     shelf: &Shelf,
     test: &NodeTest,
     node: NodeId,
-) -> Result<Vec<NodeId>, AllocError>
+) -> Result<Listing, AllocError>
     requires { IsSome (find node (shelf_trees shelf.now)) }
-    ensures { IfOk result (λ v. v.items ≡ tested_nodes Axis.Child test.now node (shelf_trees shelf.now)) }
+    ensures nodes { IfOk result (λ l. l.nodes.items ≡ tested_nodes Axis.Child test.now node (shelf_trees shelf.now)) }
+    ensures looked { IfOk result (λ l. l.looked_at ≡ looked_at Axis.Child node (shelf_trees shelf.now)) }
 {
     shelf.facts();
     passing(alloc, shelf, Axis::Child, test, shelf.children(node))
@@ -59,9 +63,10 @@ fn attributes(
     shelf: &Shelf,
     test: &NodeTest,
     node: NodeId,
-) -> Result<Vec<NodeId>, AllocError>
+) -> Result<Listing, AllocError>
     requires { IsSome (find node (shelf_trees shelf.now)) }
-    ensures { IfOk result (λ v. v.items ≡ tested_nodes Axis.Attribute test.now node (shelf_trees shelf.now)) }
+    ensures nodes { IfOk result (λ l. l.nodes.items ≡ tested_nodes Axis.Attribute test.now node (shelf_trees shelf.now)) }
+    ensures looked { IfOk result (λ l. l.looked_at ≡ looked_at Axis.Attribute node (shelf_trees shelf.now)) }
 {
     shelf.facts();
     passing(alloc, shelf, Axis::Attribute, test, shelf.attributes(node))
@@ -72,14 +77,13 @@ fn itself(
     shelf: &Shelf,
     test: &NodeTest,
     node: NodeId,
-) -> Result<Vec<NodeId>, AllocError>
+) -> Result<Listing, AllocError>
     requires { IsSome (find node (shelf_trees shelf.now)) }
-    ensures { IfOk result (λ v. v.items ≡ tested_nodes Axis.SelfAxis test.now node (shelf_trees shelf.now)) }
+    ensures nodes { IfOk result (λ l. l.nodes.items ≡ tested_nodes Axis.SelfAxis test.now node (shelf_trees shelf.now)) }
+    ensures looked { IfOk result (λ l. l.looked_at ≡ looked_at Axis.SelfAxis node (shelf_trees shelf.now)) }
 {
     shelf.facts();
-    let mut nodes = Vec::new(alloc);
-    add_passing(shelf, Axis::SelfAxis, test, node, &mut nodes)?;
-    Ok(nodes)
+    passing(alloc, shelf, Axis::SelfAxis, test, &[node])
 }
 
 fn parent(
@@ -87,16 +91,16 @@ fn parent(
     shelf: &Shelf,
     test: &NodeTest,
     node: NodeId,
-) -> Result<Vec<NodeId>, AllocError>
+) -> Result<Listing, AllocError>
     requires { IsSome (find node (shelf_trees shelf.now)) }
-    ensures { IfOk result (λ v. v.items ≡ tested_nodes Axis.Parent test.now node (shelf_trees shelf.now)) }
+    ensures nodes { IfOk result (λ l. l.nodes.items ≡ tested_nodes Axis.Parent test.now node (shelf_trees shelf.now)) }
+    ensures looked { IfOk result (λ l. l.looked_at ≡ looked_at Axis.Parent node (shelf_trees shelf.now)) }
 {
     shelf.facts();
-    let mut nodes = Vec::new(alloc);
-    if let Some(parent) = shelf.parent(node) {
-        add_passing(shelf, Axis::Parent, test, parent, &mut nodes)?;
+    match shelf.parent(node) {
+        Some(parent) => passing(alloc, shelf, Axis::Parent, test, &[parent]),
+        None => passing(alloc, shelf, Axis::Parent, test, &[]),
     }
-    Ok(nodes)
 }
 
 /// What stands above a node: found on the way up, and then turned.
@@ -105,19 +109,24 @@ fn ancestors(
     shelf: &Shelf,
     test: &NodeTest,
     node: NodeId,
-) -> Result<Vec<NodeId>, AllocError>
+) -> Result<Listing, AllocError>
     requires { IsSome (find node (shelf_trees shelf.now)) }
-    ensures { IfOk result (λ v. v.items ≡ tested_nodes Axis.Ancestor test.now node (shelf_trees shelf.now)) }
+    ensures nodes { IfOk result (λ l. l.nodes.items ≡ tested_nodes Axis.Ancestor test.now node (shelf_trees shelf.now)) }
+    ensures looked { IfOk result (λ l. l.looked_at ≡ looked_at Axis.Ancestor node (shelf_trees shelf.now)) }
 {
     shelf.facts();
+    // They are no more than all nodes, which a u64 counts.
+    let _all = shelf.len();
     let mut nodes = Vec::new(alloc);
+    let mut looked_at = 0;
     let mut at = node;
     while let Some(parent) = shelf.parent(at) {
         add_passing(shelf, Axis::Ancestor, test, parent, &mut nodes)?;
+        looked_at += 1;
         at = parent;
     }
     nodes.reverse();
-    Ok(nodes)
+    Ok(Listing { nodes, looked_at })
 }
 
 fn descendants(
@@ -125,14 +134,15 @@ fn descendants(
     shelf: &Shelf,
     test: &NodeTest,
     node: NodeId,
-) -> Result<Vec<NodeId>, AllocError>
+) -> Result<Listing, AllocError>
     requires { IsSome (find node (shelf_trees shelf.now)) }
-    ensures { IfOk result (λ v. v.items ≡ tested_nodes Axis.Descendant test.now node (shelf_trees shelf.now)) }
+    ensures nodes { IfOk result (λ l. l.nodes.items ≡ tested_nodes Axis.Descendant test.now node (shelf_trees shelf.now)) }
+    ensures looked { IfOk result (λ l. l.looked_at ≡ looked_at Axis.Descendant node (shelf_trees shelf.now)) }
 {
     shelf.facts();
     let mut nodes = Vec::new(alloc);
-    add_descendants(shelf, Axis::Descendant, test, node, &mut nodes)?;
-    Ok(nodes)
+    let looked_at = add_descendants(shelf, Axis::Descendant, test, node, &mut nodes)?;
+    Ok(Listing { nodes, looked_at })
 }
 
 fn descendants_or_self(
@@ -140,13 +150,14 @@ fn descendants_or_self(
     shelf: &Shelf,
     test: &NodeTest,
     node: NodeId,
-) -> Result<Vec<NodeId>, AllocError>
+) -> Result<Listing, AllocError>
     requires { IsSome (find node (shelf_trees shelf.now)) }
-    ensures { IfOk result (λ v. v.items ≡ tested_nodes Axis.DescendantOrSelf test.now node (shelf_trees shelf.now)) }
+    ensures nodes { IfOk result (λ l. l.nodes.items ≡ tested_nodes Axis.DescendantOrSelf test.now node (shelf_trees shelf.now)) }
+    ensures looked { IfOk result (λ l. l.looked_at ≡ looked_at Axis.DescendantOrSelf node (shelf_trees shelf.now)) }
 {
     shelf.facts();
     let mut nodes = Vec::new(alloc);
     add_passing(shelf, Axis::DescendantOrSelf, test, node, &mut nodes)?;
-    add_descendants(shelf, Axis::DescendantOrSelf, test, node, &mut nodes)?;
-    Ok(nodes)
+    let looked_at = add_descendants(shelf, Axis::DescendantOrSelf, test, node, &mut nodes)?;
+    Ok(Listing { nodes, looked_at })
 }

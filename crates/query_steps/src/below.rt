@@ -1,10 +1,11 @@
 //! The nodes below a node.
 
-ghost use Rattle.std.specs.Prelude.{◌≡◌, ◌++◌, ◌∷◌, [], OnOk, IfOk, IsSome, filter, cond, false, true};
+ghost use Rattle.std.specs.Prelude.{◌≡◌, ◌<◌, ◌^◌, ◌++◌, ◌∷◌, [], OnOk, IfOk, IsSome, filter, cond, false, true};
+ghost use Rattle.data_model.specs.Changes.{pick};
 ghost use Rattle.data_model.specs.Trees.{attributes_of, children_of, find, size};
 ghost use Rattle.shelves.specs.Shelf.{shelf_trees};
 ghost use Rattle.query_meaning.specs.Paths.{passes_at};
-ghost use Rattle.query_steps.specs.Below.{levels_below};
+ghost use Rattle.query_steps.specs.Below.{counted_below, levels_below};
 
 use crate::node_tests::passes;
 use query_grammar::NodeTest;
@@ -50,7 +51,8 @@ fn add_node<'s>(
 }
 
 /// Adds those of a list of nodes and of what stands below them, down to so many levels, that pass the test: the nodes themselves only
-/// if they are listed, and no attributes below them. It goes through attributes too, since something might stand below one.
+/// if they are listed, and no attributes below them. It goes through attributes too, since something might stand below one, and gives how
+/// many nodes it went through.
 fn add_below(
     shelf: &Shelf,
     axis: Axis,
@@ -59,58 +61,62 @@ fn add_below(
     is_listed: bool,
     levels: u64,
     nodes: &mut Vec<NodeId>,
-) -> Result<(), AllocError>
-    ensures { OnOk result
+) -> Result<u64, AllocError>
+    requires { counted_below levels (shelf_trees shelf.now) ids.now < 2 ^ 64 }
+    ensures nodes { OnOk result
         (nodes.new.items
         ≡ nodes.old.items
         ++ filter (λ i. passes_at axis test.now (find i (shelf_trees shelf.now))) (levels_below levels (shelf_trees shelf.now) is_listed ids.now)) }
+    ensures looked { IfOk result (λ n. n ≡ counted_below levels (shelf_trees shelf.now) ids.now) }
 {
     if levels == 0 {
-        return Ok(());
+        return Ok(0);
     }
+    let mut looked = ids.len() as u64;
     for id in ids {
         let lists = add_node(shelf, axis, test, *id, is_listed, nodes)?;
-        add_below(
-            shelf,
-            axis,
-            test,
-            lists.attributes,
-            false,
-            levels - 1,
-            nodes,
-        )?;
-        add_below(shelf, axis, test, lists.children, true, levels - 1, nodes)?;
+        if !lists.attributes.is_empty() {
+            looked += add_below(
+                shelf,
+                axis,
+                test,
+                lists.attributes,
+                false,
+                levels - 1,
+                nodes,
+            )?;
+        }
+        if !lists.children.is_empty() {
+            looked += add_below(shelf, axis, test, lists.children, true, levels - 1, nodes)?;
+        }
     }
-    Ok(())
+    Ok(looked)
 }
 
-/// Adds what stands below a node but attributes, as far as it passes the test. It fails where memory is refused; which nodes are listed
-/// then isn't said.
+/// Adds what stands below a node but attributes, as far as it passes the test, and gives how many nodes the tree of the node has, itself and
+/// attributes counted. It fails where memory is refused; which nodes are listed then isn't said.
 pub(crate) fn add_descendants(
     shelf: &Shelf,
     axis: Axis,
     test: &NodeTest,
     node: NodeId,
     nodes: &mut Vec<NodeId>,
-) -> Result<(), AllocError>
+) -> Result<u64, AllocError>
     requires { IsSome (find node (shelf_trees shelf.now)) }
-    ensures { OnOk result
+    ensures nodes { OnOk result
         (nodes.new.items
         ≡ nodes.old.items
         ++ filter
         (λ i. passes_at axis test.now (find i (shelf_trees shelf.now)))
         (levels_below (size (shelf_trees shelf.now)) (shelf_trees shelf.now) false (attributes_of node (shelf_trees shelf.now))
         ++ levels_below (size (shelf_trees shelf.now)) (shelf_trees shelf.now) true (children_of node (shelf_trees shelf.now)))) }
+    ensures looked { IfOk result (λ n. n ≡ size (pick node (shelf_trees shelf.now))) }
 {
+    shelf.facts();
     let levels = shelf.len();
-    add_below(
-        shelf,
-        axis,
-        test,
-        shelf.attributes(node),
-        false,
-        levels,
-        nodes,
-    )?;
-    add_below(shelf, axis, test, shelf.children(node), true, levels, nodes)
+    let attributes = shelf.attributes(node);
+    let children = shelf.children(node);
+    let in_attributes = add_below(shelf, axis, test, attributes, false, levels, nodes)?;
+    let in_children = add_below(shelf, axis, test, children, true, levels, nodes)?;
+    Ok(1 + in_attributes + in_children)
 }

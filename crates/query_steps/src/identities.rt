@@ -59,7 +59,7 @@ impl Identities {
 }
 
 /// The identities in a list. It fails where memory is refused.
-pub(crate) fn set_of(alloc: Global, nodes: &[NodeId]) -> Result<Identities, AllocError>
+pub fn set_of(alloc: Global, nodes: &[NodeId]) -> Result<Identities, AllocError>
     ensures { IfOk result (λ set. (i : ℕ) → is_in i set ≡ is_in i nodes.now) }
 {
     let mut set = Identities::new(alloc);

@@ -6,12 +6,12 @@
 mod axes;
 mod below;
 mod identities;
+mod listing;
 mod node_tests;
 mod sets;
 mod siblings;
-mod work;
 
 pub use axes::nodes_of_step;
-pub use identities::Identities;
+pub use identities::{Identities, set_of};
+pub use listing::Listing;
 pub use sets::{all_nodes, except, intersect, union};
-pub use work::looked_at;

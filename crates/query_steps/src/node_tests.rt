@@ -1,10 +1,11 @@
 //! Node tests (XQuery 1.0, section 3.2.1.2).
 
-ghost use Rattle.std.specs.Prelude.{◌≡◌, ◌++◌, ◌∷◌, [], IfOk, OnOk, filter};
+ghost use Rattle.std.specs.Prelude.{◌≡◌, ◌++◌, ◌∷◌, [], IfOk, OnOk, filter, length};
 ghost use Rattle.data_model.specs.Trees.{Content, find};
 ghost use Rattle.shelves.specs.Shelf.{shelf_trees};
 ghost use Rattle.query_meaning.specs.Paths.{is_of_kind, is_principal, passes, passes_at};
 
+use crate::listing::Listing;
 use query_grammar::{KindTest, NodeTest};
 use shelves::Shelf;
 use std::alloc::{AllocError, Global};
@@ -75,19 +76,24 @@ pub(crate) fn add_passing(
     Ok(())
 }
 
-/// Those of some nodes that pass the test, in their order. It fails where memory is refused.
+/// Those of some nodes that pass the test, in their order, and how many these are. It fails where memory is refused.
 pub(crate) fn passing(
     alloc: Global,
     shelf: &Shelf,
     axis: Axis,
     test: &NodeTest,
     nodes: &[NodeId],
-) -> Result<Vec<NodeId>, AllocError>
-    ensures { IfOk result (λ v. v.items ≡ filter (λ i. passes_at axis test.now (find i (shelf_trees shelf.now))) nodes.now) }
+) -> Result<Listing, AllocError>
+    ensures nodes { IfOk result
+        (λ l. l.nodes.items ≡ filter (λ i. passes_at axis test.now (find i (shelf_trees shelf.now))) nodes.now) }
+    ensures looked { IfOk result (λ l. l.looked_at ≡ length nodes.now) }
 {
     let mut passing = Vec::new(alloc);
     for node in nodes {
         add_passing(shelf, axis, test, *node, &mut passing)?;
     }
-    Ok(passing)
+    Ok(Listing {
+        nodes: passing,
+        looked_at: nodes.len() as u64,
+    })
 }

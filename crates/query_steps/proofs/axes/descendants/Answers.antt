@@ -8,10 +8,10 @@ use Rattle.query_steps.specs.Below.{levels_below}
 use Rattle.query_steps.proofs.Descendants.{descendants-walked}
 use Rattle.query_steps.proofs.axes.descendants.Goals as goal
 
-pub returns : goal.returns
-returns c =
+pub returns-clause-nodes : goal.returns-clause-nodes
+returns-clause-nodes c =
     let ts = shelf_trees c.args.shelf.now in
     let d = c.facts.ensures.distinct in
     let test : ℕ → Bool = λ j. passes_at Descendant c.args.test.now (find j ts) in
     let walked : List ℕ = levels_below (size ts) ts false (attributes_of c.args.node ts) ++ levels_below (size ts) ts true (children_of c.args.node ts) in
-    c.in_ok-add_descendants.ensures ∙ ap (λ xs. xs ++ filter test walked) c.new-nodes.ensures.items ∙ ap (filter test) (sym (descendants-walked ts d c.args.node c.requires))
+    c.in_ok-looked_at.ensures.nodes ∙ ap (λ xs. xs ++ filter test walked) c.new-nodes.ensures.items ∙ ap (filter test) (sym (descendants-walked ts d c.args.node c.requires))

@@ -9,12 +9,12 @@ use Rattle.query_steps.specs.Below.{levels_below}
 use Rattle.query_steps.proofs.Descendants.{descendants-or-self-walked}
 use Rattle.query_steps.proofs.axes.descendants_or_self.Goals as goal
 
-pub returns : goal.returns
-returns c =
+pub returns-clause-nodes : goal.returns-clause-nodes
+returns-clause-nodes c =
     let ts = shelf_trees c.args.shelf.now in
     let d = c.facts.ensures.distinct in
     let test : ℕ → Bool = λ j. passes_at DescendantOrSelf c.args.test.now (find j ts) in
     let own : List ℕ = c.args.node ∷ [] in
     let walked : List ℕ = levels_below (size ts) ts false (attributes_of c.args.node ts) ++ levels_below (size ts) ts true (children_of c.args.node ts) in
-    c.in_ok-add_descendants.ensures ∙ ap (λ xs. xs ++ filter test walked) (c.in_ok-add_passing.ensures ∙ ap (λ xs. xs ++ filter test own) c.new-nodes.ensures.items)
+    c.in_ok-looked_at.ensures.nodes ∙ ap (λ xs. xs ++ filter test walked) (c.in_ok-add_passing.ensures ∙ ap (λ xs. xs ++ filter test own) c.new-nodes.ensures.items)
     ∙ sym (filter-append test own walked) ∙ ap (filter test) (sym (descendants-or-self-walked ts d c.args.node c.requires))

@@ -1,4 +1,4 @@
-use Rattle.std.proofs.Common.{◌∙◌, ◌++◌, ℕ, Bool, [], ◌∷◌, filter, sym, ap}
+use Rattle.std.proofs.Common.{◌≡◌, ℕ, Bool, List, filter, length, sym, subst, IfOk}
 use Rattle.data_model.specs.Trees.{find}
 use Rattle.data_model.specs.declared.axis.Axis.TheVariants.{SelfAxis}
 use Rattle.shelves.specs.Shelf.{shelf_trees}
@@ -9,6 +9,8 @@ use Rattle.query_steps.proofs.axes.itself.Goals as goal
 pub returns : goal.returns
 returns c =
     let ts = shelf_trees c.args.shelf.now in
-    let d = c.facts.ensures.distinct in
     let test : ℕ → Bool = λ j. passes_at SelfAxis c.args.test.now (find j ts) in
-    c.in_ok-add_passing.ensures ∙ ap (λ xs. xs ++ filter test (c.args.node ∷ [])) c.new-nodes.ensures.items ∙ ap (filter test) (sym (on-self ts d c.args.node c.requires))
+    let P : List ℕ → Type 0 = λ xs. IfOk c.passing.result (λ l. l.nodes.items ≡ filter test xs) in
+    let Q : List ℕ → Type 0 = λ xs. IfOk c.passing.result (λ l. l.looked_at ≡ length xs) in
+    let same = sym (on-self ts c.facts.ensures.distinct c.args.node c.requires) in
+    record { nodes = subst P same c.passing.ensures.nodes; looked = subst Q same c.passing.ensures.looked }

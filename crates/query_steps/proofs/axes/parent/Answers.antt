@@ -1,19 +1,25 @@
-use Rattle.std.proofs.Common.{◌∙◌, ◌++◌, ℕ, Bool, [], ◌∷◌, filter, sym, ap}
+use Rattle.std.proofs.Common.{◌≡◌, ◌∙◌, ℕ, Bool, List, filter, length, sym, subst, IfOk}
 use Rattle.data_model.specs.Trees.{find}
 use Rattle.data_model.specs.declared.axis.Axis.TheVariants.{Parent}
 use Rattle.shelves.specs.Shelf.{shelf_trees}
 use Rattle.query_meaning.specs.Paths.{passes_at}
 use Rattle.query_steps.proofs.Ancestors.{on-parent, on-no-parent}
 use Rattle.query_steps.proofs.axes.parent.Goals as goal
-use Rattle.query_steps.proofs.axes.parent.Goals.{in-Some+in_ok-add_passing, in_default}
 
-pub returns : goal.returns
-returns c =
+pub returns-in-Some : goal.returns-in-Some
+returns-in-Some c =
     let ts = shelf_trees c.args.shelf.now in
-    let d = c.facts.ensures.distinct in
     let test : ℕ → Bool = λ j. passes_at Parent c.args.test.now (find j ts) in
-    elim c.match-parent.branch [
-      | in-Some+in_ok-add_passing w ↦
-          ap (λ v. v.items) w.nodes-is ∙ w.in_ok-add_passing.ensures ∙ ap (λ xs. xs ++ filter test (w.in-Some.parent ∷ [])) c.new-nodes.ensures.items ∙ ap (filter test) (sym (on-parent ts d c.args.node w.in-Some.parent (sym c.parent.ensures ∙ w.in-Some.is)))
-      | in_default w ↦ ap (λ v. v.items) w.nodes-is ∙ c.new-nodes.ensures.items ∙ ap (filter test) (sym (on-no-parent ts d c.args.node (sym c.parent.ensures ∙ w.in_default.is)))
-    ]
+    let P : List ℕ → Type 0 = λ xs. IfOk c.passing.result (λ l. l.nodes.items ≡ filter test xs) in
+    let Q : List ℕ → Type 0 = λ xs. IfOk c.passing.result (λ l. l.looked_at ≡ length xs) in
+    let same = sym (on-parent ts c.facts.ensures.distinct c.args.node c.in-Some.parent (sym c.parent.ensures ∙ c.in-Some.is)) in
+    record { nodes = subst P same c.passing.ensures.nodes; looked = subst Q same c.passing.ensures.looked }
+
+pub returns-in-None : goal.returns-in-None
+returns-in-None c =
+    let ts = shelf_trees c.args.shelf.now in
+    let test : ℕ → Bool = λ j. passes_at Parent c.args.test.now (find j ts) in
+    let P : List ℕ → Type 0 = λ xs. IfOk c.passing-in-None.result (λ l. l.nodes.items ≡ filter test xs) in
+    let Q : List ℕ → Type 0 = λ xs. IfOk c.passing-in-None.result (λ l. l.looked_at ≡ length xs) in
+    let same = sym (on-no-parent ts c.facts.ensures.distinct c.args.node (sym c.parent.ensures ∙ c.in-None.is)) in
+    record { nodes = subst P same c.passing-in-None.ensures.nodes; looked = subst Q same c.passing-in-None.ensures.looked }

@@ -10,7 +10,7 @@ loop-node-preserved c =
     let test : ℕ → Bool = λ i. passes_at c.args.axis c.args.test.now (find i (shelf_trees c.args.shelf.now)) in
     filter-turn test _ _ c.node-item.result _ _ c.loop-node-test.true c.node-item.is c.loop-node.invariant c.in_ok-add_passing.ensures
 
-pub returns : goal.returns
-returns c =
+pub returns-clause-nodes : goal.returns-clause-nodes
+returns-clause-nodes c =
     let test : ℕ → Bool = λ i. passes_at c.args.axis c.args.test.now (find i (shelf_trees c.args.shelf.now)) in
     filter-end test _ _ _ c.loop-node-test.false c.loop-node.invariant

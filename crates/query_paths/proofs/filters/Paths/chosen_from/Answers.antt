@@ -1,0 +1,10 @@
+use Rattle.query_paths.proofs.Directions.{chosen_gives, kept_stand}
+use Rattle.query_paths.proofs.filters.Paths.chosen_from.Goals as goal
+
+pub filtered_by_all-requires-clause-stand : goal.filtered_by_all-requires-clause-stand
+filtered_by_all-requires-clause-stand g c = kept_stand c.args.axis c.args.found.now c.in_ok-items.items c.args.run.now c.requires.stand c.in_ok-items.ensures
+
+pub returns : goal.returns
+returns g c =
+    chosen_gives c.args.axis _ c.args.found.now c.args.env.now c.args.run.now c.filtered_by_all.new.run c.in_ok-items.items c.in_ok-left.left c.turned.result c.into_sequence.result
+    c.in_ok-items.ensures c.in_ok-left.ensures c.turned.ensures c.into_sequence.ensures
