@@ -3,4 +3,5 @@ pub mod Counts
 pub mod Directions
 pub mod Finds
 pub mod Numbers
+pub mod Repeats
 pub mod Work

@@ -1,3 +1,4 @@
 pub mod Gathered
 pub mod Predicates
+pub mod Repeats
 pub mod Steps

@@ -7,9 +7,9 @@ ghost use Rattle.query_meaning.specs.Running.{Run};
 ghost use Rattle.evaluation.specs.Gives.{Gives, GivesIn, Says};
 ghost use Rattle.query_paths.specs.Gathered.{IsFew, IsFewIn, listed};
 
+use crate::distinct::Distinct;
 use crate::kept::Kept;
 use evaluation::{Evaluation, MOST_ITEMS, Sequence};
-use query_steps::Identities;
 use std::alloc::{AllocError, Global};
 use std::marker::Model;
 use trees::NodeId;
@@ -18,13 +18,11 @@ use values::{Atom, Code, Item, ValueFault};
 /// Nodes, each once, and atomic values, in the order in which they were found.
 #[derive(Drop)]
 pub(crate) struct Found {
-    set: Identities,
-    nodes: Vec<NodeId>,
+    nodes: Distinct,
     atoms: Vec<Atom>,
 }
 
 impl Model for Found {
-    ghost use Rattle.std.specs.Prelude.{◌≡◌};
     ghost use Rattle.query_meaning.specs.Paths.{Found as Term};
     ghost use Rattle.query_paths.specs.Gathered.{found_code};
 
@@ -32,9 +30,7 @@ impl Model for Found {
 
     ghost coded = { found_code };
 
-    ghost view = { λ f. record { nodes = f.nodes.items; atoms = f.atoms.items } };
-
-    ghost invariant = { λ f. f.set ≡ f.nodes.items };
+    ghost view = { λ f. record { nodes = f.nodes; atoms = f.atoms.items } };
 }
 
 impl Found {
@@ -43,8 +39,7 @@ impl Found {
         ensures { result ≡ record { nodes = []; atoms = [] } }
     {
         Found {
-            set: Identities::new(alloc),
-            nodes: Vec::new(alloc),
+            nodes: Distinct::new(alloc),
             atoms: Vec::new(alloc),
         }
     }
@@ -84,29 +79,18 @@ impl Found {
     fn with_node(self, node: NodeId) -> Result<Found, AllocError>
         ensures { IfOk result (λ found. found ≡ meaning.and_found self (item.Node node)) }
     {
-        let Found {
-            mut set,
-            mut nodes,
-            atoms,
-        } = self;
-        if !set.has(node) {
-            set.add(node)?;
-            nodes.push(node)?;
-        }
-        Ok(Found { set, nodes, atoms })
+        let Found { nodes, atoms } = self;
+        let nodes = nodes.and(node)?;
+        Ok(Found { nodes, atoms })
     }
 
     /// An atomic value more. It fails where memory is refused.
     fn with_atom(self, atom: Atom) -> Result<Found, AllocError>
         ensures { IfOk result (λ found. found ≡ meaning.and_found self (item.Atomic atom)) }
     {
-        let Found {
-            set,
-            nodes,
-            mut atoms,
-        } = self;
+        let Found { nodes, mut atoms } = self;
         atoms.push(atom)?;
-        Ok(Found { set, nodes, atoms })
+        Ok(Found { nodes, atoms })
     }
 
     /// The same, if it is not too much. Code: PXQ0002 where there are more than 10,000 nodes and values.
@@ -137,10 +121,11 @@ impl Found {
         requires few { IsFew self }
         ensures { Gives (listed mixed self.nodes self.atoms) run.now result run.now }
     {
-        let Found { nodes, atoms, .. } = self;
+        let Found { nodes, atoms } = self;
         if atoms.is_empty() {
             run.shelf().facts();
-            let ordered = run.shelf().document_order(run.alloc(), nodes)?;
+            let found = nodes.into_nodes();
+            let ordered = run.shelf().document_order(run.alloc(), found)?;
             return Kept::of_nodes(run.alloc(), &ordered)?.into_sequence();
         }
         if !nodes.is_empty() {

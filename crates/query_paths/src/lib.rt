@@ -3,6 +3,7 @@
 //! Contracts speak of the definition of what expressions mean: each form gives what its definition comes to by what its parts mean.
 #![tactic(auto)]
 
+mod distinct;
 mod filters;
 mod found;
 mod kept;

@@ -11,13 +11,15 @@ pub returns-then-is_empty : goal.returns-then-is_empty
 returns-then-is_empty c =
     let P : ShelfTerm → Type 0 = λ s. AreDistinct (shelf_trees s) in
     let long = c.self.inside.atoms.ok.0 ∙ ap (λ f. length f.atoms) c.self.view_is in
-    let found = c.in_ok-ordered.ensures ∙ ap (λ s. filter (λ i. is_in i c.self.inside.nodes.items) (identities (shelf_trees s))) c.shelf-then-is_empty.ensures ∙ ap (λ f. filter (λ i. is_in i f.nodes) (identities (trees_of c.args.run.now))) c.self.view_is in
+    let found =
+    c.in_ok-ordered.ensures ∙ ap (λ s. filter (λ i. is_in i c.into_nodes-found.result.items) (identities (shelf_trees s))) c.shelf-then-is_empty.ensures
+    ∙ ap (λ is. filter (λ i. is_in i is) (identities (trees_of c.args.run.now))) (c.into_nodes-found.ensures ∙ ap (λ f. f.nodes) c.self.view_is) in
     nodes_give c.args.mixed c.args.self.nodes c.args.self.atoms c.args.run.now c.in_ok-ordered.ordered.items c.deref.result.now c.in_ok-of_nodes.field-0 c.into_sequence.result
     (subst P c.shelf.ensures c.facts.ensures.distinct) (no_items c.args.self.atoms c.self.inside.atoms.len c.is_empty.result long c.is_empty.ensures c.if-is_empty.true) c.requires.few found c.deref.ensures.value c.in_ok-of_nodes.ensures c.into_sequence.ensures
 
 pub returns : goal.returns
 returns c =
-    let no_nodes = no_items c.args.self.nodes c.self.inside.nodes.len c.is_empty-2.result (c.self.inside.nodes.ok.0 ∙ ap (λ f. length f.nodes) c.self.view_is) c.is_empty-2.ensures c.if-not-is_empty.false in
+    let no_nodes = no_items c.args.self.nodes (length c.self.inside.nodes) c.is_empty-2.result (ap (λ f. length f.nodes) c.self.view_is) c.is_empty-2.ensures c.if-not-is_empty.false in
     let some = some_items c.args.self.atoms c.self.inside.atoms.len c.is_empty.result (c.self.inside.atoms.ok.0 ∙ ap (λ f. length f.atoms) c.self.view_is) c.is_empty.ensures c.if-is_empty.false in
     values_give c.args.mixed c.args.self.nodes c.args.self.atoms c.deref-2.result.now c.args.run.now c.in_ok-of_atoms.field-0 c.into_sequence-2.result
     no_nodes some c.requires.few (c.deref-2.ensures.value ∙ ap (λ f. f.atoms) c.self.view_is) c.in_ok-of_atoms.ensures c.into_sequence-2.ensures
