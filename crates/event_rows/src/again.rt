@@ -5,8 +5,9 @@
 //! earlier events have happened and not this one; then the event happens again. Compared is what the reading calls give: how many messages were
 //! sent, what was told, and of each node what it has learnt. In the end a resend comes to each member, and then it is compared too how far each
 //! node has applied, and what it answers to `doc("db")`: so what a node to which memory was refused has not applied is made up for.
+//! `replies BYTES` does the same, and says too what each member replies to each request that it has learnt.
 
-use super::asking::{MOST_TRIES, answered, shown};
+use super::asking::{MOST_TRIES, answered, push_replies, shown};
 use applications::Application;
 use ballots::Value;
 use event_files::{Command, EventFile, EventFileFault, read_event_file};
@@ -32,15 +33,32 @@ pub(super) fn again<A: Application + Drop>(
     alloc: Global,
     bytes: &[u8],
 ) -> Result<String, RowFault> {
+    happened::<A>(alloc, bytes, false)
+}
+
+/// `replies BYTES`: the same, and what each member replies to each request that it has learnt.
+pub(super) fn replies<A: Application + Drop>(
+    alloc: Global,
+    bytes: &[u8],
+) -> Result<String, RowFault> {
+    happened::<A>(alloc, bytes, true)
+}
+
+/// What comes of an event file, with what the members reply if that is asked for.
+fn happened<A: Application + Drop>(
+    alloc: Global,
+    bytes: &[u8],
+    has_replies: bool,
+) -> Result<String, RowFault> {
     match read_event_file(alloc, bytes) {
-        Ok(file) => play::<A>(alloc, &file),
+        Ok(file) => play::<A>(alloc, &file, has_replies),
         Err(EventFileFault::Line(_)) => Err(RowFault::NotARow),
         Err(EventFileFault::Memory) => Err(RowFault::Memory),
     }
 }
 
 /// The group that an event file names, to which nothing has happened.
-fn opened<A: Application + Drop>(
+pub(super) fn opened<A: Application + Drop>(
     alloc: Global,
     file: &EventFile,
 ) -> Result<World<MemRecords, A>, RowFault> {
@@ -48,14 +66,18 @@ fn opened<A: Application + Drop>(
 }
 
 /// What an event file says happens to both groups.
-fn play<A: Application + Drop>(alloc: Global, file: &EventFile) -> Result<String, RowFault> {
+fn play<A: Application + Drop>(
+    alloc: Global,
+    file: &EventFile,
+    has_replies: bool,
+) -> Result<String, RowFault> {
     let (world, second) = beside(opened::<A>(alloc, file)?, opened::<A>(alloc, file))?;
     let mut pair = Pair::<A> {
         world,
         second,
         delivered: 0,
     };
-    play_to(alloc, &mut pair, file)
+    play_to(alloc, &mut pair, file, has_replies)
 }
 
 /// The same, of two groups to which nothing has happened.
@@ -63,6 +85,7 @@ fn play_to<A: Application + Drop>(
     alloc: Global,
     pair: &mut Pair<A>,
     file: &EventFile,
+    has_replies: bool,
 ) -> Result<String, RowFault> {
     for command in file.commands.iter() {
         if !take(alloc, pair, command)? {
@@ -72,7 +95,11 @@ fn play_to<A: Application + Drop>(
     if !resend(alloc, pair)? || !have_come_alike(alloc, pair)? {
         return Ok(String::from_str(alloc, "not alike")?);
     }
-    shown(alloc, &pair.world)
+    let mut out = shown(alloc, &pair.world)?;
+    if has_replies {
+        push_replies(alloc, &pair.world, &mut out)?;
+    }
+    Ok(out)
 }
 
 /// One command. Gives whether both groups were alike where memory was refused, and after it.

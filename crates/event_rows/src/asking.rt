@@ -4,7 +4,7 @@ ghost use Rattle.std.specs.Prelude.{All};
 ghost use Rattle.event_files.specs.Within.{IsCommandOf};
 
 use applications::Application;
-use ballots::Answer;
+use ballots::{Answer, Reply, Value};
 use event_files::{EventFile, EventFileFault, read_event_file};
 use node::{Node, Reading};
 use paxq_sim::play;
@@ -118,4 +118,45 @@ pub(super) fn shown<R: Records + Drop, A: Application + Drop>(
         }
     }
     Ok(out)
+}
+
+/// Appends for each member, after a bar, what it replies to each request that it has learnt, in the order of positions.
+pub(super) fn push_replies<R: Records + Drop, A: Application + Drop>(
+    alloc: Global,
+    world: &World<R, A>,
+    out: &mut String,
+) -> Result<(), RowFault> {
+    for before in 0..world.members().count() {
+        match world.node(before + 1) {
+            Some(node) => push_replies_of(alloc, node, out)?,
+            None => out.push_str(" | stopped")?,
+        }
+    }
+    Ok(())
+}
+
+/// Appends after a bar what a node replies to each request that it has learnt.
+fn push_replies_of<R: Records + Drop, A: Application + Drop>(
+    alloc: Global,
+    node: &Node<R, A>,
+    out: &mut String,
+) -> Result<(), RowFault> {
+    out.push_str(" | replies")?;
+    for position in 1..=node.prefix() {
+        if let Some(Value::Request(request)) = node.learned(position) {
+            let id = request.id();
+            let reply = node.state().reply_of(id.client, id.number);
+            out.push_str(&reply_text(alloc, reply)?)?;
+        }
+    }
+    Ok(())
+}
+
+/// A reply after a space, or that there is none.
+fn reply_text(alloc: Global, reply: Option<Reply>) -> Result<String, RowFault> {
+    Ok(match reply {
+        Some(Reply::Done(position)) => format!(in alloc; " done {position}")?,
+        Some(Reply::Fault(code, position)) => format!(in alloc; " fault {code} {position}")?,
+        None => String::from_str(alloc, " none")?,
+    })
 }

@@ -4,6 +4,7 @@
 
 mod again;
 mod asking;
+mod going;
 mod reading;
 mod running;
 mod simulating;
@@ -44,6 +45,8 @@ fn result_of(alloc: Global, name: &str, words: &mut Words<'_>) -> Result<String,
         "events" => reading::events(alloc, &bytes_of(alloc, words)?),
         "sim" => simulating::sim::<State>(alloc, &bytes_of(alloc, words)?),
         "again" => again::again::<State>(alloc, &bytes_of(alloc, words)?),
+        "replies" => again::replies::<State>(alloc, &bytes_of(alloc, words)?),
+        "goes" => going::goes::<State>(alloc, &bytes_of(alloc, words)?),
         "asks" => asks(alloc, words),
         "straight" => running::straight::<State>(alloc, words.number()?, words.number()?),
         "runs" => runs(alloc, words),

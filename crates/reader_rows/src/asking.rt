@@ -17,6 +17,9 @@ pub(super) const LEVEL: u8 = 1;
 /// How many questions a reader is asked in turn at most.
 const MOST_ASKS: u64 = 1_000;
 
+/// How often a question comes at most, where memory is refused to it.
+const MOST_TRIES: u32 = 100;
+
 /// A reader of a row.
 pub(super) type RowReader<J> = Reader<State, J>;
 
@@ -74,6 +77,40 @@ pub(super) fn asked<J: Naming + Opening>(
         Ok((answer, position)) => Ok(answer_text(alloc, answer, position)?),
         Err(fault) => fault_text(alloc, fault),
     }
+}
+
+/// `TEXT`: what each reader answers, one after the other, asked again where memory is refused.
+pub(super) fn asked_again<J: Naming + Opening>(
+    alloc: Global,
+    readers: &mut [RowReader<J>],
+    words: &mut Words<'_>,
+) -> Result<String, RowFault> {
+    let text = words.text(alloc)?;
+    let mut out = String::new(alloc);
+    for reader in readers.iter_mut() {
+        if !out.is_empty() {
+            out.push_str(", ")?;
+        }
+        let answer = answered_again(alloc, reader, &text)?;
+        out.push_str(answer.as_str())?;
+    }
+    Ok(out)
+}
+
+/// What a reader answers, asked again where memory is refused. Fault: `Memory`, where it is refused again and again.
+fn answered_again<J: Naming + Opening>(
+    alloc: Global,
+    reader: &mut RowReader<J>,
+    text: &str,
+) -> Result<String, RowFault> {
+    for _ in 0..MOST_TRIES {
+        match reader.ask(alloc, LEVEL, text) {
+            Ok((answer, position)) => return Ok(answer_text(alloc, answer, position)?),
+            Err(ReadFault::Memory) => {}
+            Err(fault) => return fault_text(alloc, fault),
+        }
+    }
+    Err(RowFault::Memory)
 }
 
 /// `READER`: how much a reader has seen.

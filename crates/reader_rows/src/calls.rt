@@ -1,6 +1,6 @@
 //! The calls of a site and of its readers.
 
-use super::asking::{RowReader, asked, index_of, seen, served};
+use super::asking::{RowReader, asked, asked_again, index_of, seen, served};
 use super::meeting::{in_turn, met};
 use super::rounds::{asked_often, kept_busy, published_often};
 use super::submitting::{RowSite, submit_next};
@@ -106,6 +106,7 @@ fn reader_call<J: Naming + Opening>(
     match name {
         "tell" => told(alloc, audience, words),
         "ask" => asked(alloc, &mut audience.readers, words),
+        "again" => asked_again(alloc, &mut audience.readers, words),
         "serve" => served(alloc, &mut audience.readers, words),
         "seen" => seen(alloc, &audience.readers, words),
         "turns" => in_turn(alloc, &mut audience.readers, words),

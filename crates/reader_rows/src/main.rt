@@ -7,7 +7,7 @@
 //! much it has applied and learnt, and how much is published.
 //!
 //! Calls of a reader, by its number: `tell READER` has it learn a note of the last board, `seen READER` says how much it has seen, `ask READER TEXT` asks
-//! it, and `serve READER N TEXT ..` asks it so many questions in turn. `turns TEXT` asks readers 1 and 2 one after the other, and says whether reader 1 could
+//! it, and `serve READER N TEXT ..` asks it so many questions in turn. `again TEXT` asks each reader, again where memory is refused. `turns TEXT` asks readers 1 and 2 one after the other, and says whether reader 1 could
 //! wait for reader 2 after its answer.
 //!
 //! Calls of readers in threads of their own: `meet TEXT` is `turns` in two threads. `watch N EVERY TEXT TEXT TEXT` has all readers ask the last text while the
