@@ -1,8 +1,9 @@
 //! A node's service: it opens, leads where it is told to, and serves.
 
 ghost use Rattle.std.specs.Prelude.{◌≡◌, ◌≤◌, IfOk, if◌then◌else◌};
-ghost use Rattle.serving.specs.Serves.{Passed, WritesFirst, has_brought_beside, told_to_lead, was_given_or_held};
-ghost use Rattle.serving.specs.Serving.{AreTurns};
+ghost use Rattle.server_steps.specs.Going.{Passed, has_brought_beside, told_to_lead, was_given_or_held};
+ghost use Rattle.server_steps.specs.Moves.{AreTurns};
+ghost use Rattle.serving.specs.Serves.{WritesFirst};
 
 use applications::Application;
 use ballots::Setup;
@@ -92,10 +93,10 @@ fn serve_from_the_start<R: FlushRecords + Drop, A: Application + Drop, W: Wire>(
     turns: u64,
     buffer: &mut [u8],
 ) -> Result<u64, ServeFault>
-    ensures took { let start = (if leads then told_to_lead server.old else server.old) in
-        Passed A.has_applied A.meaning R.failed W.Address.eq (was_given_or_held W.was_given) (has_brought_beside W.has_brought) R.stands R.is_kept R.base R.leaves AreTurns result start server.new (start.held, wire.old) (server.new.held, wire.new) }
+    ensures took { let start = (if leads then told_to_lead server.old.server else server.old.server) in
+        Passed A.has_applied A.meaning R.failed W.Address.eq (was_given_or_held W.was_given) (has_brought_beside W.has_brought) R.stands R.is_kept R.base R.leaves AreTurns result start server.new.server (start.held, wire.old) (server.new.server.held, wire.new) }
     ensures most { IfOk result (λ taken. taken ≤ turns) }
-    ensures acknowledged { WritesFirst A.has_applied A.meaning R.failed W.Address.eq W.was_given W.has_brought R.is_kept R.leaves (if leads then told_to_lead server.old else server.old) wire.old wire.new }
+    ensures acknowledged { WritesFirst A.has_applied A.meaning R.failed W.Address.eq W.was_given W.has_brought R.is_kept R.leaves (if leads then told_to_lead server.old.server else server.old.server) wire.old wire.new }
 {
     lead_if(server, leads);
     server.serve(alloc, wire, buffer, turns)
@@ -106,7 +107,8 @@ fn lead_if<R: FlushRecords + Drop, A: Application + Drop, D: Copy + Eq + Drop>(
     server: &mut Server<R, A, D>,
     leads: bool,
 )
-    ensures { server.new ≡ (if leads then told_to_lead server.old else server.old) }
+    ensures server { server.new.server ≡ (if leads then told_to_lead server.old.server else server.old.server) }
+    ensures lags { server.new.lags ≡ server.old.lags }
 {
     if leads {
         server.lead();

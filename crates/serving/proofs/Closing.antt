@@ -1,26 +1,24 @@
--- Steps whose sends are held, beside a wire; and how a round ends.
-use Rattle.std.proofs.Common.{◌≡◌, ℕ, ◌+◌, ◌≤◌, arith, Bool, true, false, List, [], ◌∷◌, ◌++◌, refl, sym, ap, subst, ◌∙◌, inl, inr, append-nil, append_assoc, Option}
+-- How a round ends: what a server did leads to where its record was written.
+use Rattle.std.proofs.Common.{◌≡◌, ℕ, ◌+◌, ◌≤◌, arith, Bool, true, false, List, [], ◌∷◌, ◌++◌, refl, sym, ap, subst, ◌∙◌, inl, inr, append_assoc, Option}
 use Rattle.std.specs.Prelude.{Result, Ok, Err, OnOk, OnErr, IsErr}
 use Rattle.std.proofs.lemmas.Grind.{flat_map-append}
-use Rattle.acceptor.specs.Steps.{Acceptor, FlushFailed, IsAsWas}
+use Rattle.acceptor.specs.Steps.{Acceptor, IsAsWas}
 use Rattle.ballots.specs.declared.value.Value.{Value}
 use Rattle.member.specs.Steps.{Input}
 use Rattle.member.specs.declared.input.Tick.{Tick}
 use Rattle.node.specs.Nodes.{IsUnchanged, Node, Took as NodeTook}
-use Rattle.node.specs.declared.fault.NodeFault.{NodeFault}
-use Rattle.node.specs.declared.fault.NodeFault.TheVariants.{Memory, Spent, Stopped, Store, Stranger, Wire}
 use Rattle.node.specs.declared.outbox.Outbox.{Outbox}
 use Rattle.paxos.specs.Application.{Application}
 use Rattle.paxos.specs.Lists.{Has}
 use Rattle.paxos.specs.Records.{Record}
 use Rattle.paxos.specs.Step.{Effect}
-use Rattle.serving.proofs.Going.{begins_both, goes_both, goes_none, halts_after, halts_at_once}
-use Rattle.serving.specs.Leading.{is_told}
-use Rattle.serving.specs.Refusals.{IsHalted}
-use Rattle.serving.specs.Serves.{AreAny, AreHeld, Goes, GoesOn, Halted, IsGivenNothing, IsWrittenFirst, Passed, Server, Went, WentJustBy, WritesFirst, has_brought_beside, was_given_or_held}
-use Rattle.serving.specs.Serving.{AreDone, AreTurns, Deed, Halts, IsDone, IsTurn, Loses, Move, Moves, Place, Stays, Takes, Ticked, Ticks, Took, TookAgain, came_by, came_with, deeds_of, flush_fails, from_elsewhere, given_in, had_stopped, heard, lost, missed, no_message, no_turn, one_more, seat_after, spent, ticked_so}
-use Rattle.serving.specs.declared.fault.ServeFault.{ServeFault}
-use Rattle.serving.specs.declared.seat.Seat.{Seat}
+use Rattle.server_steps.proofs.Going.{begins_both, goes_both, goes_none, halts_after, halts_at_once}
+use Rattle.server_steps.specs.Leading.{is_told}
+use Rattle.server_steps.specs.Going.{Goes, GoesOn, Halted, IsGivenNothing, Passed, Server, Went, has_brought_beside, was_given_or_held}
+use Rattle.serving.specs.Serves.{IsWrittenFirst, WentJustBy, WritesFirst}
+use Rattle.server_steps.specs.Moves.{AreDone, AreTurns, Deed, Halts, IsDone, IsTurn, Loses, Move, Moves, Place, Stays, Takes, Ticked, Ticks, Took, TookAgain, came_by, came_with, deeds_of, from_elsewhere, given_in, heard, lost, missed, no_message, no_turn, one_more, seat_after, spent, ticked_so}
+use Rattle.server_steps.specs.declared.fault.ServeFault.{ServeFault}
+use Rattle.server_steps.specs.declared.seat.Seat.{Seat}
 use Rattle.wires.specs.Wires.{Carried}
 
 -- a move that leads to another seat
@@ -142,17 +140,6 @@ module _ {R A : Type 0} (has_applied : List (List ℕ) → List Value → A → 
   done_resting eq p before x (m ∷ []) y done some h = (done_staying eq p before x m.deed m.after y m.sent done.0 h, tt)
   done_resting eq p before x (m ∷ n ∷ ms) y done some h = (done.0, done_resting eq p (before ++ came_with m.deed) m.after (n ∷ ms) y done.1 (λ e. cc) h)
 
-  -- where its records were not written, the node has stopped
-  pub write_halts : (stands : R → Record → Record → Type 0) (is_kept : R → Type 0) (base : R → Record → Type 0) (leaves : R → Record → Record → Type 0) (x y : Seat R A) (fault : NodeFault) → IsHalted fault
-      → (fault ≡ Store → FlushFailed base leaves is_kept failed x.node.member.acceptor y.node.member.acceptor) → (fault ≡ Stopped → x.node.member.acceptor.is_stopped ≡ true) → (fault ≡ Stopped → y.node ≡ x.node) → Halts has_applied app failed stands is_kept base leaves x y
-  write_halts stands is_kept base leaves x y Store is store stopped still = flush_fails (store refl)
-  write_halts stands is_kept base leaves x y Stopped is store stopped still =
-      had_stopped (stopped refl) (subst (λ n. IsUnchanged has_applied failed x.node n) (sym (still refl)) (record { setup = refl; acceptor = record { kept = refl; failures = refl }; runs_as = λ u r. r }))
-  write_halts stands is_kept base leaves x y (Wire f) is store stopped still = absurd is
-  write_halts stands is_kept base leaves x y Stranger is store stopped still = absurd is
-  write_halts stands is_kept base leaves x y Memory is store stopped still = absurd is
-  write_halts stands is_kept base leaves x y Spent is store stopped still = absurd is
-
 module _ {R A D : Type 0} (has_applied : List (List ℕ) → List Value → A → Type 0) (app : List (List ℕ) → Application) (failed : R → ℕ) (eq : D → D → Bool) where
   module _ {W : Type 0} (was_given has_brought : W → List (Carried D) → Type 0) where
     -- what shows of the server stays the same, and the wire was given and brought what is no deed: so the last deed led there
@@ -216,45 +203,7 @@ module _ {R A D : Type 0} (has_applied : List (List ℕ) → List Value → A �
     just_by_err (Ok t) ds x z v w stands is_kept base leaves is h = absurd (let e : false ≡ true = is in cc)
     just_by_err (Err e) ds x z v w stands is_kept base leaves is h = inl h
 
-  -- what was given and what is held, where the wire was given nothing
-  pub given_beside : {W : Type 0} (was_given : W → List (Carried D) → Type 0) (h : List (Carried D)) (v w : W) → IsGivenNothing was_given v w → (ds : List (Carried D)) → was_given_or_held was_given (h, v) ds → was_given_or_held was_given (h, w) ds
-  given_beside was_given h v w f ds g = (g.0, f g.0 g.1, g.2)
-
   module _ {W : Type 0} (was_given has_brought : W → List (Carried D) → Type 0) where
-    -- what was held and more was sent is held beside the wire too
-    pub beside : (x y : Server R A D) (h k : List (Carried D)) (u : W) (ds : List (Deed D)) → Goes has_applied app failed eq AreHeld AreAny x y h k ds []
-        → Goes has_applied app failed eq (was_given_or_held was_given) (has_brought_beside has_brought) x y (h, u) (k, u) ds []
-    beside x y h k u ds goes before come =
-        let t = goes before come in
-        record {
-          moves = t.moves;
-          done = t.done;
-          are = t.are;
-          seat = t.seat;
-          place = t.place;
-          told = t.told;
-          waits = t.waits;
-          gives = λ es g. (g.0, g.1, ap (λ l. l ++ given_in t.moves) g.2 ∙ append_assoc g.0 h (given_in t.moves) ∙ ap (λ l. g.0 ++ l) (sym (t.gives h refl)));
-          brings = λ es b. subst (has_brought u) (sym (append-nil es)) b;
-        }
-
-    pub on_beside : (fs : List (Deed D)) (cs : List (Carried D)) (x y : Server R A D) (h k : List (Carried D)) (u : W) → GoesOn has_applied app failed eq AreHeld AreAny fs cs [] x y h k
-        → GoesOn has_applied app failed eq (was_given_or_held was_given) (has_brought_beside has_brought) fs cs [] x y (h, u) (k, u)
-    on_beside fs cs x y h k u on = (on.0, on.1, on.2, beside x y h k u (fs ++ on.0) on.3)
-
-    pub halted_beside : (stands : R → Record → Record → Type 0) (is_kept : R → Type 0) (base : R → Record → Type 0) (leaves : R → Record → Record → Type 0) (x z : Server R A D) (h k : List (Carried D)) (u : W)
-        → Halted has_applied app failed eq AreHeld AreAny stands is_kept base leaves [] x z h k → Halted has_applied app failed eq (was_given_or_held was_given) (has_brought_beside has_brought) stands is_kept base leaves [] x z (h, u) (k, u)
-    halted_beside stands is_kept base leaves x z h k u t = record {
-      last = t.last;
-      wire = (t.wire, u);
-      deeds = t.deeds;
-      begins = t.begins;
-      goes = beside x t.last h t.wire u t.deeds t.goes;
-      halts = t.halts;
-      silent = λ ds g. (g.0, g.1, g.2 ∙ ap (λ l. g.0 ++ l) (sym (t.silent t.wire refl)));
-      idle = λ ds b. b;
-    }
-
     module _ (is_kept : R → Type 0) (leaves : R → Record → Record → Type 0) where
       -- nothing was done at all
       pub first_none : (x : Server R A D) (v : W) → WritesFirst has_applied app failed eq was_given has_brought is_kept leaves x v v

@@ -1,9 +1,1 @@
-pub mod Giving
 pub mod Closing
-pub mod Going
-pub mod HeldLemmas
-pub mod Holding
-pub mod Outcomes
-pub mod Seats
-pub mod SenderLemmas
-pub mod Words

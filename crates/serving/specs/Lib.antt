@@ -1,7 +1,1 @@
-pub mod Addressed
-pub mod Held
-pub mod Hold
-pub mod Leading
-pub mod Refusals
 pub mod Serves
-pub mod Serving

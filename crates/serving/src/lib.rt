@@ -5,17 +5,8 @@
 //! by the wire, and a round waits for no more than its first datagram.
 #![tactic(auto)]
 
-mod fault;
-mod hold;
-mod leading;
-mod place;
-mod requests;
 mod rounds;
-mod seat;
-mod sending;
 mod server;
-mod state;
-mod waiting;
 
-pub use fault::ServeFault;
 pub use server::{MOST_BYTES, Server};
+pub use server_steps::ServeFault;

@@ -1,0 +1,10 @@
+pub mod Beside
+pub mod Giving
+pub mod Going
+pub mod HeldLemmas
+pub mod Holding
+pub mod Keeping
+pub mod Outcomes
+pub mod Seats
+pub mod SenderLemmas
+pub mod Words

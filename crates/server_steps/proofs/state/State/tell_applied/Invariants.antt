@@ -1,0 +1,6 @@
+use Rattle.std.proofs.Common.{[]}
+use Rattle.server_steps.specs.Going.{AreAny, AreHeld, GoesOn, shown}
+use Rattle.server_steps.proofs.state.State.tell_applied.Given as goal
+
+abbrev pub invariant-loop-position : goal.invariant-loop-position
+invariant-loop-position g l = GoesOn g.A.Application.has_applied g.A.Application.meaning g.R.Records.failed g.D.PartialEq.eq AreHeld AreAny [] [] [] (shown l.fn.self) (shown l.self) (shown l.fn.self).held (shown l.self).held

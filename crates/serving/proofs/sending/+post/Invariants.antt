@@ -1,5 +1,0 @@
-use Rattle.std.proofs.Common.{length}
-use Rattle.serving.proofs.sending.+post.Given as goal
-
-abbrev pub decreases-post : goal.decreases-post
-decreases-post g l = length l.sent.now

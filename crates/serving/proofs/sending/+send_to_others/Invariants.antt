@@ -1,4 +1,0 @@
-use Rattle.serving.proofs.sending.+send_to_others.Given as goal
-
-abbrev pub decreases-send_to_others : goal.decreases-send_to_others
-decreases-send_to_others g l = l.count

@@ -1,6 +1,0 @@
-use Rattle.serving.proofs.Going.{on_none}
-use Rattle.serving.specs.Serves.{AreAny, AreHeld}
-use Rattle.serving.proofs.state.State.answer_oldest.Goals as goal
-
-pub returns-in_default : goal.returns-in_default
-returns-in_default g c = on_none {R = g.row.R.Denot} {A = g.row.A.Denot} {D = g.row.D.Denot} g.A.Application.has_applied g.A.Application.meaning g.R.Records.failed g.D.PartialEq.eq AreHeld AreAny _ _

@@ -1,9 +1,0 @@
-use Rattle.std.proofs.Common.{refl, subst}
-use Rattle.paxos.specs.Lists.{Has}
-use Rattle.serving.specs.Held.{held_in}
-use Rattle.serving.proofs.Going.{on_dropping}
-use Rattle.serving.specs.Serves.{AreAny, AreHeld}
-use Rattle.serving.proofs.state.State.place_next.Goals as goal
-
-pub returns-in_default : goal.returns-in_default
-returns-in_default g c = on_dropping {R = g.row.R.Denot} {A = g.row.A.Denot} {D = g.row.D.Denot} g.A.Application.has_applied g.A.Application.meaning g.R.Records.failed g.D.PartialEq.eq AreHeld AreAny _ _ _ refl refl refl (λ e has. subst (λ rs. Has (held_in rs.entries) e) c.take_unplaced.ensures has)
