@@ -2,9 +2,11 @@
 
 use super::failing::FailingDisk;
 use super::memory::{Kind, in_empty};
+use super::nodes;
 use super::opening::{after_statements, first_setup, found};
 use super::results::{both, or_not_a_row};
 use super::using::use_where_connected;
+use applications::Application;
 use ballots::Setup;
 use rows::{RowFault, Words};
 use sqlite::{Connection, FileStore, Files, Options};
@@ -15,7 +17,7 @@ use std::alloc::Global;
 const PROMISE_AND_VOTE: &str = "begin 1 3\naccept 5 3 2";
 
 /// A record of version 1: 2,2 is promised, and voted for the no-op at position 1.
-const FIRST_VERSION: &str =
+pub(super) const FIRST_VERSION: &str =
     "CREATE TABLE meta (id INTEGER PRIMARY KEY CHECK (id = 1), version INTEGER NOT NULL, grp INTEGER NOT NULL, member INTEGER NOT NULL, members INTEGER NOT NULL, docs TEXT NOT NULL, round INTEGER NOT NULL, leader INTEGER NOT NULL) STRICT; CREATE TABLE votes (position INTEGER PRIMARY KEY, round INTEGER NOT NULL, leader INTEGER NOT NULL, value BLOB NOT NULL) STRICT; INSERT INTO meta VALUES (1, 1, 7, 1, 3, 'db', 2, 2); INSERT INTO votes VALUES (1, 2, 2, x'00')";
 
 /// The connection to files, or the files again where there is none.
@@ -38,7 +40,7 @@ struct Written {
 }
 
 /// What a row of that kind says of databases in memory. Fault: `NotARow` where there is no such kind, among others.
-pub(super) fn in_memory<D: FailingDisk>(
+pub(super) fn in_memory<D: FailingDisk, A: Application + Drop>(
     alloc: Global,
     kind: &str,
     words: Words,
@@ -49,6 +51,8 @@ pub(super) fn in_memory<D: FailingDisk>(
         "plays" => on_new_disks::<D>(alloc, Kind::Plays, words),
         "fuse" => fuse::<D>(alloc, words),
         "first" => first::<D>(alloc, words),
+        "node" => node::<D, A>(alloc, words, false),
+        "staged" => node::<D, A>(alloc, words, true),
         "cut" => damaged::<D>(alloc, words, Damage::Cut),
         "changed" => damaged::<D>(alloc, words, Damage::Changed),
         _ => Err(RowFault::NotARow),
@@ -124,6 +128,36 @@ fn first<D: FailingDisk>(alloc: Global, mut words: Words) -> Result<String, RowF
     let written = bytes_of(alloc, &of_first_version::<D>(alloc)?)?;
     let files = files_with::<D>(alloc, &written, log, database)?;
     played_and_found(alloc, files, &calls)
+}
+
+/// What becomes of a node over new records whose log or database fails from a call on, and what is found after. What is written is held back
+/// until a flush, if they are staged.
+fn node<D: FailingDisk, A: Application + Drop>(
+    alloc: Global,
+    mut words: Words,
+    is_staged: bool,
+) -> Result<String, RowFault> {
+    let (log, database) = read_calls_passed(&mut words)?;
+    let calls = words.text(alloc)?;
+    let setup = first_setup(alloc)?;
+    let mut text = String::new(alloc);
+    let files = empty_files::<D>(alloc, log, database)?;
+    let files = used_by_node::<D, A>(alloc, files, &calls, is_staged, &mut text)?;
+    let after = found_after(alloc, files, &setup)?;
+    text.push_str(after.as_str())?;
+    Ok(text)
+}
+
+/// The files after a node's calls, with no more calls under way. The answers are appended. Faults: `Memory`, and `NotARow`.
+fn used_by_node<D: Disk + Drop, A: Application + Drop>(
+    alloc: Global,
+    files: Files<D>,
+    calls: &str,
+    is_staged: bool,
+    answers: &mut String,
+) -> Result<Files<D>, RowFault> {
+    let connected = connected(alloc, files);
+    files_of(nodes::used_where_connected::<A, _, _>(alloc, connected, calls, is_staged, answers))
 }
 
 /// The files of a record of version 1, whose log was copied into the database.

@@ -1,13 +1,15 @@
 //! Databases in real files, which are closed after each step, and opened again.
 
+use super::disks::FIRST_VERSION;
 use super::opening::{after_statements, first_setup, push_standing, read_setup};
-use super::results::or_not_a_row;
+use super::results::of_call;
 use super::using::used;
 use ballots::Setup;
 use rows::{RowFault, Words};
 use sqlite::{Alter, Connection, Error, FileStore};
 use sqlite_disk::Disk;
 use std::alloc::Global;
+use std::{fs, io};
 
 /// What is done with a file between its opening and its closing.
 #[derive(Clone, Copy)]
@@ -40,6 +42,27 @@ fn plays_in(rt: &HostRuntime, name: &str, mut words: Words) -> Result<String, Ro
     }
     take_step(rt, name, &setup, Step::Show, &mut answers)?;
     Ok(answers)
+}
+
+/// What becomes of a new file that is made a record of version 1.
+pub(super) fn in_first(rt: &HostRuntime, mut words: Words) -> Result<String, RowFault> {
+    let name = words.plain()?;
+    remove(rt, name)?;
+    remove(rt, &format!(in rt.alloc(); "{name}-wal")?)?;
+    let setup = first_setup(rt.alloc())?;
+    let mut text = String::new(rt.alloc());
+    take_step(rt, name, &setup, Step::Run(FIRST_VERSION), &mut text)?;
+    plays_in(rt, name, words)
+}
+
+/// Removes a file, if there is one. Faults: `NotARow` where it is not removed, and `Memory`.
+fn remove(rt: &HostRuntime, name: &str) -> Result<(), RowFault> {
+    match fs::remove_file(rt, name) {
+        Ok(()) => Ok(()),
+        Err(error) if error.kind() == io::ErrorKind::NotFound => Ok(()),
+        Err(error) if error.kind() == io::ErrorKind::OutOfMemory => Err(RowFault::Memory),
+        Err(_) => Err(RowFault::NotARow),
+    }
 }
 
 /// What becomes of a file in which statements were run, when it is closed and opened again.
@@ -76,14 +99,14 @@ fn taken<D: Disk + Drop>(
 }
 
 /// The database after a step, if it is to be closed. What the step gives is appended. Faults: `NotARow`, and `Memory`.
-fn after_step<S: Alter + Drop, E: Drop>(
+fn after_step<S: Alter + Drop>(
     alloc: Global,
-    opened: Result<Connection<S>, E>,
+    opened: Result<Connection<S>, Error>,
     setup: &Setup,
     step: Step,
     text: &mut String,
 ) -> Result<Option<Connection<S>>, RowFault> {
-    let connection = or_not_a_row(opened)?;
+    let connection = of_call(opened)?;
     match step {
         Step::Call(call) => Ok(Some(used(alloc, connection, call, setup, text)?)),
         Step::Run(sql) => Ok(Some(after_statements(connection, sql)?)),
@@ -99,7 +122,7 @@ fn closed<D: Disk + Drop>(
     used: Result<Option<Connection<FileStore<D>>>, RowFault>,
 ) -> Result<(), RowFault> {
     match used {
-        Ok(Some(connection)) => or_not_a_row(connection.close()),
+        Ok(Some(connection)) => of_call(connection.close()),
         Ok(None) => Ok(()),
         Err(fault) => Err(fault),
     }

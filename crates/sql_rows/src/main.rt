@@ -6,25 +6,36 @@
 //! connection is opened again. `file NAME plays CALLS` and `file NAME run SQL GROUP MEMBER MEMBERS`: the same over a real file of that name,
 //! which is made where there is none, closed after each call and after the statements, and opened again.
 //!
+//! `again NAME CALLS`: the answers over a new file of that name that is made a record of version 1, and closed after that and after each call;
+//! where memory is refused as its records are opened, they are opened again, as in each of these rows.
+//!
 //! `fuse log COUNT` and `fuse database COUNT`: a promise and a vote over files in memory of which one fails after so many calls, and what is
 //! found then, once with all that was written and once without what was not synced; further words are an acceptor's calls in the place of
-//! these two. `first log COUNT CALLS` and `first database COUNT CALLS`: the same over a record of version 1. `cut log BYTES` and `cut database BYTES`, `changed log AT` and `changed database AT`: what is found where a file is cut after
+//! these two. `first log COUNT CALLS` and `first database COUNT CALLS`: the same over a record of version 1. `node log COUNT CALLS` and
+//! `node database COUNT CALLS`: the same with calls of a node, each in a line of its own (`nodes`), which is opened again over its records
+//! after them; `staged log COUNT CALLS` and `staged database COUNT CALLS` where its records hold back what is written. Its application counts
+//! what is applied.
+//!
+//! `cut log BYTES` and `cut database BYTES`, `changed log AT` and `changed database AT`: what is found where a file is cut after
 //! so many bytes, or the byte at an offset is another one; the database then has its log copied into it, and no log.
 //!
 //! What is generic here is proved once, over any disk; the two kinds of disk, in memory and of the system, are named by one function each.
 #![tactic(auto)]
 
 mod calls;
+mod counting;
 mod disks;
 mod failing;
 mod files;
 mod memory;
+mod nodes;
 mod opening;
 mod results;
 mod using;
 
+use counting::Count;
 use disks::in_memory;
-use files::in_file;
+use files::{in_file, in_first};
 use rows::{Answers, RowFault, Words, run_table};
 use sqlite_disk::{Fuse, Memory};
 use std::alloc::Global;
@@ -49,7 +60,8 @@ impl Answers for DatabaseRows<'_> {
         let mut words = Words::new(row);
         match words.plain()? {
             "file" => in_file(self.rt, words),
-            kind => in_memory::<Fuse<Memory>>(alloc, kind, words),
+            "again" => in_first(self.rt, words),
+            kind => in_memory::<Fuse<Memory>, Count>(alloc, kind, words),
         }
     }
 }

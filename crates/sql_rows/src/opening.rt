@@ -1,7 +1,7 @@
 //! Databases that are opened.
 
 use super::calls::push_votes;
-use super::results::{keeping, or_not_a_row};
+use super::results::{keeping, of_call};
 use ballots::{Setup, SetupFault};
 use document_names::{Names, NamesFault};
 use records::{Record, Records, RecordsFault};
@@ -117,12 +117,24 @@ pub(super) fn refused(alloc: Global, fault: OpenFault) -> Result<String, RowFaul
     Ok(format!(in alloc; "fault {number}")?)
 }
 
-/// The database after statements. Fault: `NotARow` where one fails.
+/// The records in a database, which are opened again where memory is refused.
+pub(super) fn opened_again<S: Alter + Drop>(
+    alloc: Global,
+    connection: Connection<S>,
+    setup: &Setup,
+) -> Result<SqlRecords<S>, (OpenFault, Connection<S>)> {
+    match SqlRecords::open(alloc, connection, setup) {
+        Err((OpenFault::Memory, connection)) => SqlRecords::open(alloc, connection, setup),
+        opened => opened,
+    }
+}
+
+/// The database after statements. Faults: `NotARow` where one fails, and `Memory`.
 pub(super) fn after_statements<S: Alter + Drop>(
     mut connection: Connection<S>,
     sql: &str,
 ) -> Result<Connection<S>, RowFault> {
-    let done = or_not_a_row(connection.execute_batch(sql));
+    let done = of_call(connection.execute_batch(sql));
     keeping(done, connection)
 }
 

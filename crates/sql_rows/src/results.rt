@@ -2,12 +2,23 @@
 //!
 //! These are over any types, so that what is let go is no business of the functions that call them.
 
+use record_writes::is_memory;
 use rows::RowFault;
+use sqlite::Error;
 
 /// The value. Fault: `NotARow` where there is an error.
 pub(super) fn or_not_a_row<T: Drop, E: Drop>(outcome: Result<T, E>) -> Result<T, RowFault> {
     match outcome {
         Ok(value) => Ok(value),
+        Err(_) => Err(RowFault::NotARow),
+    }
+}
+
+/// The value of a call of a connection. Faults: `Memory` where memory was refused, and `NotARow` where there is another error.
+pub(super) fn of_call<T: Drop>(outcome: Result<T, Error>) -> Result<T, RowFault> {
+    match outcome {
+        Ok(value) => Ok(value),
+        Err(error) if is_memory(&error) => Err(RowFault::Memory),
         Err(_) => Err(RowFault::NotARow),
     }
 }

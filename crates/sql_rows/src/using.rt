@@ -1,7 +1,7 @@
 //! Acceptors over databases.
 
 use super::calls::play_all;
-use super::opening::refused;
+use super::opening::{opened_again, refused};
 use super::results::keeping;
 use acceptor::Acceptor;
 use ballots::Setup;
@@ -26,8 +26,8 @@ pub(super) fn use_where_connected<S: Alter + Drop, F: Drop>(
     }
 }
 
-/// Makes an acceptor's calls over a database, and gives it back. The answers are appended, or why there are none. Faults: `NotARow`, and
-/// `Memory`.
+/// Makes an acceptor's calls over a database, whose records are opened again where memory is refused, and gives it back. The answers are
+/// appended, or why there are none. Faults: `NotARow`, and `Memory`.
 pub(super) fn used<S: Alter + Drop>(
     alloc: Global,
     connection: Connection<S>,
@@ -35,7 +35,7 @@ pub(super) fn used<S: Alter + Drop>(
     setup: &Setup,
     answers: &mut String,
 ) -> Result<Connection<S>, RowFault> {
-    match SqlRecords::open(alloc, connection, setup) {
+    match opened_again(alloc, connection, setup) {
         Ok(records) => {
             let loaded = Acceptor::open(alloc, records);
             let records = played(alloc, loaded, calls, answers)?;
@@ -63,7 +63,7 @@ fn played<R: Records + Drop>(
 }
 
 /// Appends a part of an answer.
-fn say(answers: &mut String, part: &str) -> Result<(), RowFault> {
+pub(super) fn say(answers: &mut String, part: &str) -> Result<(), RowFault> {
     answers.push_str(part)?;
     answers.push_str("; ")?;
     Ok(())
