@@ -1,5 +1,6 @@
 -- Trees of a forest that are not among some of it, by their roots, and nodes that are roots.
 use Rattle.std.specs.Prelude.{◌≡◌, ℕ, not, List, None, IsSome}
+use Rattle.std.specs.List.{sum_by}
 use Rattle.data_model.specs.Trees.{Trees, weigh, find, parent_of}
 use Rattle.update_meaning.specs.Changed.{rooted_at, chosen}
 
@@ -11,6 +12,6 @@ others is = chosen (λ c. not (rooted_at is c))
 abbrev pub IsRoot : Trees → ℕ → Type 0
 IsRoot ts i = IsSome (find i ts) × (parent_of i ts ≡ None)
 
--- the same nodes stand in both, in whatever order: what is summed over their identities is the same
-abbrev pub HaveSameNodes : Trees → Trees → Type 0
-HaveSameNodes ts us = (w : ℕ → ℕ) → weigh w ts ≡ weigh w us
+-- the identities of all nodes of the trees, each as often as it stands there, in whatever order: what is summed over them is the same
+abbrev pub AreNodesOf : List ℕ → Trees → Type 0
+AreNodesOf is ts = (w : ℕ → ℕ) → sum_by w is ≡ weigh w ts

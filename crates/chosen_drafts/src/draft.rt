@@ -7,11 +7,12 @@ ghost use Rattle.node_plans.specs.Splices.{spliced};
 ghost use Rattle.data_model.specs.Trees.{find, count, size, append};
 ghost use Rattle.data_model.specs.Views.{Views};
 ghost use Rattle.update_meaning.specs.Changed.{rooted_at, chosen};
-ghost use Rattle.chosen_drafts.specs.Chosen.{HaveSameNodes};
+ghost use Rattle.chosen_drafts.specs.Chosen.{AreNodesOf};
 ghost use Rattle.chosen_drafts.specs.Terms.{hidden, whole_draft};
 
 use super::some_trees::SomeTrees;
 use data_model::{NodeId, NodeView, Part, Tree};
+use indexmap::IndexSet;
 use std::alloc::{AllocError, Global};
 use std::marker::Model;
 use trees::{Draft, Forest, Prepared};
@@ -55,29 +56,22 @@ impl ChosenDraft {
         }
     }
 
-    /// A draft of the trees of these roots alone, in which nothing is changed yet. `trees` are these trees, in any order, and `next` is the identity
-    /// that the next node takes once the draft is settled.
-    ///
-    /// Where memory is refused, it gives the forest as it was.
+    /// A draft of the trees of these roots alone, in which nothing is changed yet. `nodes` are the identities of all nodes of these trees, each once and
+    /// in any order, and `next` is the identity that the next node takes once the draft is settled. It takes no memory.
     pub fn of_roots(
         alloc: Global,
         forest: Forest,
         roots: Vec<NodeId>,
-        trees: &[Tree],
+        nodes: IndexSet<u64>,
         next: NodeId,
-    ) -> Result<ChosenDraft, Forest>
-        requires same { HaveSameNodes (all_of trees.now) (chosen (rooted_at roots.items) forest.trees) }
+    ) -> ChosenDraft
+        requires nodes { AreNodesOf nodes.keys (chosen (rooted_at roots.items) forest.trees) }
         requires later { forest.next ≤ next }
         requires bound { next ≤ 2 ^ 62 }
-        ensures drafted { IfOk result
-            (λ d. d ≡ record { before = forest; after = chosen (rooted_at roots.items) forest.trees; next = next; roots = Some roots.items }) }
-        ensures refused { IfErr result (λ f. f ≡ forest) }
+        ensures { result ≡ record { before = forest; after = chosen (rooted_at roots.items) forest.trees; next = next; roots = Some roots.items } }
     {
-        match SomeTrees::new(alloc, forest, roots, trees, next) {
-            Ok(draft) => Ok(ChosenDraft {
-                shown: Shown::Chosen(draft),
-            }),
-            Err(forest) => Err(forest),
+        ChosenDraft {
+            shown: Shown::Chosen(SomeTrees::new(alloc, forest, roots, nodes, next)),
         }
     }
 

@@ -8,11 +8,11 @@ ghost use Rattle.data_model.specs.Trees.{find, count, size, append};
 ghost use Rattle.data_model.specs.Views.{Views};
 ghost use Rattle.pending.specs.Compatible.{is_among};
 ghost use Rattle.update_meaning.specs.Changed.{rooted_at, chosen};
-ghost use Rattle.chosen_drafts.specs.Chosen.{HaveSameNodes};
+ghost use Rattle.chosen_drafts.specs.Chosen.{AreNodesOf};
 ghost use Rattle.chosen_drafts.specs.Terms.{hidden, whole_draft};
 ghost use Rattle.chosen_drafts.specs.Noting.{Notes};
 
-use data_model::{NodeId, NodeView, Part, Tree, node_count};
+use data_model::{NodeId, NodeView, Part, Tree};
 use indexmap::IndexSet;
 use std::alloc::{AllocError, Global};
 use std::marker::Model;
@@ -45,37 +45,29 @@ impl Model for SomeTrees {
 }
 
 impl SomeTrees {
-    /// A draft of the trees of these roots, in which nothing is changed yet. `trees` are these trees, in any order, and `next` is the identity that
-    /// the next node takes once the draft is settled.
-    ///
-    /// Where memory is refused, it gives the forest as it was.
+    /// A draft of the trees of these roots, in which nothing is changed yet. `nodes` are the identities of all nodes of these trees, each once and in
+    /// any order, and `next` is the identity that the next node takes once the draft is settled. It takes no memory.
     pub(super) fn new(
         alloc: Global,
         forest: Forest,
         roots: Vec<NodeId>,
-        trees: &[Tree],
+        nodes: IndexSet<u64>,
         next: NodeId,
-    ) -> Result<SomeTrees, Forest>
-        requires same { HaveSameNodes (all_of trees.now) (chosen (rooted_at roots.items) forest.trees) }
+    ) -> SomeTrees
+        requires nodes { AreNodesOf nodes.keys (chosen (rooted_at roots.items) forest.trees) }
         requires later { forest.next ≤ next }
         requires bound { next ≤ 2 ^ 62 }
-        ensures drafted { IfOk result
-            (λ d. d ≡ record { before = forest; after = chosen (rooted_at roots.items) forest.trees; next = next; roots = Some roots.items }) }
-        ensures refused { IfErr result (λ f. f ≡ forest) }
+        ensures { result ≡ record { before = forest; after = chosen (rooted_at roots.items) forest.trees; next = next; roots = Some roots.items } }
     {
         forest.facts();
         forest.bounds();
-        let mut nodes = IndexSet::new(alloc);
-        let Ok(()) = note_all(&mut nodes, trees) else {
-            return Err(forest);
-        };
-        let others = forest.len() - node_count(trees);
-        Ok(SomeTrees {
+        let others = forest.len() - nodes.len() as u64;
+        SomeTrees {
             draft: Draft::new(alloc, forest, next),
             roots,
             nodes,
             others,
-        })
+        }
     }
 
     /// What a node of these trees is to say of itself and which nodes are to stand round it; `None` where none of that identity is to stand in them.

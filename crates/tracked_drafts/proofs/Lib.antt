@@ -5,3 +5,5 @@ pub mod Exits
 pub mod Marks
 pub mod Changes
 pub mod Roots
+pub mod Walks
+pub mod Walking

@@ -1,3 +1,4 @@
 pub mod Tests
 pub mod Tracked
 pub mod Inside
+pub mod Walked

@@ -9,12 +9,13 @@ ghost use Rattle.data_model.specs.Views.{Views};
 ghost use Rattle.node_plans.specs.Splices.{spliced};
 ghost use Rattle.node_table.specs.Labels.{get_before};
 ghost use Rattle.pending.specs.Compatible.{is_among, has_repeat};
-ghost use Rattle.chosen_drafts.specs.Chosen.{IsRoot, HaveSameNodes};
+ghost use Rattle.chosen_drafts.specs.Chosen.{IsRoot, AreNodesOf};
 ghost use Rattle.chosen_drafts.specs.Terms.{hidden, whole_draft};
 ghost use Rattle.tracked_drafts.specs.Tests.{AllAmong, Begins, IsStoredBut};
 ghost use Rattle.update_meaning.specs.Changed.{rooted_at, chosen};
 ghost use Rattle.update_meaning.specs.Results.{IsStored};
 
+use crate::nodes::nodes_of;
 use chosen_drafts::ChosenDraft;
 use data_model::{NodeId, NodeView, Part, Tree};
 use indexmap::IndexSet;
@@ -79,18 +80,16 @@ impl TrackedDraft {
             ≡ record { before = forest; after = chosen (rooted_at roots.now) forest.trees; next = next; roots = Some roots.now }) }
         ensures refused { IfErr result (λ f. f ≡ forest) }
     {
-        let Ok(marked) = marked_trees(alloc, &forest, roots) else {
+        let Ok(marked) = marked_nodes(alloc, &forest, roots) else {
             return Err(forest);
         };
         let Marked {
             roots,
-            trees,
+            nodes,
             touched,
         } = marked;
-        match ChosenDraft::of_roots(alloc, forest, roots, &trees, next) {
-            Ok(draft) => Ok(TrackedDraft { draft, touched }),
-            Err(forest) => Err(forest),
-        }
+        let draft = ChosenDraft::of_roots(alloc, forest, roots, nodes, next);
+        Ok(TrackedDraft { draft, touched })
     }
 
     /// What a node is to say of itself and which nodes are to stand round it; `None` where none of that identity is to be seen.
@@ -211,45 +210,30 @@ impl TrackedDraft {
     }
 }
 
-/// Roots of a forest, their trees, and all nodes of these.
+/// Roots of a forest, and twice the nodes of their trees: those that are to be seen, and those that count as touched.
 #[derive(Drop)]
 struct Marked {
     roots: Vec<NodeId>,
-    trees: Vec<Tree>,
+    nodes: IndexSet<u64>,
     touched: IndexSet<u64>,
 }
 
-/// The trees of some roots, with all of their nodes marked.
-fn marked_trees(alloc: Global, forest: &Forest, roots: &[NodeId]) -> Result<Marked, AllocError>
+/// The nodes of the trees of some roots, all of them marked.
+fn marked_nodes(alloc: Global, forest: &Forest, roots: &[NodeId]) -> Result<Marked, AllocError>
     requires distinct { has_repeat roots.now ≡ false }
     requires roots { All (IsRoot forest.now.trees) roots.now }
     ensures roots { IfOk result (λ m. m.roots.items ≡ roots.now) }
-    ensures same { IfOk result (λ m. HaveSameNodes (all_of m.trees.items) (chosen (rooted_at roots.now) forest.now.trees)) }
-    ensures marked { IfOk result (λ m. AllAmong m.touched.keys (all_of m.trees.items)) }
+    ensures nodes { IfOk result (λ m. AreNodesOf m.nodes.keys (chosen (rooted_at roots.now) forest.now.trees)) }
+    ensures marked { IfOk result (λ m. m.touched.keys ≡ m.nodes.keys) }
 {
-    let trees = trees_of(alloc, forest, roots)?;
-    let mut touched = IndexSet::new(alloc);
-    mark_all(&mut touched, &trees)?;
+    let nodes = nodes_of(alloc, forest, roots)?;
+    let touched = nodes.clone()?;
     let roots = roots.to_vec(alloc)?;
     Ok(Marked {
         roots,
-        trees,
+        nodes,
         touched,
     })
-}
-
-/// The trees of some roots, in the order of these.
-fn trees_of(alloc: Global, forest: &Forest, roots: &[NodeId]) -> Result<Vec<Tree>, AllocError>
-    requires distinct { has_repeat roots.now ≡ false }
-    requires roots { All (IsRoot forest.now.trees) roots.now }
-    ensures { IfOk result (λ trees. HaveSameNodes (all_of trees.items) (chosen (rooted_at roots.now) forest.now.trees)) }
-{
-    forest.facts();
-    let mut trees = Vec::new(alloc);
-    for root in roots {
-        trees.push(forest.tree(alloc, *root)?)?;
-    }
-    Ok(trees)
 }
 
 /// Notes that a node is touched.
