@@ -1,22 +1,22 @@
 //! Empty texts go.
 
-ghost use Rattle.std.specs.Prelude.{◌≡◌, [], OnOk, bytes_eq};
+ghost use Rattle.std.specs.Prelude.{◌≡◌, ◌&&◌, [], OnOk, bytes_eq};
 ghost use Rattle.data_model.specs.Trees.{find};
 ghost use Rattle.tracked_drafts.specs.Tests.{Begins};
-ghost use Rattle.update_tidying.specs.Texts.{filled_below, text_at, IsNoTextBelow, IsTextAt, Empties};
+ghost use Rattle.update_tidying.specs.Texts.{filled_below, is_text_at, text_at, IsNoTextBelow, IsTextAt, Empties};
 
 use super::site::{Site, site_of};
 use data_model::NodeId;
 use std::alloc::{AllocError, Global};
 use tracked_drafts::TrackedDraft;
 
-/// Whether a node is to say nothing.
-fn is_empty(draft: &TrackedDraft, id: NodeId) -> bool
-    ensures { result ≡ bytes_eq (text_at (find id draft.now.draft.after)) [] }
+/// Whether a node is to be a text that says nothing. Most nodes are no texts, and for them this is the one look-up.
+fn is_empty_text(draft: &TrackedDraft, id: NodeId) -> bool
+    ensures { result ≡ (is_text_at (find id draft.now.draft.after) && bytes_eq (text_at (find id draft.now.draft.after)) []) }
 {
     match draft.node(id) {
-        Some(view) => view.text.is_empty(),
-        None => true,
+        Some(view) => view.kind.is_text() && view.text.is_empty(),
+        None => false,
     }
 }
 
@@ -27,7 +27,7 @@ fn empty(draft: &mut TrackedDraft, alloc: Global, id: NodeId) -> Result<(), Allo
     ensures touched { Begins draft.old.touched draft.new.touched }
 {
     draft.facts();
-    if !is_empty(draft, id) {
+    if !is_empty_text(draft, id) {
         return Ok(());
     }
     match site_of(draft, id) {
