@@ -43,13 +43,14 @@ class Verdict:
 
 
 class Error:
-    """An error in a proof file: the file's folder, the goal, if one is named, and whether it only misses a name that an edit took away.
+    """An error in a proof file: the path of the file's folder, the goal, if one is named, and whether it only misses a name that an edit took away.
 
-    The folder of what calls itself, and of a cycle of calls, begins with a plus sign, which is left out here.
+    The folder of what calls itself, and of a cycle of calls, begins with a plus sign, which is left out of `folder`.
     """
 
-    def __init__(self, folder, goal, text):
-        self.folder, self.goal = "/".join(it.removeprefix("+") for it in folder.split("/")), goal or text
+    def __init__(self, path, goal, text):
+        self.path, self.folder = path, "/".join(it.removeprefix("+") for it in path.split("/"))
+        self.goal = goal or text
         self.is_of_names = bool(OF_NAMES.search(text))
 
 
@@ -87,6 +88,12 @@ class Said:
         members = [self.verdicts[it] for it in cycle[1] if it in self.verdicts]
         return [goal for it in members for goal in it.goals if goal.startswith(prefix_of(name, cycle))] + goals
 
+    def answers_of(self, name, cycle=()):
+        """Where nothing but hand-written answers no longer fits, the folders and the goals of these; else none."""
+        goals = self.verdicts[name].goals
+        own = [it for it in goals if it.startswith(prefix_of(name, cycle))] if cycle else goals
+        return [] if own else [(it.path, it.goal) for it in self.errors_of(name, cycle) if not it.is_of_names]
+
     def misses_names_only(self, name, cycle=()):
         """Whether all that is said against it is that a proof file names what is gone."""
         errors = self.errors_of(name, cycle)
@@ -98,6 +105,11 @@ class Said:
         folders = {folder_of(it) for it in changed} | {folder_of(name, cycle) for name, cycle in cycles}
         names = [name for name, it in self.verdicts.items() if called(name) not in {*changed, *members} and not it.is_proved() and not it.only_calls()]
         return names + [f"{it.folder}: {it.goal[:80]}" for it in self.errors if it.folder not in folders]
+
+
+def without_answer(text, goal):
+    """The text of a proof file without its answer to a goal, if it has one."""
+    return re.sub(rf"(?ms)^pub {re.escape(goal)} :.*?(?=^(?:pub|abbrev|unfoldable|use|--) |\Z)", "", text)
 
 
 def called(name):
