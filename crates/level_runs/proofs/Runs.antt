@@ -1,5 +1,5 @@
 -- What texts of level 1 do, whatever a copy means.
-use Rattle.std.proofs.Common.{◌≡◌, ℕ, Bool, true, false, cond, if◌then◌else◌, List, [], ◌∷◌, ◌++◌, Result, Ok, Err, refl, ap, subst, sym, ◌∙◌}
+use Rattle.std.proofs.Common.{◌≡◌, ℕ, ◌+◌, Bool, true, false, cond, if◌then◌else◌, List, [], ◌∷◌, ◌++◌, length, Option, Some, None, Result, Ok, Err, refl, ap, subst, sym, ◌∙◌}
 use Rattle.std.proofs.lemmas.List.Elements.{All-nil, All-cons, All-head, All-tail, All-append}
 use Rattle.std.specs.List.{All, list_any}
 use Rattle.std.specs.Str.{chars}
@@ -11,6 +11,8 @@ use Rattle.static_checks.specs.Categories.{judged, is_updating}
 use Rattle.static_checks.specs.Static.{parsed}
 use Rattle.query_meaning.specs.Meaning.{evaluated}
 use Rattle.parser.proofs.Exact.{sound}
+use Rattle.ballots.specs.declared.reply.Reply.{Reply}
+use Rattle.ballots.specs.declared.request.RequestId.{RequestId}
 use Rattle.ballots.specs.declared.value.Value.{Value}
 use Rattle.ballots.specs.declared.value.Value.TheVariants.{NoOp, Request}
 use Rattle.ballots.specs.Replies.{fault}
@@ -19,12 +21,12 @@ use Rattle.requests.specs.Requests as requests
 use Rattle.requests.specs.Requests.{Ran, run, of_evaluated}
 use Rattle.questions.specs.Answers as questions
 use Rattle.questions.specs.Answers.{answer, of_outcome}
-use Rattle.sessions.specs.Meaning.{all_run, new_requests, once, once_after, store_of}
+use Rattle.sessions.specs.Meaning.{all_run, kept_reply, new_requests, once, once_after, reply_after, reply_for, store_of, value_ran}
 use Rattle.sessions.specs.Terms.{id_of, is_of}
 use Rattle.level_laws.specs.Levels.{Copying, evaluated_with}
 use Rattle.level_laws.proofs.Meanings.{same_value}
 use Rattle.level_laws.proofs.Spelt.{in_text}
-use Rattle.level_runs.specs.Runs.{ran_with, run_with, answered_with, answer_with, all_run_with, store_with, IsOfLevelOne}
+use Rattle.level_runs.specs.Runs.{ran_with, run_with, answered_with, answer_with, all_run_with, store_with, value_ran_with, reply_after_with, replies_with, IsOfLevelOne}
 
 module _ (k : Copying) where
   same_evaluation : (text : List ℕ) (x : Expr) (forest : ForestTerm) → parsed 1 text ≡ Ok x → evaluated x forest ≡ evaluated_with k x forest
@@ -75,3 +77,26 @@ module _ (k : Copying) where
   pub same_store : (names : List (List ℕ)) (values : List Value) → All IsOfLevelOne values → store_of names values ≡ store_with k names values
   unfolding store_of store_with
   same_store names values all = all_same (opening_forest names) (once values) (all_once [] values all)
+
+  value_same : (forest : ForestTerm) (v : Value) → IsOfLevelOne v → value_ran forest v ≡ value_ran_with k forest v
+  value_same forest NoOp is = refl
+  value_same forest (Request r) is = one_run forest r is
+
+  -- how a value ends, run after others
+  ending_same : (names : List (List ℕ)) (before : List Value) (v : Value) → All IsOfLevelOne before → IsOfLevelOne v
+      → value_ran (store_of names before) v ≡ value_ran_with k (store_with k names before) v
+  ending_same names before v all is = value_same (store_of names before) v is ∙ ap (λ forest. value_ran_with k forest v) (same_store names before all)
+
+  after_same : (names : List (List ℕ)) (before vs : List Value) (id : RequestId) → All IsOfLevelOne before → All IsOfLevelOne vs
+      → reply_after names before vs id ≡ reply_after_with k names before vs id
+  after_same names before [] id prior all = refl
+  after_same names before (v ∷ vs) id prior all =
+      let is : IsOfLevelOne v = All-head IsOfLevelOne v vs all in
+      let ends = ending_same names before v prior is in
+      let longer = All-append IsOfLevelOne before (v ∷ []) prior (All-cons IsOfLevelOne v [] is (All-nil IsOfLevelOne)) in
+      let rest = after_same names (before ++ v ∷ []) vs id longer (All-tail IsOfLevelOne v vs all) in
+      λ i. cond (is_of id v) (Some (reply_for (ends i).ending (length before + 1))) (rest i)
+
+  pub same_replies : (names : List (List ℕ)) (values : List Value) (id : RequestId) → All IsOfLevelOne values → kept_reply names values id ≡ replies_with k names values id
+  unfolding kept_reply replies_with
+  same_replies names values id all = after_same names [] values id (All-nil IsOfLevelOne) all
