@@ -1,6 +1,6 @@
 -- Adjacent texts that are merged from the left.
-use Rattle.std.proofs.Common.{◌≡◌, ℕ, ◌≤◌, Bool, true, false, ◌&&◌, cond, if◌then◌else◌, nat_le, List, [], ◌∷◌, ◌++◌, length, Ok, Err, refl, ap, sym, ◌∙◌, arith, append_assoc, append-nil, length-append}
-use Rattle.std.specs.Prelude.{filter, not, ◌<◌}
+use Rattle.std.proofs.Common.{◌≡◌, ℕ, ◌+◌, ◌-◌, ◌≤◌, Bool, true, false, ◌&&◌, cond, if◌then◌else◌, nat_le, List, [], ◌∷◌, ◌++◌, length, Ok, Err, refl, ap, sym, ◌∙◌, arith, append_assoc, append-nil, length-append}
+use Rattle.std.specs.Prelude.{filter, not}
 use Rattle.std.proofs.lemmas.Bool.Decides.{nat_tests}
 use Rattle.data_model.specs.Tree.{TreeTerm, all_of, trees_of_tree}
 use Rattle.data_model.specs.Trees.{Trees, no_trees, tree, Content, append, count, is_text}
@@ -75,19 +75,36 @@ both : (b c : Bool) → b && c ≡ true → (b ≡ true) × (c ≡ true)
 both true c e = (refl, e)
 both false c e = cc
 
-pub front_within : (xs : List TreeTerm) (t : TreeTerm) → texts_within most_bytes (all_of (xs ++ t ∷ [])) ≡ true → texts_within most_bytes (all_of xs) ≡ true
-front_within xs t h = (both (texts_within most_bytes (all_of xs)) (nat_le (length t.content.text) most_bytes) (sym (within_last most_bytes xs t) ∙ h)).0
+last_short : (m : ℕ) (xs : List TreeTerm) (l : TreeTerm) → texts_within m (all_of (xs ++ l ∷ [])) ≡ true → (texts_within m (all_of xs) ≡ true) × (nat_le (length l.content.text) m ≡ true)
+last_short m xs l h = both (texts_within m (all_of xs)) (nat_le (length l.content.text) m) (sym (within_last m xs l) ∙ h)
 
-last_within : (xs : List TreeTerm) (t : TreeTerm) (b : Bool) → texts_within most_bytes (all_of xs) ≡ true → nat_le (length t.content.text) most_bytes ≡ b
-    → within_bytes (all_of (xs ++ t ∷ [])) ≡ (if b then Ok (all_of (xs ++ t ∷ [])) else Err PXQ0002)
-last_within xs t b h e =
-    ap (λ c. if c then Ok (all_of (xs ++ t ∷ [])) else Err PXQ0002) (within_last most_bytes xs t ∙ ap (λ c. c && nat_le (length t.content.text) most_bytes) h ∙ e)
+pub last_within : (m : ℕ) (xs : List TreeTerm) (l : TreeTerm) → texts_within m (all_of (xs ++ l ∷ [])) ≡ true → length l.content.text ≤ m
+last_within m xs l h = let short = (last_short m xs l h).1 in grind (arith, nat_tests)
 
-pub fits : (xs ys : List TreeTerm) (t : TreeTerm) → texts_within most_bytes (all_of xs) ≡ true → length t.content.text ≤ most_bytes → ys ≡ xs ++ t ∷ [] → within_bytes (all_of (xs ++ t ∷ [])) ≡ Ok (all_of ys)
-fits xs ys t h short is = last_within xs t true h (grind (arith, nat_tests)) ∙ ap (λ zs. Ok (all_of zs)) (sym is)
+-- with one tree more: its text is the last, or it is merged with the last
+pub within_joined : (m : ℕ) (xs : List TreeTerm) (l t : TreeTerm) → texts_within m (all_of (xs ++ l ∷ [])) ≡ true → is_text l.content.kind && is_text t.content.kind ≡ true
+    → texts_within m (and_merged (all_of (xs ++ l ∷ [])) t) ≡ nat_le (length l.content.text + length t.content.text) m
+within_joined m xs l t h texts =
+    ap (texts_within m) (joins xs l t texts) ∙ within_last m xs (record l { content = record l.content { text = l.content.text ++ t.content.text } })
+    ∙ ap (λ b. b && nat_le (length (l.content.text ++ t.content.text)) m) (last_short m xs l h).0 ∙ ap (λ n. nat_le n m) (length-append l.content.text t.content.text)
 
-pub too_long : (xs : List TreeTerm) (t : TreeTerm) → texts_within most_bytes (all_of xs) ≡ true → most_bytes < length t.content.text → within_bytes (all_of (xs ++ t ∷ [])) ≡ Err PXQ0002
-too_long xs t h long = last_within xs t false h (grind (arith, nat_tests))
+pub within_apart : (m : ℕ) (xs : List TreeTerm) (l t : TreeTerm) → texts_within m (all_of (xs ++ l ∷ [])) ≡ true → is_text l.content.kind && is_text t.content.kind ≡ false
+    → texts_within m (and_merged (all_of (xs ++ l ∷ [])) t) ≡ nat_le (length t.content.text) m
+within_apart m xs l t h apart = ap (texts_within m) (stays_apart xs l t apart) ∙ within_last m (xs ++ l ∷ []) t ∙ ap (λ b. b && nat_le (length t.content.text) m) h
+
+pub within_first : (m : ℕ) (xs : List TreeTerm) (t : TreeTerm) → length xs ≡ 0 → texts_within m (and_merged (all_of xs) t) ≡ nat_le (length t.content.text) m
+within_first m [] t none = within_last m [] t
+within_first m (x ∷ xs) t none = absurd (omega (arith, none))
+
+-- beside a text of that length
+pub fits_beside : (a b l n : ℕ) → a ≡ l → b ≡ n → l ≤ most_bytes → nat_le b (most_bytes - a) ≡ nat_le (l + n) most_bytes
+fits_beside a b l n e f short = of (nat_le b (most_bytes - a)) (nat_le (l + n) most_bytes) refl refl
+  where
+    of : (p q : Bool) → nat_le b (most_bytes - a) ≡ p → nat_le (l + n) most_bytes ≡ q → p ≡ q
+    of true true g h = refl
+    of false false g h = refl
+    of true false g h = absurd (grind (arith, nat_tests))
+    of false true g h = absurd (grind (arith, nat_tests))
 
 -- what is within
 pub within_is : (ts us : Trees) → within_bytes ts ≡ Ok us → (us ≡ ts) × (texts_within most_bytes us ≡ true)

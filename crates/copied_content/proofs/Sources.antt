@@ -2,11 +2,11 @@
 use Rattle.std.specs.Prelude.{◌↔◌, IsTrue, not, nat_eq, length}
 use Rattle.std.proofs.lemmas.Bool.{cases_lt}
 use Rattle.std.proofs.lemmas.Bool.Decides.{nat_tests}
-use Rattle.std.proofs.Common.{⊎_elim, ◌≡◌, ◌≢◌, ℕ, ◌+◌, ◌≤◌, ◌<◌, Bool, true, false, if◌then◌else◌, List, [], ◌∷◌, Option, Some, None, IsSome, refl, ap, sym, ◌∙◌, arith}
+use Rattle.std.proofs.Common.{⊎_elim, ◌≡◌, ◌≢◌, ℕ, ◌+◌, ◌≤◌, ◌<◌, Bool, true, false, if◌then◌else◌, List, [], ◌∷◌, Option, Some, None, IsSome, refl, ap, sym, ◌∙◌, subst, arith}
 use Rattle.data_model.specs.Changes.{pick}
 use Rattle.data_model.specs.Tidy.{is_document}
 use Rattle.data_model.specs.Tree.{TreeTerm, trees_of_tree}
-use Rattle.data_model.specs.Trees.{Trees, no_trees, tree, Place, find, roots, size, attributes_at, IsAt}
+use Rattle.data_model.specs.Trees.{Trees, no_trees, tree, Place, find, roots, size, attributes_at, attributes_of, IsAt}
 use Rattle.data_model.specs.declared.node.Kind.{Kind}
 use Rattle.data_model.specs.declared.node.Kind.TheVariants.{Document, Element, Attribute, Text, Comment, Instruction}
 use Rattle.data_model.proofs.Climbs.{AreDistinct}
@@ -18,6 +18,7 @@ use Rattle.values.specs.Items.{IsThere}
 use Rattle.query_meaning.specs.Content.{source_at}
 use Rattle.query_meaning.specs.Running.{Run, trees_of}
 use Rattle.evaluation.specs.Gives.{Grows}
+use Rattle.copied_content.specs.Copying.{IsPlain}
 
 none_of : (ts : Trees) → roots ts ≡ [] → ts ≡ no_trees
 none_of no_trees e = refl
@@ -69,6 +70,19 @@ bare (x ∷ xs) b is e = absurd (grind (arith, nat_tests))
 pub passes : (b : Bool) (n most size : ℕ) → IsTrue b ↔ (n ≤ most + 1) → n ≡ size + 1 → IsTrue (not b) → most < size
 passes true n most size h e t = cc
 passes false n most size h e t = ⊎_elim (λ l. l) (λ l. (let no : false ≡ true = h.1 (omega (arith, l, e)) in cc)) (cases_lt most size)
+
+pub is_more : (b : Bool) (n most size : ℕ) → IsTrue b ↔ (n ≤ most + 1) → n ≡ size + 1 → most < size → IsTrue (not b)
+is_more true n most size h e over = let within : n ≤ most + 1 = h.0 refl in absurd (omega (arith, within, e, over))
+is_more false n most size h e over = refl
+
+-- a document with attributes
+pub not_plain : (i : ℕ) (ts : Trees) (o : Option Place) (xs : List ℕ) (b : Bool) → find i ts ≡ o → IsAt o (λ c. Document ≡ c.kind) → xs ≡ attributes_of i ts → b ≡ nat_eq (length xs) 0 → b ≡ false → IsPlain i ts → ⊥
+not_plain i ts None xs b found at same is e plain = at
+not_plain i ts (Some x) xs b found at same is e plain =
+    let P : Option Place → Type 0 = λ o. IsAt o (λ c. c.kind ≡ Document → attributes_of i ts ≡ []) in
+    let none : attributes_of i ts ≡ [] = subst P found plain (sym at) in
+    let all : nat_eq (length xs) 0 ≡ true = ap (λ ys. nat_eq (length ys) 0) (same ∙ none) in
+    cc
 
 -- a node still stands
 pub still_there : (x : Item) (old new : Run) → Grows old new → IsThere (trees_of old) x → IsThere (trees_of new) x

@@ -1,8 +1,9 @@
 -- Content that is copied item by item.
-use Rattle.std.specs.Prelude.{ℕ, List, [], ◌∷◌, ◌++◌, refl}
+use Rattle.std.specs.Prelude.{◌≡◌, ℕ, List, [], ◌∷◌, ◌++◌, refl}
 use Rattle.std.specs.Coded.{Coded, code_by, coded×, coded_list}
 use Rattle.data_model.specs.Changes.{renumbered}
-use Rattle.data_model.specs.Trees.{Trees, no_trees, coded_trees, append, find, size}
+use Rattle.data_model.specs.Trees.{Trees, IsAt, no_trees, coded_trees, append, attributes_of, find, size}
+use Rattle.data_model.specs.declared.node.Kind.TheVariants.{Document}
 use Rattle.values.specs.contracts.atom.Atom as of_atom
 use Rattle.values.specs.declared.atom.Atom.{Atom}
 use Rattle.values.specs.declared.atom.Item.{Item}
@@ -17,6 +18,10 @@ numbered us = new_nodes (size us) >>= (λ n. pure (renumbered n us))
 -- a copy of a node, but for its work
 abbrev pub copied_as_new : ℕ → M Trees
 copied_as_new i = seen (λ ts. source_at i ts (find i ts)) >>= numbered
+
+-- if the node is a document, it has no attributes
+abbrev pub IsPlain : ℕ → Trees → Type 0
+IsPlain i ts = IsAt (find i ts) (λ c. c.kind ≡ Document → attributes_of i ts ≡ [])
 
 -- copied content, and the atomic values after it
 pub record Partial : Type 0 where

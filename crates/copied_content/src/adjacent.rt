@@ -1,12 +1,12 @@
 //! Adjacent texts become one, and empty ones go (XQuery 1.0, section 3.7.1.3).
 
-ghost use Rattle.std.specs.Prelude.{◌≡◌, ◌≤◌, ◌&&◌, ◌∷◌, ◌++◌, [], ℕ, true, Ok, IfOk, IfErr};
+ghost use Rattle.std.specs.Prelude.{◌≡◌, ◌≤◌, ◌&&◌, ◌∷◌, ◌++◌, [], ℕ, true, Ok, IfOk, IfErr, length};
 ghost use Rattle.data_model.specs.Tree.{all_of};
 ghost use Rattle.data_model.specs.Trees.{count, is_text};
 ghost use Rattle.pending.specs.Texts.{is_empty_text, texts_within, without_empty_texts};
 ghost use Rattle.data_model.specs.Limits.{most_bytes};
 ghost use Rattle.query_meaning.specs.Content as meaning;
-ghost use Rattle.evaluation.specs.Gives.{Fails, Says};
+ghost use Rattle.evaluation.specs.Gives.{Fails, Judged, Says};
 ghost use Rattle.copied_content.specs.Merging.{and_merged, within_bytes};
 
 use crate::copied::CopiedContent;
@@ -30,34 +30,65 @@ impl CopiedContent {
     }
 }
 
-/// One tree more: the last before it takes in its text, if both are texts. Code: PXQ0002 where a text would be longer than 65,536 bytes.
+/// One tree more: the last before it takes in its text, if both are texts. Faults: `Memory`; `Code` with PXQ0002 where a text would be
+/// longer than 65,536 bytes, whatever memory there is.
 fn and_merged(merged: Vec<Tree>, tree: Tree) -> Result<Vec<Tree>, ValueFault>
     requires within { texts_within most_bytes (all_of merged.items) ≡ true }
     ensures ok { IfOk result (λ more. within_bytes (and_merged (all_of merged.items) tree) ≡ Ok (all_of more.items)) }
     ensures err { IfErr result (λ fault. Fails (within_bytes (and_merged (all_of merged.items) tree)) fault) }
+    ensures judged { Judged (within_bytes (and_merged (all_of merged.items) tree)) result }
 {
-    let mut merged = merged;
-    match merged.pop() {
-        None => and_within(merged, tree),
-        Some(last) => {
-            if are_texts(&last, &tree) {
-                return and_within(merged, with_text_of(last, &tree)?);
+    if !is_within(&merged, &tree) {
+        return Err(ValueFault::Code(Code::PXQ0002));
+    }
+    Ok(merged_with(merged, tree)?)
+}
+
+/// Whether no text is longer than 65,536 bytes once a tree is merged with those before it.
+fn is_within(merged: &[Tree], tree: &Tree) -> bool
+    requires within { texts_within most_bytes (all_of merged.now) ≡ true }
+    ensures { result ≡ texts_within most_bytes (and_merged (all_of merged.now) tree.now) }
+{
+    let length = text_len(tree);
+    match merged.split_last() {
+        None => length <= MOST_BYTES,
+        Some((last, _)) => {
+            if are_texts(last, tree) {
+                return length <= MOST_BYTES - text_len(last);
             }
-            merged.push(last)?;
-            and_within(merged, tree)
+            length <= MOST_BYTES
         }
     }
 }
 
-/// One tree more. Code: PXQ0002 where its text is longer than 65,536 bytes.
-fn and_within(trees: Vec<Tree>, tree: Tree) -> Result<Vec<Tree>, ValueFault>
-    requires within { texts_within most_bytes (all_of trees.items) ≡ true }
-    ensures ok { IfOk result (λ more. within_bytes (all_of (trees.items ++ tree ∷ [])) ≡ Ok (all_of more.items)) }
-    ensures err { IfErr result (λ fault. Fails (within_bytes (all_of (trees.items ++ tree ∷ []))) fault) }
+/// How many bytes the text of the root of a tree has.
+fn text_len(tree: &Tree) -> usize
+    ensures { result ≡ length tree.now.content.text }
 {
-    if tree.content().text.len() > MOST_BYTES {
-        return Err(ValueFault::Code(Code::PXQ0002));
+    tree.content().text.len()
+}
+
+/// One tree more, merged with those before it. It fails where memory is refused.
+fn merged_with(merged: Vec<Tree>, tree: Tree) -> Result<Vec<Tree>, AllocError>
+    ensures { IfOk result (λ more. all_of more.items ≡ and_merged (all_of merged.items) tree) }
+{
+    let mut merged = merged;
+    match merged.pop() {
+        None => and_last(merged, tree),
+        Some(last) => {
+            if are_texts(&last, &tree) {
+                return and_last(merged, with_text_of(last, &tree)?);
+            }
+            merged.push(last)?;
+            and_last(merged, tree)
+        }
     }
+}
+
+/// One tree more. It fails where memory is refused.
+fn and_last(trees: Vec<Tree>, tree: Tree) -> Result<Vec<Tree>, AllocError>
+    ensures { IfOk result (λ more. all_of more.items ≡ all_of (trees.items ++ tree ∷ [])) }
+{
     let mut trees = trees;
     trees.push(tree)?;
     Ok(trees)

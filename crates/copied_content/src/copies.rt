@@ -1,25 +1,20 @@
 //! Copies of nodes.
 
-ghost use Rattle.std.specs.Prelude.{◌≡◌, ◌<◌, ◌^◌, IsSome, IsTrue, IfOk, IfErr};
+ghost use Rattle.std.specs.Prelude.{◌≡◌, ◌<◌, ◌^◌, IsSome, IsTrue, IfOk, IfErr, IsErrOf};
 ghost use Rattle.data_model.specs.Trees.{find, size};
 ghost use Rattle.shelves.specs.Shelf.{shelf_trees};
 ghost use Rattle.query_meaning.specs.Content as meaning;
 ghost use Rattle.query_meaning.specs.Running.{trees_of};
-ghost use Rattle.evaluation.specs.Gives.{Any, Fails, GivesIn};
-ghost use Rattle.copied_content.specs.Copying.{copied_as_new, numbered};
+ghost use Rattle.evaluation.specs.Gives.{Any, Fails, GivesIn, Judged};
+ghost use Rattle.copied_content.specs.Copying.{IsPlain, copied_as_new, numbered};
 
 use crate::copied::CopiedContent;
 use data_model::{node_count, renumber};
 use evaluation::Evaluation;
 use shelves::Shelf;
+use std::alloc::AllocError;
 use trees::{Kind, NodeId};
 use values::{Code, ValueFault};
-
-/// The most new nodes in an evaluation (our own limit).
-const MOST_NODES: u64 = 100_000;
-
-/// The identity after the last that there may be.
-const PAST_IDENTITIES: u64 = 1 << 62;
 
 /// A copy of the tree of a node, or of a document's children, whose nodes take the next identities in document order. It takes the work of
 /// the node's texts. Codes: PXQ0002 where too little work is left, and then nothing is copied; PXQ0003 where the evaluation would have made
@@ -41,20 +36,30 @@ fn copied_as_new(run: &mut Evaluation, node: NodeId) -> Result<CopiedContent, Va
     numbered(run, content)
 }
 
-/// The tree of a node, or a document's children, with their identities. Code: PXQ0003 where the copy would be too large.
-#[tactic(auto, unfolding(query_meaning::specs::Running::most_nodes))]
+/// The tree of a node, or a document's children, with their identities. Faults: `Memory`; `Code` with PXQ0003 where the copy is known to be
+/// too large, whatever memory there is.
 fn sources(run: &Evaluation, node: NodeId) -> Result<CopiedContent, ValueFault>
     requires there { IsSome (find node (trees_of run.now)) }
     ensures ok { IfOk result (λ us. us ≡ meaning.source_at node (trees_of run.now) (find node (trees_of run.now))) }
     ensures few { IfOk result (λ us. size us < 2 ^ 64) }
     ensures err { IfErr result (λ fault. Fails (copied_as_new node run.now) fault) }
+    ensures judged { IsPlain node (trees_of run.now) → Judged (copied_as_new node run.now) result }
+{
+    match run.nodes_left() {
+        Some(left) if !is_too_large(run.shelf(), node, left) => Ok(source(run, node)?),
+        _ => Err(ValueFault::Code(Code::PXQ0003)),
+    }
+}
+
+/// The same. It fails where memory is refused.
+fn source(run: &Evaluation, node: NodeId) -> Result<CopiedContent, AllocError>
+    requires there { IsSome (find node (trees_of run.now)) }
+    ensures ok { IfOk result (λ us. us ≡ meaning.source_at node (trees_of run.now) (find node (trees_of run.now))) }
+    ensures few { IfOk result (λ us. size us < 2 ^ 64) }
 {
     let shelf = run.shelf();
     shelf.facts();
     let _all = shelf.len();
-    if is_too_large(shelf, node, MOST_NODES.saturating_sub(shelf.made())) {
-        return Err(ValueFault::Code(Code::PXQ0003));
-    }
     let tree = shelf.tree(run.alloc(), node)?;
     match shelf.kind(node) {
         Kind::Document => Ok(CopiedContent::of(tree.into_children())),
@@ -66,8 +71,11 @@ fn sources(run: &Evaluation, node: NodeId) -> Result<CopiedContent, ValueFault>
 fn is_too_large(shelf: &Shelf, node: NodeId, most: u64) -> bool
     requires there { IsSome (find node (shelf_trees shelf.now)) }
     requires most { most < 2 ^ 63 }
-    ensures { IsTrue result
+    ensures more { IsTrue result
         → most < size (meaning.source_at node (shelf_trees shelf.now) (find node (shelf_trees shelf.now))) }
+    ensures known { IsPlain node (shelf_trees shelf.now)
+        → most < size (meaning.source_at node (shelf_trees shelf.now) (find node (shelf_trees shelf.now)))
+        → IsTrue result }
 {
     shelf.facts();
     match shelf.kind(node) {
@@ -81,14 +89,11 @@ fn is_too_large(shelf: &Shelf, node: NodeId, most: u64) -> bool
 /// nodes.
 fn numbered(run: &mut Evaluation, content: CopiedContent) -> Result<CopiedContent, ValueFault>
     requires few { size content < 2 ^ 64 }
-    ensures { GivesIn Any (numbered content) run.old result run.new }
+    ensures numbered { GivesIn Any (numbered content) run.old result run.new }
+    ensures judged { IsErrOf result ValueFault.Memory → ⊥ }
 {
     let mut trees = content.into_trees();
     let first = run.new_nodes(node_count(&trees))?;
-    // There are no identities past these, which an evaluation keeps to itself.
-    if run.shelf().next().number() > PAST_IDENTITIES {
-        return Err(ValueFault::Memory);
-    }
     renumber(&mut trees, first.number());
     Ok(CopiedContent::of(trees))
 }

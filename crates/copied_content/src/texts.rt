@@ -2,7 +2,7 @@
 
 ghost use Rattle.std.specs.Prelude.{◌≡◌, IfOk};
 ghost use Rattle.query_meaning.specs.Content as meaning;
-ghost use Rattle.evaluation.specs.Gives.{GivesIn};
+ghost use Rattle.evaluation.specs.Gives.{GivesIn, Judged};
 ghost use Rattle.copied_content.specs.New.{IsNew};
 
 use crate::copied::CopiedContent;
@@ -14,7 +14,8 @@ use values::{ValueFault, text_work};
 /// A new text, which takes its work. Codes: PXQ0002 where too little work is left; PXQ0003 where the evaluation would have made more than
 /// 100,000 nodes.
 pub fn new_text(run: &mut Evaluation, text: &str) -> Result<CopiedContent, ValueFault>
-    ensures { GivesIn (IsNew run.old) (meaning.new_text text.now) run.old result run.new }
+    ensures made { GivesIn (IsNew run.old) (meaning.new_text text.now) run.old result run.new }
+    ensures judged { Judged (meaning.new_text text.now run.old) result }
 {
     run.spend(text_work(text))?;
     let identity = run.new_nodes(1)?;

@@ -4,10 +4,13 @@ use Rattle.values.specs.declared.atom.Item.{Item}
 use Rattle.values.specs.declared.fault.ValueFault.{ValueFault}
 use Rattle.values.specs.declared.fault.ValueFault.TheVariants as fault
 use Rattle.query_meaning.specs.Running.{M, Run, and_then, pure, work, counted, ◌>>=◌}
-use Rattle.evaluation.specs.Gives.{Any, Fails, Gives, GivesIn, Stand}
+use Rattle.evaluation.specs.Gives.{Any, Fails, Gives, GivesIn, Grows, Stand}
 use Rattle.evaluation.proofs.Each.{then_gives}
 
--- what stood stands where nothing but the work that is left is another
+-- nothing is lost where nothing but the work that is left is another
+pub grows_spent : (old new : Run) → new ≡ record old { work = new.work } → Grows old new
+grows_spent old new same = subst (λ run. Grows old run) (sym same) (record { kept = λ i there. there })
+
 pub stand_spent : (items : List Item) (mid new : Run) → new ≡ record mid { work = new.work } → Stand items mid → Stand items new
 stand_spent items mid new same stand = subst (λ run. Stand items run) (sym same) stand
 

@@ -1,5 +1,5 @@
 -- What a function that evaluates ensures.
-use Rattle.std.specs.Prelude.{◌≡◌, ◌==◌, ◌-◌, true, false, ℕ, List, Result, Ok, Err, IsSome}
+use Rattle.std.specs.Prelude.{◌≡◌, ◌==◌, ◌-◌, true, false, ℕ, List, Result, Ok, Err, IsOk, IsSome}
 use Rattle.std.specs.Option.{ForSome}
 use Rattle.std.specs.List.{All}
 use Rattle.data_model.specs.Trees.{find}
@@ -28,6 +28,12 @@ Any a run = Unit {0}
 abbrev pub Fails : {A : Type 0} → Result A Code → ValueFault → Type 0
 Fails outcome fault.Memory = Unit {0}
 Fails outcome (fault.Code code) = outcome ≡ Err code
+
+-- want of memory is answered only where there is no code to answer
+abbrev pub Judged : {A B : Type 0} → Result A Code → Result B ValueFault → Type 0
+Judged outcome (Ok b) = Unit {0}
+Judged outcome (Err fault.Memory) = IsOk outcome
+Judged outcome (Err (fault.Code code)) = Unit {0}
 
 -- what is come to, and in which run; no node is lost, and P holds of what is come to
 abbrev pub GivesIn : {A : Type 0} → (A → Run → Type 0) → M A → Run → Result A ValueFault → Run → Type 0

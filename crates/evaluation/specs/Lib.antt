@@ -1,5 +1,6 @@
 pub mod Around
 pub mod Atoms
+pub mod Bindings
 pub mod Copying
 pub mod Evaluates
 pub mod Gives

@@ -1,6 +1,6 @@
 //! What an evaluation has come to.
 
-ghost use Rattle.std.specs.Prelude.{◌≡◌, ◌≤◌, ◌<◌, ◌^◌, ◌-◌, ℕ, [], length, Ok, Err, IfOk, IfErr, IsSome, IsTrue, OnOk, OnErr, ◌+◌, ◌↔◌, map};
+ghost use Rattle.std.specs.Prelude.{◌≡◌, ◌≤◌, ◌<◌, ◌^◌, ◌-◌, ℕ, [], length, Ok, Err, IfOk, IfErr, IfSome, IfNone, IsSome, IsTrue, OnOk, OnErr, IsErrOf, ◌+◌, ◌↔◌, map};
 ghost use Rattle.data_model.specs.Tree.{trees_of_tree};
 ghost use Rattle.data_model.specs.Changes.{pick};
 ghost use Rattle.data_model.specs.Trees.{count, find, no_trees, size};
@@ -14,7 +14,7 @@ ghost use Rattle.query_meaning.specs.Meaning.{start};
 ghost use Rattle.query_meaning.specs.Operators.{ordering};
 ghost use Rattle.query_meaning.specs.Running.{Run, trees_of, adding, atom, atoms, copying, most_nodes, nodes_of, new_nodes, standing, work};
 ghost use Rattle.evaluation.specs.Copying.{standing_copy};
-ghost use Rattle.evaluation.specs.Gives.{Any, Fails, GivesIn, Says, Stand, Turns};
+ghost use Rattle.evaluation.specs.Gives.{Any, Fails, GivesIn, Judged, Says, Stand, Turns};
 
 use crate::environment::Variables;
 use crate::sequence::Sequence;
@@ -112,6 +112,7 @@ impl<'a> Evaluation<'a> {
         ensures spent { GivesIn Any (work units) self.old result self.new }
         ensures same { self.new ≡ record self.old { work = self.new.work } }
         ensures refused { OnErr result (self.new ≡ self.old) }
+        ensures judged { IsErrOf result ValueFault.Memory → ⊥ }
     {
         match self.work.checked_sub(units) {
             Some(left) => {
@@ -126,6 +127,7 @@ impl<'a> Evaluation<'a> {
     pub fn count(&mut self, items: &Sequence) -> Result<(), ValueFault>
         ensures counted { GivesIn Any (work (1 + length items.now)) self.old result self.new }
         ensures same { self.new ≡ record self.old { work = self.new.work } }
+        ensures judged { IsErrOf result ValueFault.Memory → ⊥ }
     {
         self.spend(1 + items.as_slice().len() as u64)
     }
@@ -134,6 +136,7 @@ impl<'a> Evaluation<'a> {
     pub fn look_for(&mut self, name: &str, variables: &Variables) -> Result<(), ValueFault>
         ensures looked { GivesIn Any (work (looked_at name.now variables.now)) self.old result self.new }
         ensures same { self.new ≡ record self.old { work = self.new.work } }
+        ensures judged { IsErrOf result ValueFault.Memory → ⊥ }
     {
         match variables.without(name, self.work) {
             Some(left) => {
@@ -149,6 +152,7 @@ impl<'a> Evaluation<'a> {
     pub fn order(&mut self, nodes: usize) -> Result<(), ValueFault>
         ensures ordered { GivesIn Any (ordering nodes) self.old result self.new }
         ensures same { self.new ≡ record self.old { work = self.new.work } }
+        ensures judged { IsErrOf result ValueFault.Memory → ⊥ }
     {
         let left = self.work;
         match (nodes.saturating_sub(1) as u64).checked_mul(ORDERING) {
@@ -166,6 +170,7 @@ impl<'a> Evaluation<'a> {
         requires there { IsSome (find node (trees_of self.old)) }
         ensures paid { GivesIn Any (copying node) self.old result self.new }
         ensures same { self.new ≡ record self.old { work = self.new.work } }
+        ensures judged { IsErrOf result ValueFault.Memory → ⊥ }
     {
         // Bytes that do not fill a unit are free.
         let bytes = self.work * BYTES_A_UNIT + (BYTES_A_UNIT - 1);
@@ -199,6 +204,7 @@ impl<'a> Evaluation<'a> {
         requires there { IsThere (trees_of self.old) item.now }
         ensures given { GivesIn Any (atom item.now) self.old result self.new }
         ensures same { self.new ≡ record self.old { work = self.new.work } }
+        ensures judged { Judged (work (nodes_of (trees_of self.old) item.now) self.old) result }
     {
         self.spend(self.nodes_of(item))?;
         let atom = atomize_item(self.alloc, &self.shelf, item)?;
@@ -242,7 +248,8 @@ impl<'a> Evaluation<'a> {
 
     /// Adds a primitive. Faults: `Memory`; `Code` with PXQ0002 where there are 10,000.
     pub fn add(&mut self, primitive: Primitive) -> Result<(), ValueFault>
-        ensures { GivesIn Any (adding (primitive_term primitive)) self.old result self.new }
+        ensures added { GivesIn Any (adding (primitive_term primitive)) self.old result self.new }
+        ensures judged { Judged (adding (primitive_term primitive) self.old) result }
     {
         match self.primitives.push(primitive) {
             Ok(()) => Ok(()),
@@ -291,11 +298,22 @@ impl<'a> Evaluation<'a> {
         self.shelf.put_own(own);
     }
 
+    /// How many new nodes there may still be of the 100,000 of an evaluation; `None` where there are more already.
+    pub fn nodes_left(&self) -> Option<u64>
+        ensures left { IfSome result (λ left. self.now.shelf.own.next + left ≡ self.now.shelf.lent.next + most_nodes) }
+        ensures range { IfSome result (λ left. left ≤ 2 ^ 62) }
+        ensures none { IfNone result (self.now.shelf.lent.next + most_nodes < self.now.shelf.own.next) }
+    {
+        self.most_next.checked_sub(self.shelf.next().number())
+    }
+
     /// So many new nodes: they take the next identities, of which it gives the first. Code: PXQ0003 where the evaluation would have
     /// made more than 100,000; then nothing changes.
     pub fn new_nodes(&mut self, count: u64) -> Result<NodeId, ValueFault>
         ensures made { GivesIn Any (new_nodes count) self.old result self.new }
         ensures refused { OnErr result (self.new ≡ self.old) }
+        ensures room { OnOk result (self.new.shelf.own.next ≤ 2 ^ 62) }
+        ensures judged { IsErrOf result ValueFault.Memory → ⊥ }
     {
         let first = self.shelf.next();
         match first.number().checked_add(count) {
@@ -328,6 +346,7 @@ impl<'a> Evaluation<'a> {
         requires there { IsSome (find node (trees_of self.old)) }
         ensures made { GivesIn Any (copy_of node) self.old result self.new }
         ensures refused { OnErr result (self.new ≡ record self.old { work = self.new.work }) }
+        ensures judged { Judged (copy_of node self.old) result }
     {
         self.pay_copy(node)?;
         self.standing_copy(node)
@@ -338,6 +357,7 @@ impl<'a> Evaluation<'a> {
         requires there { IsSome (find node (trees_of self.old)) }
         ensures made { GivesIn Any (standing_copy node) self.old result self.new }
         ensures refused { OnErr result (self.new ≡ self.old) }
+        ensures judged { Judged (standing_copy node self.old) result }
     {
         if !self.has_room(node) {
             return Err(ValueFault::Code(Code::PXQ0003));
@@ -354,8 +374,8 @@ impl<'a> Evaluation<'a> {
         ensures { IsTrue result
             ↔ (self.now.shelf.own.next + size (pick node (trees_of self.now)) ≤ self.now.shelf.lent.next + most_nodes) }
     {
-        match self.most_next.checked_sub(self.shelf.next().number()) {
-            Some(room) => self.shelf.is_within(node, room),
+        match self.nodes_left() {
+            Some(left) => self.shelf.is_within(node, left),
             None => false,
         }
     }

@@ -8,7 +8,7 @@ ghost use Rattle.values.specs.declared.atom.Item.TheVariants as item;
 ghost use Rattle.fault_codes.specs.declared.code.Code.{Code};
 ghost use Rattle.values.specs.declared.fault.ValueFault.{ValueFault};
 ghost use Rattle.query_meaning.specs.Running.{most_items, within};
-ghost use Rattle.evaluation.specs.Gives.{Says};
+ghost use Rattle.evaluation.specs.Gives.{Judged, Says};
 
 use std::alloc::{AllocError, Global};
 use std::marker::Model;
@@ -96,7 +96,8 @@ impl Sequence {
     /// The items of the one, then those of the other. Faults: `Memory`; `Code` with PXQ0002 where they are more than 10,000.
     #[tactic(auto, unfolding(query_meaning::specs::Running::most_items))]
     pub fn joined(self, other: Sequence) -> Result<Sequence, ValueFault>
-        ensures { Says (within (self ++ other)) result }
+        ensures joined { Says (within (self ++ other)) result }
+        ensures judged { Judged (within (self ++ other)) result }
     {
         let Sequence { mut items } = self;
         let Sequence { items: mut others } = other;
@@ -110,7 +111,8 @@ impl Sequence {
     /// The items, and one more. Faults: `Memory`; `Code` with PXQ0002 where there are 10,000.
     #[tactic(auto, unfolding(query_meaning::specs::Running::most_items))]
     pub fn and(self, item: Item) -> Result<Sequence, ValueFault>
-        ensures { Says (within (self ++ item ∷ [])) result }
+        ensures added { Says (within (self ++ item ∷ [])) result }
+        ensures judged { Judged (within (self ++ item ∷ [])) result }
     {
         let Sequence { mut items } = self;
         if items.len() >= MOST_ITEMS {

@@ -14,11 +14,11 @@ use Rattle.query_meaning.specs.Functions.{all_atoms, at_most_one, at_most_one_ea
 use Rattle.query_meaning.specs.Running.{M, Run, and_then, pure, ◌>>=◌, come_to, each, atoms}
 use Rattle.query_meaning.specs.Strings.{limited, printed}
 use Rattle.evaluation.specs.Gives.{Any, Fails, Gives, Stand}
-use Rattle.evaluation.proofs.Counted.{stand_spent}
+use Rattle.evaluation.proofs.Counted.{grows_spent, stand_spent}
 use Rattle.evaluation.proofs.Each.{Goes, begins, goes_on, stops, ends, then_gives}
 use Rattle.query_calls.specs.declared.strings.ArgumentValues.{ArgumentValues}
 use Rattle.query_calls.specs.Texts.{IsGathered, IsGatheredMore, concatenated_of, is_several}
-use Rattle.query_calls.proofs.Giving.{atoms_fail, gives_same, grows_spent}
+use Rattle.query_calls.proofs.Giving.{atoms_fail, gives_same}
 
 -- the values of one argument after the others
 abbrev pub and_values : ℕ → List (List Atom) → List Item → M (List (List Atom))

@@ -12,7 +12,8 @@ use Rattle.query_meaning.specs.Functions.{all_texts, and_addend, application, ap
 use Rattle.query_meaning.specs.Meaning.{mean}
 use Rattle.query_meaning.specs.Running.{M, Run, and_then, pure, ◌>>=◌, come_to, each, atoms}
 use Rattle.query_meaning.specs.Strings.{limited, one_text, separated}
-use Rattle.evaluation.specs.Gives.{Any, Fails, Gives, GivesIn, Grows, Says, Stand}
+use Rattle.evaluation.specs.Gives.{Any, Fails, Gives, GivesIn, Says, Stand}
+use Rattle.evaluation.proofs.Counted.{grows_spent}
 use Rattle.evaluation.proofs.Each.{grows_refl, then_gives}
 use Rattle.query_calls.specs.Arguments.{AllStand}
 use Rattle.query_calls.specs.Parts.{sum_of}
@@ -24,10 +25,6 @@ pub gives_same : (m q : M (List Item)) (old new : Run) (r : Result (List Item) V
 gives_same m q old new (Ok a) e g = (e ∙ g.0, g.1)
 gives_same m q old new (Err fault.Memory) e g = tt
 gives_same m q old new (Err (fault.Code code)) e g = e ∙ g
-
--- no node is lost where nothing but the work is another
-pub grows_spent : (old new : Run) → new ≡ record old { work = new.work } → Grows old new
-grows_spent old new same = subst (λ run. Grows old run) (sym same) (record { kept = λ i there. there })
 
 -- the typed values of an argument
 pub atoms_give : (items : List Item) (values : List Atom) (old new : Run) → atoms items old ≡ Ok (values, new) → new ≡ record old { work = new.work } → GivesIn Any (atoms items) old (Ok values) new

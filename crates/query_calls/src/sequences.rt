@@ -3,7 +3,7 @@
 ghost use Rattle.std.specs.Prelude.{◌≡◌, ◌<◌, ◌≤◌, ◌∷◌, ◌++◌, [], length, Ok};
 ghost use Rattle.query_meaning.specs.Functions as functions;
 ghost use Rattle.query_meaning.specs.Running.{most_items};
-ghost use Rattle.evaluation.specs.Gives.{Gives, Says};
+ghost use Rattle.evaluation.specs.Gives.{Gives, Judged, Says};
 ghost use Rattle.values.specs.declared.atom.Item.TheVariants as item;
 
 use evaluation::{Evaluation, Sequence};
@@ -26,7 +26,8 @@ pub(crate) fn integer_of(run: &mut Evaluation, value: i64) -> Result<Sequence, V
 
 /// One string that is made, which takes its work. Code: PXQ0002 where less work is left.
 pub(crate) fn string_of(run: &mut Evaluation, text: Text) -> Result<Sequence, ValueFault>
-    ensures { Gives (functions.string text) run.old result run.new }
+    ensures given { Gives (functions.string text) run.old result run.new }
+    ensures judged { Judged (functions.string text run.old) result }
 {
     run.spend(text_work(text.as_str()))?;
     Ok(Sequence::one(run.alloc(), Item::Atomic(Atom::String(text)))?)

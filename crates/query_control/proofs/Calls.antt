@@ -6,7 +6,8 @@ use Rattle.query_grammar.specs.declared.ast.Expr.{Expr}
 use Rattle.query_grammar.specs.declared.ast.SortKey.{SortKey}
 use Rattle.evaluation.specs.Evaluates.{Pre, Post, IsCallable, Evaluates, EvaluatesEach}
 use Rattle.query_control.specs.Evaluates.{EvaluatesFlwor, EvaluatesKept, EvaluatesQuantified}
-use Rattle.query_control.specs.Parts.{source_of, bound_source}
+use Rattle.evaluation.specs.Bindings.{bound_source}
+use Rattle.query_control.specs.Parts.{source_of}
 
 -- the expression of one part
 pub evaluates_at : {A : Type 0} (pre : Pre) (post : Post) (of : A → Expr) (xs : List A) (k : ℕ) (x : A) → EvaluatesEach pre post of xs → k < length xs → x ≡ slice_index_or xs k x

@@ -15,7 +15,8 @@ use Rattle.query_meaning.specs.Sequences.{Meaning, satisfied, tuples, until_deci
 use Rattle.query_meaning.specs.Operators.{chain}
 use Rattle.evaluation.specs.Gives.{Any, Gives, GivesIn, Stand}
 use Rattle.query_control.specs.Operations.{operation_of, operated_in_turn}
-use Rattle.query_control.specs.Parts.{binding_of, clause_of, source_of, for_each_at, satisfied_by}
+use Rattle.evaluation.specs.Bindings.{binding_of}
+use Rattle.query_control.specs.Parts.{clause_of, source_of, for_each_at, satisfied_by}
 use Rattle.evaluation.proofs.Each.{then_gives}
 
 -- a `for` clause with a position

@@ -6,7 +6,8 @@ use Rattle.query_grammar.specs.declared.ast.Clause.{Clause}
 use Rattle.query_grammar.specs.declared.ast.Expr.{Expr}
 use Rattle.query_grammar.specs.declared.ast.SortKey.{SortKey}
 use Rattle.evaluation.specs.Evaluates.{Pre, Post, Evaluates, EvaluatesEach}
-use Rattle.query_control.specs.Parts.{source_of, bound_source, key_in}
+use Rattle.evaluation.specs.Bindings.{bound_source}
+use Rattle.query_control.specs.Parts.{source_of, key_in}
 
 -- the same of the expressions in a FLWOR expression
 pub record EvaluatesFlwor (pre : Pre) (post : Post) (cs : List (Clause Expr)) (o : Option Expr) (x : Expr) : Type 0 where

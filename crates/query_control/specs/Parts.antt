@@ -10,12 +10,10 @@ use Rattle.query_grammar.specs.declared.ast.Quantifier.{Quantifier}
 use Rattle.query_grammar.specs.declared.ast.SortKey.{SortKey}
 use Rattle.query_meaning.specs.Running.{M, ◌>>=◌, come_to, joined, turn, each}
 use Rattle.query_meaning.specs.Environment.{Environment, with_variable}
+use Rattle.evaluation.specs.Bindings.{binding_of}
 use Rattle.query_meaning.specs.Sequences.{Meaning, Tuple, one, satisfied, tuples, keys_in, key_in as key_in_order, and_tuple, kept_tuple, in_sorted_order}
 
 -- what the parts of a part mean
-abbrev pub binding_of : {A : Type 0} → (A → Meaning) → Binding A → Binding Meaning
-binding_of f b = record { variable = b.variable; source = f b.source }
-
 abbrev pub clause_of : {A : Type 0} → (A → Meaning) → Clause A → Clause Meaning
 clause_of f (clause.For b) = clause.For (binding_of f b)
 clause_of f (clause.ForAt b at) = clause.ForAt (binding_of f b) at
@@ -29,9 +27,6 @@ source_of (clause.Let b) = b.source
 
 abbrev pub key_in : {A : Type 0} → SortKey A → A
 key_in k = k.key
-
-abbrev pub bound_source : {A : Type 0} → Binding A → A
-bound_source b = b.source
 
 -- one item of a `for` clause, before the other clauses
 abbrev pub for_one : {S : Type 0} → (variable : List ℕ) → List (Clause Meaning) → (Environment → S → M S) → Environment → S → Item → M S

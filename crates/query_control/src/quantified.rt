@@ -8,6 +8,7 @@ ghost use Rattle.query_meaning.specs.Running.{trees_of};
 ghost use Rattle.query_meaning.specs.Sequences as meaning;
 ghost use Rattle.query_control.specs.Evaluates.{EvaluatesQuantified};
 ghost use Rattle.evaluation.specs.Gives.{Any, Gives, GivesIn, IsReady, Stand};
+ghost use Rattle.evaluation.specs.Bindings.{binding_of};
 ghost use Rattle.query_control.specs.Parts as part;
 
 use crate::flwor::and_item;
@@ -31,7 +32,7 @@ impl<F: Fn(&mut Evaluation, &Expr, &Environment) -> Result<Sequence, ValueFault>
     ) -> Result<Sequence, ValueFault>
         requires quantified { EvaluatesQuantified (F.pre self.now.value_of) (F.post self.now.value_of) bindings.now test.now }
         requires ready { IsReady env.now run.old }
-        ensures { Gives (meaning.quantified quantifier (map (part.binding_of mean) bindings.now) (mean test.now) env.now) run.old result run.new }
+        ensures { Gives (meaning.quantified quantifier (map (binding_of mean) bindings.now) (mean test.now) env.now) run.old result run.new }
     {
         let value = self.satisfied(run, quantifier, bindings.as_slice(), test, env)?;
         Ok(boolean(run, value)?)
@@ -49,7 +50,7 @@ impl<F: Fn(&mut Evaluation, &Expr, &Environment) -> Result<Sequence, ValueFault>
     ) -> Result<bool, ValueFault>
         requires quantified { EvaluatesQuantified (F.pre self.now.value_of) (F.post self.now.value_of) bindings.now test.now }
         requires ready { IsReady env.now run.old }
-        ensures { GivesIn Any (meaning.satisfied quantifier (map (part.binding_of mean) bindings.now) (mean test.now) env.now) run.old result run.new }
+        ensures { GivesIn Any (meaning.satisfied quantifier (map (binding_of mean) bindings.now) (mean test.now) env.now) run.old result run.new }
     {
         let Some((binding, rest)) = bindings.split_first() else {
             return self.holds(run, test.get(), env);
@@ -81,7 +82,7 @@ impl<F: Fn(&mut Evaluation, &Expr, &Environment) -> Result<Sequence, ValueFault>
         requires quantified { EvaluatesQuantified (F.pre self.now.value_of) (F.post self.now.value_of) bindings.now test.now }
         requires ready { IsReady env.now run.old }
         requires items { Stand items.now run.old }
-        ensures { GivesIn Any (meaning.until_decided quantifier (part.satisfied_by quantifier variable.now (map (part.binding_of mean) bindings.now) (mean test.now) env.now) items.now) run.old result run.new }
+        ensures { GivesIn Any (meaning.until_decided quantifier (part.satisfied_by quantifier variable.now (map (binding_of mean) bindings.now) (mean test.now) env.now) items.now) run.old result run.new }
     {
         for item in items {
             let value = self.satisfied_by(run, quantifier, variable, item, bindings, test, env)?;
@@ -107,7 +108,7 @@ impl<F: Fn(&mut Evaluation, &Expr, &Environment) -> Result<Sequence, ValueFault>
         requires quantified { EvaluatesQuantified (F.pre self.now.value_of) (F.post self.now.value_of) bindings.now test.now }
         requires ready { IsReady env.now run.old }
         requires item { IsThere (trees_of run.old) item.now }
-        ensures { GivesIn Any (part.satisfied_by quantifier variable.now (map (part.binding_of mean) bindings.now) (mean test.now) env.now item.now) run.old result run.new }
+        ensures { GivesIn Any (part.satisfied_by quantifier variable.now (map (binding_of mean) bindings.now) (mean test.now) env.now item.now) run.old result run.new }
     {
         run.turn()?;
         let variables = and_item(run, variable, item, env.variables())?;

@@ -1,4 +1,3 @@
-pub mod Bindings
 pub mod Kept
 pub mod Made
 pub mod Steps

@@ -5,7 +5,7 @@ ghost use Rattle.query_meaning.specs.Copies as meaning;
 ghost use Rattle.query_meaning.specs.Meaning.{mean};
 ghost use Rattle.evaluation.specs.Evaluates.{Evaluates, EvaluatesEach};
 ghost use Rattle.evaluation.specs.Gives.{Gives, IsReady};
-ghost use Rattle.query_copies.specs.Bindings.{binding_of, bound_source};
+ghost use Rattle.evaluation.specs.Bindings.{binding_of, bound_source};
 ghost use Rattle.query_copies.specs.Kept.{Adds};
 
 use evaluation::{Environment, Evaluation, Sequence};

@@ -8,7 +8,7 @@ ghost use Rattle.query_meaning.specs.Meaning.{mean};
 ghost use Rattle.query_meaning.specs.Running.{Run, come_to, trees_of};
 ghost use Rattle.evaluation.specs.Evaluates.{Evaluates, EvaluatesEach};
 ghost use Rattle.evaluation.specs.Gives.{Any, GivesIn, IsReady};
-ghost use Rattle.query_copies.specs.Bindings.{binding_of, bound_source};
+ghost use Rattle.evaluation.specs.Bindings.{binding_of, bound_source};
 ghost use Rattle.query_copies.specs.Kept.{AreCopies, IsCopy};
 ghost use Rattle.query_copies.specs.Steps.{copied};
 

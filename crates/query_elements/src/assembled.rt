@@ -1,6 +1,6 @@
 //! New nodes with copied content.
 
-ghost use Rattle.std.specs.Prelude.{◌≡◌, IfOk};
+ghost use Rattle.std.specs.Prelude.{◌≡◌, IfOk, IsErrOf};
 ghost use Rattle.data_model.specs.Tree.{trees_of_tree};
 ghost use Rattle.query_meaning.specs.Constructors as meaning;
 ghost use Rattle.query_meaning.specs.Content.{unless_fault};
@@ -82,7 +82,8 @@ fn closed(
 
 /// Whether the parts may be the content of such a node. Codes: those of `check_content` and `check_children`.
 fn check(alloc: Global, parent: Parent, parts: &CopiedContent) -> Result<(), ValueFault>
-    ensures { Says (unless_fault (fault_of parent parts.now) tt) result }
+    ensures said { Says (unless_fault (fault_of parent parts.now) tt) result }
+    ensures document { parent ≡ Parent.Document → IsErrOf result ValueFault.Memory → ⊥ }
 {
     match parent {
         Parent::Document => Ok(check_children(parts)?),

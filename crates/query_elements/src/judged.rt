@@ -1,6 +1,6 @@
 //! What content a node may have.
 
-ghost use Rattle.std.specs.Prelude.{◌≡◌, ◌||◌, not, true, if◌then◌else◌, ℕ, List, IfOk, IfErr, OnOk, Some, None};
+ghost use Rattle.std.specs.Prelude.{◌≡◌, ◌||◌, not, true, false, if◌then◌else◌, ℕ, List, IfOk, IfErr, IsErrOf, OnOk, Some, None};
 ghost use Rattle.std.specs.Str.{bytes_eq};
 ghost use Rattle.data_model.specs.Tidy.{has_distinct_names};
 ghost use Rattle.data_model.specs.Tree.{all_of};
@@ -24,16 +24,29 @@ const MOST_LEVELS_BELOW: u64 = 59;
 /// Whether that may be the content of an element (XQuery 1.0, section 3.7.3.1). Faults: `Memory`; `Code` with XQTY0024 where an attribute
 /// comes after what is none, with XQDY0025 where two attributes have one name, and with PXQ0003 where there are too many nodes or levels.
 pub(crate) fn check_content(alloc: Global, parts: &CopiedContent) -> Result<(), ValueFault>
-    ensures { Says (meaning.unless_fault (meaning.element_fault parts.now) tt) result }
+    ensures said { Says (meaning.unless_fault (meaning.element_fault parts.now) tt) result }
+    ensures first { meaning.has_attributes_first parts.now ≡ false → IsErrOf result ValueFault.Memory → ⊥ }
 {
     if !parts.has_attributes_first() {
         return Err(ValueFault::Code(Code::XQTY0024));
     }
-    if !has_distinct_attributes(alloc, parts.as_slice())? {
-        return Err(ValueFault::Code(Code::XQDY0025));
+    let are_distinct = has_distinct_attributes(alloc, parts.as_slice())?;
+    Ok(check_names(are_distinct, parts)?)
+}
+
+/// Whether content whose attributes come first may be that of an element, once it is known whether their names are distinct. Codes: XQDY0025
+/// where they are not; PXQ0003 where there are too many nodes or levels.
+fn check_names(are_distinct: bool, parts: &CopiedContent) -> Result<(), Code>
+    requires first { meaning.has_attributes_first parts.now ≡ true }
+    requires names { are_distinct ≡ has_distinct_names (meaning.attributes parts.now) }
+    ensures ok { IfOk result (λ _. meaning.element_fault parts.now ≡ None) }
+    ensures code { IfErr result (λ code. meaning.element_fault parts.now ≡ Some code) }
+{
+    if !are_distinct {
+        return Err(Code::XQDY0025);
     }
     if !has_room(parts.as_slice()) {
-        return Err(ValueFault::Code(Code::PXQ0003));
+        return Err(Code::PXQ0003);
     }
     Ok(())
 }

@@ -1,8 +1,9 @@
 -- Ranges of integers.
-use Rattle.std.proofs.Common.{◌≡◌, ℕ, ◌+◌, ◌<◌, ◌≤◌, ℤ, pos, ◌+ℤ◌, ◌-ℤ◌, Bool, true, false, cond, List, [], map, sym, ap, ◌∙◌, subst, Result, Ok, Err, Some, arith}
-use Rattle.std.specs.Prelude.{int_lt, nat_lt, unsigned_abs}
+use Rattle.std.proofs.Common.{◌≡◌, ℕ, ◌+◌, ◌<◌, ◌≤◌, ℤ, pos, ◌+ℤ◌, ◌-ℤ◌, Bool, true, false, cond, List, [], map, refl, sym, ap, ◌∙◌, subst, Result, Ok, Err, Some, arith}
+use Rattle.std.specs.Prelude.{IsOk, int_lt, is_ok, nat_lt, unsigned_abs}
 use Rattle.std.specs.List.{range_with_len}
 use Rattle.std.proofs.lemmas.Bool.Decides.{nat_tests}
+use Rattle.fault_codes.specs.declared.code.Code.{Code}
 use Rattle.fault_codes.specs.declared.code.Code.TheVariants.{PXQ0002}
 use Rattle.values.specs.declared.fault.ValueFault.{ValueFault}
 use Rattle.values.specs.declared.fault.ValueFault.TheVariants as fault
@@ -13,7 +14,7 @@ use Rattle.values.specs.declared.atom.Item.TheVariants as item
 use Rattle.values.specs.Arithmetic.{operands}
 use Rattle.query_meaning.specs.Operators.{integers_to, many_from, ranged}
 use Rattle.query_meaning.specs.Running.{Run, and_then, come_to, most_items}
-use Rattle.evaluation.specs.Gives.{Gives, Says, Stand}
+use Rattle.evaluation.specs.Gives.{Gives, Judged, Says, Stand}
 use Rattle.evaluation.proofs.Each.{grows_refl}
 use Rattle.query_operators.proofs.Values.{atomic_stand}
 
@@ -45,3 +46,12 @@ ranged_gives xs ys x y run (Ok items) found h = (
 ranged_gives xs ys x y run (Err fault.Memory) found h = tt
 ranged_gives xs ys x y run (Err (fault.Code code)) found h =
     ap (λ o. and_then (come_to o run) (λ o. come_to (integers_to o))) (sym found) ∙ ap (λ r. come_to r run) h
+
+pub ranged_judged : (xs ys : List Atom) (x y : ℤ) (run : Run) (r : Result (List Item) ValueFault) → Ok (Some (x, y)) ≡ operands xs ys → Judged (integers_to (Some (x, y))) r → Judged (ranged xs ys run) r
+ranged_judged xs ys x y run (Ok items) found h = tt
+ranged_judged xs ys x y run (Err (fault.Code code)) found h = tt
+ranged_judged xs ys x y run (Err fault.Memory) found h = ap (λ o. is_ok (and_then (come_to o run) (λ o. come_to (integers_to o)))) (sym found) ∙ of (integers_to (Some (x, y))) h
+  where
+    of : (o : Result (List Item) Code) → IsOk o → is_ok (come_to o run) ≡ true
+    of (Ok items) h = refl
+    of (Err code) h = h

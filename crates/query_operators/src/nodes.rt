@@ -3,7 +3,7 @@
 ghost use Rattle.std.specs.Prelude.{◌≡◌, Ok, option_map};
 ghost use Rattle.data_model.specs.Order.{precedes};
 ghost use Rattle.query_meaning.specs.Operators as meaning;
-ghost use Rattle.evaluation.specs.Gives.{Gives, Stand};
+ghost use Rattle.evaluation.specs.Gives.{Gives, Judged, Stand};
 
 use crate::operators::boolean;
 use evaluation::{Evaluation, Sequence};
@@ -17,7 +17,8 @@ pub fn is_same(
     left: &Sequence,
     right: &Sequence,
 ) -> Result<Sequence, ValueFault>
-    ensures { Gives (meaning.between_nodes meaning.is_same left.now right.now) run.old result run.new }
+    ensures given { Gives (meaning.between_nodes meaning.is_same left.now right.now) run.old result run.new }
+    ensures judged { Judged (meaning.between_nodes meaning.is_same left.now right.now run.old) result }
 {
     let a = one_node(left.as_slice())?;
     let b = one_node(right.as_slice())?;
@@ -38,7 +39,8 @@ pub fn precedes(
 ) -> Result<Sequence, ValueFault>
     requires left { Stand left.now run.old }
     requires right { Stand right.now run.old }
-    ensures { Gives (meaning.between_nodes precedes left.now right.now) run.old result run.new }
+    ensures given { Gives (meaning.between_nodes precedes left.now right.now) run.old result run.new }
+    ensures judged { Judged (meaning.between_nodes precedes left.now right.now run.old) result }
 {
     let a = one_node(left.as_slice())?;
     let b = one_node(right.as_slice())?;
@@ -62,7 +64,8 @@ pub fn follows(
 ) -> Result<Sequence, ValueFault>
     requires left { Stand left.now run.old }
     requires right { Stand right.now run.old }
-    ensures { Gives (meaning.between_nodes meaning.follows left.now right.now) run.old result run.new }
+    ensures given { Gives (meaning.between_nodes meaning.follows left.now right.now) run.old result run.new }
+    ensures judged { Judged (meaning.between_nodes meaning.follows left.now right.now run.old) result }
 {
     let a = one_node(left.as_slice())?;
     let b = one_node(right.as_slice())?;

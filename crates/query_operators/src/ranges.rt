@@ -2,7 +2,7 @@
 
 ghost use Rattle.std.specs.Prelude.{◌≡◌, Some, pos, ◌-ℤ◌};
 ghost use Rattle.query_meaning.specs.Operators as meaning;
-ghost use Rattle.evaluation.specs.Gives.{Gives, Says, Stand};
+ghost use Rattle.evaluation.specs.Gives.{Gives, Judged, Says, Stand};
 
 use evaluation::{Evaluation, MOST_ITEMS, Sequence};
 use std::alloc::Global;
@@ -26,7 +26,8 @@ pub fn ranged(
 }
 
 fn ranged_of(run: &mut Evaluation, xs: &[Atom], ys: &[Atom]) -> Result<Sequence, ValueFault>
-    ensures { Gives (meaning.ranged xs.now ys.now) run.old result run.new }
+    ensures given { Gives (meaning.ranged xs.now ys.now) run.old result run.new }
+    ensures judged { Judged (meaning.ranged xs.now ys.now run.old) result }
 {
     match integer_operands(xs, ys)? {
         None => Ok(Sequence::new(run.alloc())),
@@ -37,7 +38,8 @@ fn ranged_of(run: &mut Evaluation, xs: &[Atom], ys: &[Atom]) -> Result<Sequence,
 /// The integers from the one to the other. Faults: `Memory`; `Code` with PXQ0002 where they are more than 10,000.
 #[tactic(auto, unfolding(query_meaning::specs::Running::most_items))]
 fn integers_to(alloc: Global, first: i64, last: i64) -> Result<Sequence, ValueFault>
-    ensures { Says (meaning.integers_to (Some (first, last))) result }
+    ensures items { Says (meaning.integers_to (Some (first, last))) result }
+    ensures judged { Judged (meaning.integers_to (Some (first, last))) result }
 {
     if last < first {
         return Ok(Sequence::new(alloc));

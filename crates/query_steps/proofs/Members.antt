@@ -1,7 +1,7 @@
 -- Sets of nodes, and what they come to.
 use Prim.Native.Nat.{zero, suc}
 use Rattle.std.proofs.Common.{◌≡◌, ℕ, ◌+◌, ◌≤◌, ◌<◌, Bool, true, false, not, ◌&&◌, ◌||◌, List, [], ◌∷◌, ◌++◌, filter, drop, length, slice_index_or, cond, eqb, refl, ap, sym, ◌∙◌, arith, ⊎_elim, None, IsSome, subst, append_assoc, append-nil, Result, Ok, Err}
-use Rattle.std.specs.Prelude.{nat_le}
+use Rattle.std.specs.Prelude.{IsOk, nat_le}
 use Rattle.std.proofs.lemmas.Bool.Decides.{eqb_tells, nat_tests}
 use Rattle.std.proofs.lemmas.List.{map-append, length-map}
 use Rattle.std.proofs.lemmas.List.Folds.{list_any-append}
@@ -22,7 +22,7 @@ use Rattle.values.specs.declared.fault.ValueFault.TheVariants as fault
 use Rattle.values.specs.Items.{AreThere}
 use Rattle.query_meaning.specs.Running.{M, Run, and_then, come_to, seen, trees_of, within, most_items, ◌>>=◌}
 use Rattle.query_meaning.specs.Operators.{all_nodes, nodes, ordering, set_of}
-use Rattle.evaluation.specs.Gives.{Any, Fails, Gives, GivesIn, Says, Stand}
+use Rattle.evaluation.specs.Gives.{Any, Fails, Gives, GivesIn, Judged, Says, Stand}
 use Rattle.evaluation.proofs.Each.{drop_item, drop_all, grows_refl, then_gives}
 use Rattle.query_steps.proofs.Lists.{in-filter, and-turned}
 use Rattle.query_steps.specs.Sets.{in_order, is_as_wanted}
@@ -179,6 +179,15 @@ few-enough ids k items few past was =
     let same : nodes ids ≡ items = sym was ∙ ap (λ zs. items ++ nodes zs) (drop_all ids k past) ∙ append-nil items in
     let z : nat_le (length (nodes ids)) 10000 ≡ true = grind (arith, nat_tests, few, length-map ids (λ i. item.Node i)) in
     rw z (ap (λ zs. Ok zs) same)
+
+few-fit : (ids : List ℕ) → length ids ≤ 10000 → IsOk (within (nodes ids))
+unfolding most_items
+few-fit ids few = let z : nat_le (length (nodes ids)) 10000 ≡ true = grind (arith, nat_tests, few, length-map ids (λ i. item.Node i)) in rw z refl
+
+pub few-judged : {B : Type 0} (ids : List ℕ) (r : Result B ValueFault) → length ids ≤ 10000 → Judged (within (nodes ids)) r
+few-judged ids (Ok b) few = tt
+few-judged ids (Err fault.Memory) few = few-fit ids few
+few-judged ids (Err (fault.Code code)) few = tt
 
 -- ---- what is chosen by another side
 pub chosen-both : (xs ys set seen ids : List ℕ) (i : ℕ) → seen ≡ xs → ids ≡ filter (is_as_wanted true set) seen → is_in i set ≡ is_in i ys → is_in i ids ≡ (is_in i xs && is_in i ys)

@@ -4,7 +4,7 @@ ghost use Rattle.std.specs.Prelude.{◌≡◌, ◌∷◌, [], ◌++◌, ◌&&◌
 ghost use Rattle.values.specs.declared.atom.Item.TheVariants as item;
 ghost use Rattle.query_meaning.specs.Operators as meaning;
 ghost use Rattle.query_meaning.specs.Running.{within};
-ghost use Rattle.evaluation.specs.Gives.{Fails, Gives, Says, Stand};
+ghost use Rattle.evaluation.specs.Gives.{Fails, Gives, Judged, Says, Stand};
 ghost use Rattle.query_steps.specs.Sets.{in_order, is_as_wanted};
 
 use crate::identities::{Identities, set_of};
@@ -143,7 +143,8 @@ fn in_order(run: &mut Evaluation, nodes: Vec<NodeId>) -> Result<Sequence, ValueF
 
 /// The items that some nodes are. Code: PXQ0002 where there are more than 10,000.
 fn items_of(alloc: Global, nodes: &[NodeId]) -> Result<Sequence, ValueFault>
-    ensures { Says (within (meaning.nodes nodes.now)) result }
+    ensures items { Says (within (meaning.nodes nodes.now)) result }
+    ensures judged { Judged (within (meaning.nodes nodes.now)) result }
 {
     if nodes.len() > MOST_ITEMS {
         return Err(ValueFault::Code(Code::PXQ0002));

@@ -2,7 +2,7 @@
 
 ghost use Rattle.std.specs.Prelude.{◌≡◌, [], ◌++◌, OnOk, OnErr, IfOk, IfErr, Ok};
 ghost use Rattle.query_meaning.specs.Strings.{limited};
-ghost use Rattle.evaluation.specs.Gives.{Fails};
+ghost use Rattle.evaluation.specs.Gives.{Fails, Judged};
 
 use data_model::limits::MOST_BYTES;
 use std::alloc::{AllocError, Global};
@@ -44,6 +44,7 @@ impl LimitedString {
         ensures pushed { OnOk result (limited (self.old ++ text.now) ≡ Ok self.new) }
         ensures code { IfErr result (λ fault. Fails (limited (self.old ++ text.now)) fault) }
         ensures refused { OnErr result (self.new ≡ self.old) }
+        ensures judged { Judged (limited (self.old ++ text.now)) result }
     {
         if MOST_BYTES - self.text.len() < text.len() {
             return Err(ValueFault::Code(Code::PXQ0002));

@@ -2,7 +2,7 @@
 
 ghost use Rattle.std.specs.Prelude.{◌≡◌, ◌++◌, ◌∷◌, [], length, map, Some, None, IfOk, OnOk};
 ghost use Rattle.std.specs.Option.{option_copied};
-ghost use Rattle.evaluation.specs.Gives.{Says};
+ghost use Rattle.evaluation.specs.Gives.{Judged, Says};
 ghost use Rattle.values.specs.Comparisons.{string_cmp};
 ghost use Rattle.query_meaning.specs.Meaning.{mean};
 ghost use Rattle.query_meaning.specs.Sequences.{all_comparable, and_tuple, in_sorted_order};
@@ -140,7 +140,8 @@ impl<'f> Tuples<'f> {
     /// One tuple more. Faults: `Memory`; `Code` with PXQ0002 where there are 10,000.
     #[tactic(auto, unfolding(query_meaning::specs::Running::most_items))]
     pub fn and(self, environment: KeptEnvironment<'f>, keys: Keys) -> Result<Tuples<'f>, ValueFault>
-        ensures { Says (and_tuple environment.entry self.entry keys) result }
+        ensures added { Says (and_tuple environment.entry self.entry keys) result }
+        ensures judged { Judged (and_tuple environment.entry self.entry keys) result }
     {
         let Tuples { mut tuples } = self;
         if tuples.len() >= MOST_ITEMS {
@@ -155,7 +156,8 @@ impl<'f> Tuples<'f> {
     #[tactic(auto, using(crate::proofs::Ranking::sorted_of))]
     pub fn sorted(self, keys: &[SortKey<Expr>]) -> Result<Tuples<'f>, ValueFault>
         requires widths { Each (IsWide (length keys.now)) self }
-        ensures { Says (in_sorted_order (map (sort_key_of mean) keys.now) self.entry) result }
+        ensures sorted { Says (in_sorted_order (map (sort_key_of mean) keys.now) self.entry) result }
+        ensures judged { Judged (in_sorted_order (map (sort_key_of mean) keys.now) self.entry) result }
     {
         let Tuples { mut tuples } = self;
         if !are_comparable(&tuples, keys.len()) {

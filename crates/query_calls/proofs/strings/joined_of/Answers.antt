@@ -20,4 +20,4 @@ returns-in_err-text c =
     rw (p.1, p.2) (too_long c.args.values.now c.args.separators.now (map text_at c.in_ok-texts.texts.items) c.in_ok-separator.separator.now c.args.run.now _ c.in_ok-texts.ensures.ok c.in_ok-separator.ensures.ok (rw c.deref.ensures.value at c.in_err-text.ensures))
 
 pub returns : goal.returns
-returns c = join_gives c.args.values.now c.args.separators.now (map text_at c.in_ok-texts.texts.items) c.in_ok-separator.separator.now _ _ c.args.run.now _ _ c.in_ok-texts.ensures.ok c.in_ok-separator.ensures.ok (rw c.deref.ensures.value at c.in_ok-text.ensures) c.in_ok-text-2.ensures c.string_of.ensures
+returns c = join_gives c.args.values.now c.args.separators.now (map text_at c.in_ok-texts.texts.items) c.in_ok-separator.separator.now _ _ c.args.run.now _ _ c.in_ok-texts.ensures.ok c.in_ok-separator.ensures.ok (rw c.deref.ensures.value at c.in_ok-text.ensures) c.in_ok-text-2.ensures c.string_of.ensures.given

@@ -1,6 +1,7 @@
 use Rattle.std.proofs.Common.{◌+◌, ◌*◌, length, map}
 use Rattle.query_meaning.specs.Meaning.{mean}
-use Rattle.query_control.specs.Parts.{binding_of, satisfied_by}
+use Rattle.evaluation.specs.Bindings.{binding_of}
+use Rattle.query_control.specs.Parts.{satisfied_by}
 use Rattle.query_control.proofs.Deciding.{Seeks}
 use Rattle.query_control.proofs.forms.Forms.+satisfied.Given as goal
 

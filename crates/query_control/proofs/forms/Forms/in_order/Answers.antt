@@ -7,4 +7,4 @@ use Rattle.query_control.proofs.forms.Forms.in_order.Goals as goal
 
 pub returns : goal.returns
 returns g c =
-    order_gives (map (clause_of mean) c.args.clauses.now) (option_map mean c.args.condition.now) (map (sort_key_of mean) c.args.keys.now) c.args.env.now _ _ _ _ _ _ c.new-found.ensures c.in_ok-found.ensures c.sorted.ensures
+    order_gives (map (clause_of mean) c.args.clauses.now) (option_map mean c.args.condition.now) (map (sort_key_of mean) c.args.keys.now) c.args.env.now _ _ _ _ _ _ c.new-found.ensures c.in_ok-found.ensures c.sorted.ensures.sorted

@@ -3,7 +3,7 @@ use Rattle.std.proofs.lemmas.Result.{err_from_is_err_and}
 use Rattle.query_meaning.specs.Copies.{Copy, and_copy, roots_of}
 use Rattle.query_meaning.specs.Meaning.{mean}
 use Rattle.evaluation.proofs.Each.{begins, ends_mapped, goes_on, stops_mapped, Goes}
-use Rattle.query_copies.specs.Bindings.{binding_of}
+use Rattle.evaluation.specs.Bindings.{binding_of}
 use Rattle.query_copies.specs.Kept.{AreCopies}
 use Rattle.query_copies.proofs.Adding.{no_copies}
 use Rattle.query_copies.proofs.copies.Copies.copies.Goals as goal

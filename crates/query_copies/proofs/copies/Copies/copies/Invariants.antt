@@ -2,7 +2,7 @@ use Rattle.std.proofs.Common.{[]}
 use Rattle.query_meaning.specs.Copies.{and_copy, roots_of}
 use Rattle.query_meaning.specs.Meaning.{mean}
 use Rattle.evaluation.proofs.Each.{Goes}
-use Rattle.query_copies.specs.Bindings.{binding_of}
+use Rattle.evaluation.specs.Bindings.{binding_of}
 use Rattle.query_copies.specs.Kept.{AreCopies}
 use Rattle.query_copies.proofs.copies.Copies.copies.Given as goal
 

@@ -7,7 +7,7 @@ use Rattle.query_meaning.specs.Environment.{Bound, Environment}
 use Rattle.query_meaning.specs.Meaning.{mean}
 use Rattle.query_meaning.specs.Running.{Run}
 use Rattle.evaluation.specs.Gives.{Fails, Gives, GivesIn}
-use Rattle.query_copies.specs.Bindings.{binding_of}
+use Rattle.evaluation.specs.Bindings.{binding_of}
 use Rattle.query_copies.specs.Kept.{AreCopies}
 use Rattle.query_copies.specs.Steps.{changed_by}
 use Rattle.query_copies.proofs.Wholes.{fails_in_change, gives_whole, ready_to_change, ready_to_return}

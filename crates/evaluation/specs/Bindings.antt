@@ -1,4 +1,4 @@
--- Bindings of copies, by what their sources mean or with the sources.
+-- Bindings of variables, by what their sources mean or with the sources.
 use Rattle.query_grammar.specs.declared.ast.Binding.{Binding}
 use Rattle.query_meaning.specs.Sequences.{Meaning}
 

@@ -4,7 +4,7 @@ use Rattle.data_model.specs.declared.node.Kind.{Kind}
 use Rattle.shelves.specs.Shelf.{ShelfTerm, shelf_trees}
 use Rattle.query_meaning.specs.Content.{source_at}
 use Rattle.copied_content.proofs.Sources.{document_source, other_source, picked_few, children_few}
-use Rattle.copied_content.proofs.copies.sources.Goals as goal
+use Rattle.copied_content.proofs.copies.source.Goals as goal
 
 pub returns-in-Document-clause-ok : goal.returns-in-Document-clause-ok
 returns-in-Document-clause-ok c =
@@ -33,5 +33,4 @@ returns-in_ok-one-in_default c =
     record {
       ok = is ∙ other_source i ts (find i ts) c.kind.result (subst P (sym c.shelf-shelf.ensures) c.requires.there) c.kind.ensures c.in_default.not-Document ∙ ap (λ (s : ShelfTerm). source_at i (shelf_trees s) (find i (shelf_trees s))) c.shelf-shelf.ensures;
       few = omega (arith, same, few, c.len-all.ensures, c.len-all.type_inv);
-      err = tt;
     }
