@@ -1,11 +1,11 @@
 -- What an acceptor is about to write and to answer, and what a refused opening leaves.
-use Rattle.std.specs.Prelude.{◌≡◌, ◌≤◌, ◌<◌, ℕ, length, None, false, Err}
+use Rattle.std.specs.Prelude.{◌≡◌, ◌≤◌, ◌<◌, ℕ, length, Option, Some, None, false, Err}
 use Rattle.ballots.specs.Ballot.{IsBallot, below}
 use Rattle.ballots.specs.Values.{positions}
 use Rattle.paxos.specs.Records.{Record, Write, Nothing, NewPromise, NewVote, NewLearnt}
 use Rattle.records.specs.Law.{Counts, Fate}
-use Rattle.acceptor.specs.declared.draft.Write.{Write as WriteOfCode}
-use Rattle.acceptor.specs.declared.draft.Write.TheVariants as write
+use Rattle.records.specs.Group.{write_of as written_by}
+use Rattle.records.specs.declared.group.Write.{Write as WriteOfCode}
 use Rattle.records.specs.declared.records.RecordsFault.{RecordsFault}
 use Rattle.records.specs.declared.records.RecordsFault.TheVariants.{Store}
 
@@ -14,12 +14,10 @@ pub record Draft (A : Type 0) : Type 0 where
   pub answer : A
   pub write : Write
 
--- what a write of the code says
-abbrev pub write_of : WriteOfCode → Write
-write_of write.Nothing = Nothing
-write_of (write.Promise ballot) = NewPromise ballot
-write_of (write.Vote position vote) = NewVote position vote
-write_of (write.Learnt value) = NewLearnt value
+-- what is about to be written, if anything is
+abbrev pub write_of : Option WriteOfCode → Write
+write_of None = Nothing
+write_of (Some w) = written_by w
 
 -- It may be written over this record: a ballot that isn't below the promise, and a vote or a learnt value at a position that there may be.
 abbrev pub IsDue : Record → Write → Type 0

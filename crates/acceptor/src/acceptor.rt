@@ -7,14 +7,15 @@ ghost use Rattle.ballots.specs.Messages.{window_of};
 ghost use Rattle.std.specs.Option.{option_copied};
 ghost use Rattle.paxos.specs.Lists.{at};
 ghost use Rattle.paxos.specs.Records.{Record as RecordTerm, NewPromise, NewLearnt, writes, written};
+ghost use Rattle.paxos.specs.WellFormed.{IsRecord};
 ghost use Rattle.records.specs.Kept.{IsRising};
 ghost use Rattle.records.specs.Law.{Counts, Puts, Went};
 ghost use Rattle.acceptor.specs.Drafts.{IsDue, IsRefused, write_of};
 ghost use Rattle.acceptor.specs.Steps.{FlushFailed, Took, Stopped, IsAsWas, on_prepare_writes, on_prepare_answers, on_accept_writes, on_accept_answers};
 
-use super::draft::{Draft, Write};
+use super::draft::Draft;
 use ballots::{Ballot, Value, Vote, Window};
-use records::{FlushRecords, PlannedRecords, Record, Records, RecordsFault};
+use records::{FlushRecords, PlannedRecords, Record, Records, RecordsFault, Write};
 use std::alloc::Global;
 use std::marker::Model;
 
@@ -53,6 +54,7 @@ impl<R: Records + Drop> Acceptor<R> {
         ensures base { IfOk result (λ a. R.is_kept a.records → (x : RecordTerm) → R.base records x → R.base a.records x) }
         ensures counts { IfOk result (λ a. R.failed a.records ≡ R.failed records) }
         ensures fates { IfOk result (λ a. (k : ℕ) → R.fates a.records k ≡ R.fates records k) }
+        ensures suits { (n : ℕ) → R.suits records n → IfOk result (λ a. IsRecord n a.kept) }
         ensures refused { IfErr result (λ e. IsRefused R.stands R.is_kept R.failed R.fates records e.1 e.0) }
     {
         match records.load(alloc) {
@@ -212,7 +214,7 @@ impl<R: Records + Drop> Acceptor<R> {
         }
         Ok(Draft {
             answer: (),
-            write: Write::Promise(ballot),
+            write: Some(Write::Promise(ballot)),
         })
     }
 
@@ -240,16 +242,16 @@ impl<R: Records + Drop> Acceptor<R> {
         if ballot.is_below(promise) {
             return Ok(Draft {
                 answer: None,
-                write: Write::Nothing,
+                write: None,
             });
         }
         let Ok(window) = self.kept.window(alloc, ballot, from) else {
             return Err(RecordsFault::Memory);
         };
         let write = if promise.is_below(ballot) {
-            Write::Promise(ballot)
+            Some(Write::Promise(ballot))
         } else {
-            Write::Nothing
+            None
         };
         Ok(Draft {
             answer: Some(window),
@@ -282,13 +284,13 @@ impl<R: Records + Drop> Acceptor<R> {
         if vote.ballot.is_below(self.promised()) {
             return Ok(Draft {
                 answer: false,
-                write: Write::Nothing,
+                write: None,
             });
         }
         if self.kept.has_vote(position, vote) {
             return Ok(Draft {
                 answer: true,
-                write: Write::Nothing,
+                write: None,
             });
         }
         let Ok(copy) = vote.clone() else {
@@ -296,13 +298,14 @@ impl<R: Records + Drop> Acceptor<R> {
         };
         Ok(Draft {
             answer: true,
-            write: Write::Vote(position, copy),
+            write: Some(Write::Vote(position, copy)),
         })
     }
 
     /// What `on_keep` is about to write.
     ///
     /// Faults: memory was refused; the acceptor has stopped.
+    #[tactic(auto, unfolding(ballots::specs::Values::positions))]
     pub fn draft_keep(&self, value: &Value) -> Result<Draft<()>, RecordsFault>
         requires few { length self.now.kept.learnt < positions }
         ensures write { IfOk result (λ d. d.write ≡ NewLearnt value.now) }
@@ -318,7 +321,7 @@ impl<R: Records + Drop> Acceptor<R> {
         };
         Ok(Draft {
             answer: (),
-            write: Write::Learnt(copy),
+            write: Some(Write::Learnt(self.kept() + 1, copy)),
         })
     }
 
@@ -345,7 +348,7 @@ impl<R: Records + Drop> Acceptor<R> {
     }
 
     /// Makes a write.
-    fn write(&mut self, alloc: Global, write: Write) -> Result<(), RecordsFault>
+    fn write(&mut self, alloc: Global, write: Option<Write>) -> Result<(), RecordsFault>
         requires due { IsDue self.old.kept (write_of write) }
         ensures took { OnOk result (Took self.old self.new (write_of write)) }
         ensures memory { IsErrOf result RecordsFault.Memory → IsAsWas R.failed self.old self.new }
@@ -443,7 +446,7 @@ fn make<R: Records>(
     alloc: Global,
     records: &mut R,
     kept: &mut Record,
-    write: Write,
+    write: Option<Write>,
 ) -> Result<(), RecordsFault>
     requires due { IsDue kept.old (write_of write) }
     requires stands { R.is_kept records.old → R.stands records.old kept.old kept.old }
@@ -459,10 +462,10 @@ fn make<R: Records>(
     ensures passes { R.passes records.new ≡ false }
 {
     match write {
-        Write::Nothing => Ok(()),
-        Write::Promise(ballot) => kept.put_promise(alloc, records, ballot),
-        Write::Vote(position, vote) => kept.put_vote(alloc, records, position, vote),
-        Write::Learnt(value) => kept.put_learnt(alloc, records, value),
+        None => Ok(()),
+        Some(Write::Promise(ballot)) => kept.put_promise(alloc, records, ballot),
+        Some(Write::Vote(position, vote)) => kept.put_vote(alloc, records, position, vote),
+        Some(Write::Learnt(_, value)) => kept.put_learnt(alloc, records, value),
     }
 }
 
@@ -471,7 +474,7 @@ fn cut<R: PlannedRecords>(
     alloc: Global,
     records: &mut R,
     kept: &mut Record,
-    write: Write,
+    write: Option<Write>,
 ) -> Result<(), RecordsFault>
     requires due { IsDue kept.old (write_of write) }
     requires stands { R.is_kept records.old → R.stands records.old kept.old kept.old }
@@ -487,9 +490,9 @@ fn cut<R: PlannedRecords>(
     ensures passes { R.passes records.new ≡ false }
 {
     match write {
-        Write::Nothing => Ok(()),
-        Write::Promise(ballot) => kept.cut_promise(alloc, records, ballot),
-        Write::Vote(position, vote) => kept.cut_vote(alloc, records, position, vote),
-        Write::Learnt(value) => kept.cut_learnt(alloc, records, value),
+        None => Ok(()),
+        Some(Write::Promise(ballot)) => kept.cut_promise(alloc, records, ballot),
+        Some(Write::Vote(position, vote)) => kept.cut_vote(alloc, records, position, vote),
+        Some(Write::Learnt(_, value)) => kept.cut_learnt(alloc, records, value),
     }
 }

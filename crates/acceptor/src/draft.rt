@@ -1,23 +1,9 @@
 //! What an acceptor is about to write and to answer.
 
-ghost use Rattle.std.specs.Prelude.{◌≡◌, false};
-ghost use Rattle.paxos.specs.Records.{Write as WriteTerm};
+ghost use Rattle.std.specs.Prelude.{◌≡◌};
 
-use ballots::{Ballot, Value, Vote};
+use records::Write;
 use std::marker::Model;
-
-/// One write of a record. A vote is written together with the promise of its ballot.
-#[derive(Drop)]
-pub(super) enum Write {
-    /// No write.
-    Nothing,
-    /// A ballot is promised.
-    Promise(Ballot),
-    /// A vote at a position.
-    Vote(u32, Vote),
-    /// The value that is learnt at the first position past those that are kept as learnt.
-    Learnt(Value),
-}
 
 /// What an acceptor is about to write and to answer. `Acceptor::commit` makes it, and until then nothing has changed.
 ///
@@ -25,7 +11,8 @@ pub(super) enum Write {
 #[derive(Drop)]
 pub struct Draft<A> {
     pub(super) answer: A,
-    pub(super) write: Write,
+    /// Nothing, where nothing is to be written.
+    pub(super) write: Option<Write>,
 }
 
 impl<A> Model for Draft<A> {

@@ -4,7 +4,7 @@ use Rattle.std.proofs.lemmas.List.{append_assoc}
 use Rattle.std.specs.Str.{IsUtf8, is_utf8}
 use Rattle.std.proofs.lemmas.Str.{IsUtf8-from_is_utf8, is_utf8-from_IsUtf8}
 use Rattle.ballots.specs.Spelling.{Gives, Fails, number_read, bytes_read, text_read}
-use Rattle.ballots.specs.declared.spelling.ValueFault.TheVariants.{NotUtf8}
+use Rattle.ballots.specs.declared.spelling.SpellingFault.TheVariants.{NotUtf8}
 
 not-utf8 : (b : Bool) → (b ≡ true → ⊥) → b ≡ false
 not-utf8 true h = absurd (h refl)

@@ -9,8 +9,8 @@ use Rattle.byteorder.specs.Numbers.{length-bytes_high_first, big_number-reads_ba
 use Rattle.ballots.specs.Terms.{Request, is_level, most_text}
 use Rattle.ballots.specs.declared.value.Value.{Value}
 use Rattle.ballots.specs.declared.value.Value.TheVariants.{NoOp, Request as Of}
-use Rattle.ballots.specs.declared.spelling.ValueFault.{ValueFault}
-use Rattle.ballots.specs.declared.spelling.ValueFault.TheVariants.{Short, Number, NotUtf8}
+use Rattle.ballots.specs.declared.spelling.SpellingFault.{SpellingFault}
+use Rattle.ballots.specs.declared.spelling.SpellingFault.TheVariants.{Short, Number, NotUtf8}
 use Rattle.ballots.specs.Spelling.{Read, Gives, Fails, on_read, bytes_read, number_read, check, check_utf8, text_read, request_read, value_after, value_read, request_spelling, value_spelling, IsRequest, IsValue, AreBytes}
 use Rattle.ballots.proofs.Numbers.{bytes-of-number}
 
@@ -72,7 +72,7 @@ parts : {A B : Type 0} (r : Read A) (g : A → List ℕ → Read B) (b : B) (mor
 parts (Gives a rest) g b more e = record { value = a; rest = rest; first = refl; second = e }
 parts (Fails fault) g b more e = cc
 
-given : {A : Type 0} (t : Bool) (v x : A) (r rest : List ℕ) (f : ValueFault) → (if t then Gives v r else Fails f) ≡ Gives x rest → (t ≡ true) × ((v ≡ x) × (r ≡ rest))
+given : {A : Type 0} (t : Bool) (v x : A) (r rest : List ℕ) (f : SpellingFault) → (if t then Gives v r else Fails f) ≡ Gives x rest → (t ≡ true) × ((v ≡ x) × (r ≡ rest))
 given true v x r rest f e = (refl, (cc, cc))
 given false v x r rest f e = cc
 

@@ -27,6 +27,10 @@ same_ballot a b = a.round == b.round && a.member == b.member
 abbrev pub IsBallot : Ballot → Type 0
 IsBallot b = (1 ≤ b.round) × (b.round ≤ last_round) × (1 ≤ b.member) × (b.member ≤ most_members)
 
+-- a ballot of one of n members
+abbrev pub IsBallotOf : (members : ℕ) → Ballot → Type 0
+IsBallotOf n b = IsBallot b × (b.member ≤ n)
+
 -- how many of the members 1 to n are in the set
 abbrev pub count : ℕ → (ℕ → Bool) → ℕ
 count zero set = 0

@@ -5,8 +5,8 @@ use Rattle.byteorder.specs.Endian.{big_bytes, big_number}
 use Rattle.ballots.specs.Terms.{Request, is_level, most_text}
 use Rattle.ballots.specs.declared.value.Value.{Value}
 use Rattle.ballots.specs.declared.value.Value.TheVariants.{NoOp, Request as Of}
-use Rattle.ballots.specs.declared.spelling.ValueFault.{ValueFault}
-use Rattle.ballots.specs.declared.spelling.ValueFault.TheVariants.{Short, Number, NotUtf8}
+use Rattle.ballots.specs.declared.spelling.SpellingFault.{SpellingFault}
+use Rattle.ballots.specs.declared.spelling.SpellingFault.TheVariants.{Short, Number, NotUtf8}
 
 -- numbers are big-endian: a client has 4 bytes, its number for the request 8, the level 1, the length of the text 2
 abbrev pub request_spelling : Request → List ℕ
@@ -20,7 +20,7 @@ value_spelling (Of r) = 1 ∷ request_spelling r
 -- what bytes read as: something and the bytes after it, or the first fault
 pub data Read (A : Type 0) : Type 0 where
   Gives : (value : A) (rest : List ℕ) → Read A
-  Fails : (fault : ValueFault) → Read A
+  Fails : (fault : SpellingFault) → Read A
 
 -- the function on what was read and the bytes after it
 abbrev pub on_read : {A B : Type 0} → Read A → (A → List ℕ → Read B) → Read B
@@ -35,7 +35,7 @@ abbrev pub ◌>>=◌ : {A B : Type 0} → (List ℕ → Read A) → (A → List 
 abbrev pub pure : {A : Type 0} → A → List ℕ → Read A
 pure a bytes = Gives a bytes
 
-abbrev pub fails : {A : Type 0} → ValueFault → List ℕ → Read A
+abbrev pub fails : {A : Type 0} → SpellingFault → List ℕ → Read A
 fails fault bytes = Fails fault
 
 -- so many bytes

@@ -10,6 +10,10 @@ use Rattle.ballots.specs.declared.value.Vote.{Vote}
 unfoldable pub positions : ℕ
 positions = 1000000
 
+-- a position that there is
+abbrev pub IsPosition : ℕ → Type 0
+IsPosition p = (1 ≤ p) × (p ≤ positions)
+
 -- the votes, or learnt values, that a message has at most (our own choice)
 abbrev pub most_entries : ℕ
 most_entries = 8

@@ -1,7 +1,8 @@
 //! Questions of clients.
 
 ghost use Rattle.std.specs.Prelude.{◌≡◌, false, true, ◌<◌, ◌≤◌, ◌↔◌, IfOk, IsErrOf, length};
-ghost use Rattle.ballots.specs.Terms.{is_level};
+ghost use Rattle.ballots.specs.Terms.{is_level, most_text};
+ghost use Rattle.ballots.specs.Values.{positions};
 
 use super::limits::{MOST_BYTES, POSITIONS, is_level};
 use super::request::RequestId;
@@ -33,6 +34,7 @@ pub struct Ask {
 impl Model for Ask {
     ghost use Rattle.std.specs.Prelude.{◌≡◌, ◌≤◌, true, length, string_bytes};
     ghost use Rattle.ballots.specs.Terms.{Question, question_code, is_level, most_text};
+    ghost use Rattle.ballots.specs.Values.{positions};
 
     ghost Value = { Question };
 
@@ -47,13 +49,14 @@ impl Model for Ask {
           text = string_bytes a.text;
         } };
 
-    ghost invariant = { λ a. (is_level a.level ≡ true) × (a.floor ≤ 1000000) × (length (string_bytes a.text) ≤ most_text) };
+    ghost invariant = { λ a. (is_level a.level ≡ true) × (a.floor ≤ positions) × (length (string_bytes a.text) ≤ most_text) };
 }
 
 impl Ask {
     /// A question of that client, number, floor, level and text.
     ///
     /// It is refused where the level is unknown, then where the text is too long, then where the floor is too high.
+    #[tactic(auto, unfolding(crate::specs::Values::positions))]
     pub fn new(
         alloc: Global,
         client: u32,
@@ -64,9 +67,9 @@ impl Ask {
     ) -> Result<Ask, AskFault>
         ensures made { IfOk result (λ q. q ≡ record { client = client; number = number; floor = floor; level = level; text = text.now }) }
         ensures level { IsErrOf result AskFault.Level ↔ (is_level level ≡ false) }
-        ensures length { IsErrOf result AskFault.TextTooLong ↔ ((is_level level ≡ true) × (4096 < length text.now)) }
+        ensures length { IsErrOf result AskFault.TextTooLong ↔ ((is_level level ≡ true) × (most_text < length text.now)) }
         ensures floor { IsErrOf result AskFault.Floor
-            ↔ ((is_level level ≡ true) × (length text.now ≤ 4096) × (1000000 < floor)) }
+            ↔ ((is_level level ≡ true) × (length text.now ≤ most_text) × (positions < floor)) }
     {
         if !is_level(level) {
             return Err(AskFault::Level);
@@ -98,7 +101,7 @@ impl Ask {
     /// How many positions have to be applied, at most 1,000,000.
     pub fn floor(&self) -> u32
         ensures floor { result ≡ self.now.floor }
-        ensures most { result ≤ 1000000 }
+        ensures most { result ≤ positions }
     {
         self.floor
     }
@@ -114,7 +117,7 @@ impl Ask {
     /// The text.
     pub fn text(&self) -> &str
         ensures text { result.now ≡ self.now.text }
-        ensures most { length self.now.text ≤ 4096 }
+        ensures most { length self.now.text ≤ most_text }
     {
         self.text.as_str()
     }

@@ -1,9 +1,9 @@
 //! Ballots, members and majorities.
 
-ghost use Rattle.std.specs.Prelude.{◌≡◌, ◌≤◌, ◌<◌, ◌⊎◌, ◌↔◌, None, IfSome};
-ghost use Rattle.ballots.specs.Ballot.{below, is_majority, has_member, most_members};
+ghost use Rattle.std.specs.Prelude.{◌≡◌, ◌≤◌, ◌<◌, ◌⊎◌, ◌↔◌, None, IfSome, IsTrue};
+ghost use Rattle.ballots.specs.Ballot.{IsBallot, IsBallotOf, below, is_majority, has_member, most_members};
 
-use super::limits::MOST_MEMBERS;
+use super::limits::{LAST_ROUND, MOST_MEMBERS};
 use std::marker::Model;
 
 /// A round, and the member that began it: a proposal number of "Paxos Made Simple", section 2.2. The round decides first.
@@ -29,6 +29,24 @@ impl Ballot {
         ensures { result ≡ below self other }
     {
         self.round < other.round || (self.round == other.round && self.member < other.member)
+    }
+
+    /// Whether its round is 1 to 2^40 - 1, and its member 1 to 63. `NONE` is not valid.
+    #[tactic(auto, unfolding(crate::specs::Ballot::last_round))]
+    pub fn is_valid(self) -> bool
+        ensures { IsTrue result ↔ IsBallot self }
+    {
+        1 <= self.round
+            && self.round <= LAST_ROUND
+            && 1 <= self.member
+            && self.member <= MOST_MEMBERS
+    }
+
+    /// Whether it is a valid ballot, of one of the members 1 to `members`.
+    pub fn is_of(self, members: u32) -> bool
+        ensures { IsTrue result ↔ IsBallotOf members self }
+    {
+        self.is_valid() && u32::from(self.member) <= members
     }
 }
 

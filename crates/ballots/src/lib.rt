@@ -20,5 +20,5 @@ pub use message::{Message, Window};
 pub use reply::{Answer, Reply};
 pub use request::{Request, RequestFault, RequestId};
 pub use setup::{Setup, SetupFault};
-pub use spelling::{ValueFault, put_value, take_value};
+pub use spelling::{SpellingFault, put_value, take_value};
 pub use value::{Entry, Pair, Value, Vote};

@@ -1,7 +1,8 @@
 //! The limits that all members hold to (our own choice). Contracts speak of them by `specs/`.
 
-ghost use Rattle.std.specs.Prelude.{◌≡◌};
+ghost use Rattle.std.specs.Prelude.{◌≡◌, ◌↔◌, IsTrue};
 ghost use Rattle.ballots.specs.Terms.{is_level};
+ghost use Rattle.ballots.specs.Values.{IsPosition};
 
 /// Positions are 1 to this; each is an instance of the algorithm.
 pub const POSITIONS: u32 = 1_000_000;
@@ -26,6 +27,14 @@ pub const MOST_ANSWER: usize = 32_768;
 
 /// The proposals that a leader has open at most.
 pub const MOST_OPEN: usize = 16;
+
+/// Whether there is such a position: 1 to 1,000,000.
+#[tactic(auto, unfolding(crate::specs::Values::positions))]
+pub fn is_position(position: u32) -> bool
+    ensures { IsTrue result ↔ IsPosition position }
+{
+    1 <= position && position <= POSITIONS
+}
 
 /// Whether there is a language of that level: 1, or 2, at which there is `copy .. modify .. return` too.
 pub fn is_level(level: u8) -> bool

@@ -1,7 +1,7 @@
 //! Requests of clients.
 
 ghost use Rattle.std.specs.Prelude.{◌≡◌, false, true, ◌<◌, ◌≤◌, ◌↔◌, IfOk, IsErrOf, length};
-ghost use Rattle.ballots.specs.Terms.{is_level, same_request};
+ghost use Rattle.ballots.specs.Terms.{is_level, most_text, same_request};
 
 use super::limits::{MOST_BYTES, is_level};
 use std::alloc::{AllocError, Global};
@@ -67,7 +67,7 @@ impl Request {
     ) -> Result<Request, RequestFault>
         ensures made { IfOk result (λ r. r ≡ record { client = client; number = number; level = level; text = text.now }) }
         ensures level { IsErrOf result RequestFault.Level ↔ (is_level level ≡ false) }
-        ensures length { IsErrOf result RequestFault.TextTooLong ↔ ((is_level level ≡ true) × (4096 < length text.now)) }
+        ensures length { IsErrOf result RequestFault.TextTooLong ↔ ((is_level level ≡ true) × (most_text < length text.now)) }
     {
         if !is_level(level) {
             return Err(RequestFault::Level);
@@ -103,7 +103,7 @@ impl Request {
     /// The text.
     pub fn text(&self) -> &str
         ensures text { result.now ≡ self.now.text }
-        ensures most { length self.now.text ≤ 4096 }
+        ensures most { length self.now.text ≤ most_text }
     {
         self.text.as_str()
     }

@@ -2,6 +2,7 @@
 
 ghost use Rattle.std.specs.Prelude.{◌≡◌, ◌≤◌, ◌++◌, [], ◌∷◌, drop, length, ◌<◌, ◌^◌, ◌≢◌, OnOk, OnErr, IfOk, IfErr};
 ghost use Rattle.byteorder.specs.Endian.{big_bytes};
+ghost use Rattle.ballots.specs.Terms.{most_text};
 ghost use Rattle.ballots.specs.Spelling.{Gives, Fails, IsAfter, IsRequest, IsValue, bytes_read, number_read, text_read, request_read, request_spelling, value_read, value_spelling};
 
 use super::limits::{MOST_BYTES, is_level};
@@ -10,9 +11,9 @@ use super::value::Value;
 use byteorder::{BigEndian, ByteOrder};
 use std::alloc::{AllocError, Global};
 
-/// Why bytes are no value.
+/// Why bytes spell no value.
 #[derive(Clone, Copy, PartialEq, Eq, Debug)]
-pub enum ValueFault {
+pub enum SpellingFault {
     /// The bytes end inside a field (1).
     Short,
     /// A number is out of range (4).
@@ -85,19 +86,19 @@ fn head(request: &Request) -> [u8; HEAD]
 /// Reads the value at the front of the bytes, and says how many of them are its spelling.
 ///
 /// The fault is the first from the left; want of memory may come in its place.
-pub fn take_value(alloc: Global, bytes: &[u8]) -> Result<(Value, usize), ValueFault>
+pub fn take_value(alloc: Global, bytes: &[u8]) -> Result<(Value, usize), SpellingFault>
     ensures within { IfOk result (λ p. p.1 ≤ length bytes.now) }
     ensures value { IfOk result (λ p. value_read bytes.now ≡ Gives p.0 (drop p.1 bytes.now)) }
-    ensures fault { IfErr result (λ f. f ≢ ValueFault.Memory → value_read bytes.now ≡ Fails f) }
+    ensures fault { IfErr result (λ f. f ≢ SpellingFault.Memory → value_read bytes.now ≡ Fails f) }
 {
     let (value, rest) = split_value(alloc, bytes)?;
     Ok((value, bytes.len() - rest.len()))
 }
 
 /// The value at the front of the bytes, and the bytes after it.
-fn split_value(alloc: Global, bytes: &[u8]) -> Result<(Value, &[u8]), ValueFault>
+fn split_value(alloc: Global, bytes: &[u8]) -> Result<(Value, &[u8]), SpellingFault>
     ensures value { IfOk result (λ p. value_read bytes.now ≡ Gives p.0 p.1.now) }
-    ensures fault { IfErr result (λ f. f ≢ ValueFault.Memory → value_read bytes.now ≡ Fails f) }
+    ensures fault { IfErr result (λ f. f ≢ SpellingFault.Memory → value_read bytes.now ≡ Fails f) }
     ensures suffix { IfOk result (λ p. IsAfter bytes.now p.1.now) }
 {
     let (tag, rest) = split_u8(bytes)?;
@@ -107,51 +108,51 @@ fn split_value(alloc: Global, bytes: &[u8]) -> Result<(Value, &[u8]), ValueFault
             let (request, rest) = split_request(alloc, rest)?;
             Ok((Value::Request(request), rest))
         }
-        _ => Err(ValueFault::Number),
+        _ => Err(SpellingFault::Number),
     }
 }
 
 /// The request at the front of the bytes, and the bytes after it.
-fn split_request(alloc: Global, bytes: &[u8]) -> Result<(Request, &[u8]), ValueFault>
+fn split_request(alloc: Global, bytes: &[u8]) -> Result<(Request, &[u8]), SpellingFault>
     ensures value { IfOk result (λ p. request_read bytes.now ≡ Gives p.0 p.1.now) }
-    ensures fault { IfErr result (λ f. f ≢ ValueFault.Memory → request_read bytes.now ≡ Fails f) }
+    ensures fault { IfErr result (λ f. f ≢ SpellingFault.Memory → request_read bytes.now ≡ Fails f) }
     ensures suffix { IfOk result (λ p. IsAfter bytes.now p.1.now) }
 {
     let (client, rest) = split_u32(bytes)?;
     let (number, rest) = split_u64(rest)?;
     let (level, rest) = split_u8(rest)?;
     if !is_level(level) {
-        return Err(ValueFault::Number);
+        return Err(SpellingFault::Number);
     }
     let (text, rest) = split_text(rest)?;
     match Request::new(alloc, client, number, level, text) {
         Ok(request) => Ok((request, rest)),
-        Err(RequestFault::Memory) => Err(ValueFault::Memory),
-        Err(RequestFault::Level | RequestFault::TextTooLong) => Err(ValueFault::Number),
+        Err(RequestFault::Memory) => Err(SpellingFault::Memory),
+        Err(RequestFault::Level | RequestFault::TextTooLong) => Err(SpellingFault::Number),
     }
 }
 
 /// The text at the front of the bytes, after its length, and the bytes after it.
-fn split_text(bytes: &[u8]) -> Result<(&str, &[u8]), ValueFault>
+fn split_text(bytes: &[u8]) -> Result<(&str, &[u8]), SpellingFault>
     ensures value { IfOk result (λ p. text_read bytes.now ≡ Gives p.0.now p.1.now) }
-    ensures most { IfOk result (λ p. length p.0.now ≤ 4096) }
+    ensures most { IfOk result (λ p. length p.0.now ≤ most_text) }
     ensures fault { IfErr result (λ f. text_read bytes.now ≡ Fails f) }
     ensures suffix { IfOk result (λ p. IsAfter bytes.now p.1.now) }
 {
     let (length, rest) = split_u16(bytes)?;
     let length = usize::from(length);
     if length > MOST_BYTES {
-        return Err(ValueFault::Number);
+        return Err(SpellingFault::Number);
     }
     let (text, rest) = split(rest, length)?;
     match str::from_utf8(text) {
         Ok(text) => Ok((text, rest)),
-        Err(_) => Err(ValueFault::NotUtf8),
+        Err(_) => Err(SpellingFault::NotUtf8),
     }
 }
 
 /// The first byte, and the bytes after it.
-fn split_u8(bytes: &[u8]) -> Result<(u8, &[u8]), ValueFault>
+fn split_u8(bytes: &[u8]) -> Result<(u8, &[u8]), SpellingFault>
     ensures value { IfOk result (λ p. number_read 1 bytes.now ≡ Gives p.0 p.1.now) }
     ensures fault { IfErr result (λ f. number_read 1 bytes.now ≡ Fails f) }
     ensures suffix { IfOk result (λ p. IsAfter bytes.now p.1.now) }
@@ -161,7 +162,7 @@ fn split_u8(bytes: &[u8]) -> Result<(u8, &[u8]), ValueFault>
 }
 
 /// The number in the first two bytes, and the bytes after them.
-fn split_u16(bytes: &[u8]) -> Result<(u16, &[u8]), ValueFault>
+fn split_u16(bytes: &[u8]) -> Result<(u16, &[u8]), SpellingFault>
     ensures value { IfOk result (λ p. number_read 2 bytes.now ≡ Gives p.0 p.1.now) }
     ensures fault { IfErr result (λ f. number_read 2 bytes.now ≡ Fails f) }
     ensures suffix { IfOk result (λ p. IsAfter bytes.now p.1.now) }
@@ -171,7 +172,7 @@ fn split_u16(bytes: &[u8]) -> Result<(u16, &[u8]), ValueFault>
 }
 
 /// The number in the first four bytes, and the bytes after them.
-fn split_u32(bytes: &[u8]) -> Result<(u32, &[u8]), ValueFault>
+fn split_u32(bytes: &[u8]) -> Result<(u32, &[u8]), SpellingFault>
     ensures value { IfOk result (λ p. number_read 4 bytes.now ≡ Gives p.0 p.1.now) }
     ensures fault { IfErr result (λ f. number_read 4 bytes.now ≡ Fails f) }
     ensures suffix { IfOk result (λ p. IsAfter bytes.now p.1.now) }
@@ -181,7 +182,7 @@ fn split_u32(bytes: &[u8]) -> Result<(u32, &[u8]), ValueFault>
 }
 
 /// The number in the first eight bytes, and the bytes after them.
-fn split_u64(bytes: &[u8]) -> Result<(u64, &[u8]), ValueFault>
+fn split_u64(bytes: &[u8]) -> Result<(u64, &[u8]), SpellingFault>
     ensures value { IfOk result (λ p. number_read 8 bytes.now ≡ Gives p.0 p.1.now) }
     ensures fault { IfErr result (λ f. number_read 8 bytes.now ≡ Fails f) }
     ensures suffix { IfOk result (λ p. IsAfter bytes.now p.1.now) }
@@ -191,15 +192,15 @@ fn split_u64(bytes: &[u8]) -> Result<(u64, &[u8]), ValueFault>
 }
 
 /// So many bytes, and the bytes after them.
-fn split(bytes: &[u8], count: usize) -> Result<(&[u8], &[u8]), ValueFault>
+fn split(bytes: &[u8], count: usize) -> Result<(&[u8], &[u8]), SpellingFault>
     ensures value { IfOk result (λ p. bytes_read count bytes.now ≡ Gives p.0.now p.1.now) }
     ensures within { IfOk result (λ p. count ≤ length bytes.now) }
-    ensures fault { IfErr result (λ f. f ≡ ValueFault.Short) }
+    ensures fault { IfErr result (λ f. f ≡ SpellingFault.Short) }
     ensures short { IfErr result (λ f. length bytes.now < count) }
     ensures suffix { IfOk result (λ p. p.1.now ≡ drop count bytes.now) }
 {
     match bytes.split_at_checked(count) {
         Some(parts) => Ok(parts),
-        None => Err(ValueFault::Short),
+        None => Err(SpellingFault::Short),
     }
 }

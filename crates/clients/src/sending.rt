@@ -2,7 +2,8 @@
 
 ghost use Rattle.std.specs.Prelude.{◌≡◌, false, ◌≤◌, ◌<◌, ◌⊎◌, IfOk, MatchOption, length};
 ghost use Rattle.ballots.specs.Messages.{Submit, Ask as AskBody};
-ghost use Rattle.ballots.specs.Terms.{is_level};
+ghost use Rattle.ballots.specs.Terms.{is_level, most_text};
+ghost use Rattle.ballots.specs.Values.{positions};
 ghost use Rattle.messages.specs.Spelling.{spelling};
 
 use ballots::{Ask, AskFault, Message, Request, RequestId};
@@ -32,8 +33,8 @@ pub fn question(
     level: u8,
     text: &str,
 ) -> Result<Option<Vec<u8>>, AllocError>
-    ensures spelt { IfOk result (λ asked. MatchOption asked ((is_level level ≡ false) ⊎ (4096 < length text.now) ⊎ (1000000 < floor))
-        (λ bytes. (length text.now ≤ 4096) × (floor ≤ 1000000)
+    ensures spelt { IfOk result (λ asked. MatchOption asked ((is_level level ≡ false) ⊎ (most_text < length text.now) ⊎ (positions < floor))
+        (λ bytes. (length text.now ≤ most_text) × (floor ≤ positions)
         × (bytes.items ≡ spelling (record { group = group; sender = 0; body = AskBody (record { client = id.client; number = id.number; floor = floor; level = level; text = text.now }) })))) }
 {
     let ask = match Ask::new(alloc, id.client, id.number, floor, level, text) {

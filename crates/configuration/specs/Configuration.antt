@@ -3,6 +3,7 @@ use Rattle.std.specs.Prelude.{ℕ, ℤ, pos, negsuc, Bool, true, false, ◌&&◌
 use Rattle.std.specs.Option.{option_and_then, option_map, option_map_or}
 use Rattle.std.specs.Str.{bytes_eq}
 use Rattle.document_names.specs.Names.{are_document_names}
+use Rattle.ballots.specs.Ballot.{most_members}
 use Rattle.toml.specs.Data.{Data, as_array, as_bool, as_integer, as_str, get, table, Items, no_items, item, Members, no_members, member}
 use Rattle.toml.specs.Parse.{parse_document}
 
@@ -57,13 +58,13 @@ place_of count document = get (codes "member") document >>= number_in 1 count
 abbrev pub list_of : Data → Option (List (List ℕ))
 list_of value = as_array value >>= texts_of
 
--- the list, where it has 1 to 63 items
-abbrev pub some_to_63 : List (List ℕ) → Option (List (List ℕ))
-some_to_63 texts = if nat_le 1 (length texts) && nat_le (length texts) 63 then Some texts else None
+-- the list, where it has an item for each of 1 to 63 members
+abbrev pub for_members : List (List ℕ) → Option (List (List ℕ))
+for_members texts = if nat_le 1 (length texts) && nat_le (length texts) most_members then Some texts else None
 
 -- `members`: 1 to 63 addresses, in member order
 abbrev pub addresses_of : Data → Option (List (List ℕ))
-addresses_of document = get (codes "members") document >>= list_of >>= some_to_63
+addresses_of document = get (codes "members") document >>= list_of >>= for_members
 
 -- the list, where it is one of document names
 abbrev pub as_names : List (List ℕ) → Option (List (List ℕ))

@@ -2,10 +2,12 @@
 
 ghost use Rattle.std.specs.Prelude.{◌≡◌, ◌≤◌, length, IfOk, IfSome, map, string_bytes};
 ghost use Rattle.std.specs.Option.{option_and_then, option_map};
+ghost use Rattle.ballots.specs.Ballot.{most_members};
 ghost use Rattle.toml.specs.Data.{get};
 ghost use Rattle.toml.specs.View.{view, array_view, table_view};
 ghost use Rattle.configuration.specs.Configuration.{has_entries_alone, is_entry, number_in, addresses_of, begin_of, docs_of, list_of, records_of, texts_of};
 
+use ballots::limits::MOST_MEMBERS;
 use document_names::{Names, NamesFault};
 use std::alloc::{AllocError, Global};
 use toml::value::Array;
@@ -98,10 +100,11 @@ pub(super) fn read_addresses(
     document: &Value,
 ) -> Result<Option<Vec<String>>, AllocError>
     ensures texts { IfOk result (λ texts. option_map (λ t. map string_bytes t.items) texts ≡ addresses_of (view document.now)) }
-    ensures few { IfOk result (λ texts. IfSome texts (λ t. length t.items ≤ 63)) }
+    ensures few { IfOk result (λ texts. IfSome texts (λ t. length t.items ≤ most_members)) }
 {
+    let most = usize::from(MOST_MEMBERS);
     match read_list(alloc, document, "members")? {
-        Some(texts) if 1 <= texts.len() && texts.len() <= 63 => Ok(Some(texts)),
+        Some(texts) if 1 <= texts.len() && texts.len() <= most => Ok(Some(texts)),
         _ => Ok(None),
     }
 }

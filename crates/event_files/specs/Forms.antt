@@ -4,6 +4,7 @@ use Rattle.std.specs.List.{before_first, after_first, slice_split}
 use Rattle.std.specs.Option.{option_map}
 use Rattle.std.specs.Str.{bytes_eq, is_utf8}
 use Rattle.document_names.specs.Names.{are_document_names}
+use Rattle.ballots.specs.Ballot.{most_members}
 use Rattle.line_parts.specs.Parts.{is_space, number_below, request_of, ◌>>=◌}
 use Rattle.events.specs.declared.event.Event.TheVariants as event
 use Rattle.events.specs.declared.event.Step.{Step}
@@ -46,7 +47,7 @@ group_named members names = if are_document_names names then Some (record { memb
 -- `N NAME ..`
 unfoldable pub group_with : List ℕ → Option Group
 group_with parts = do
-  members ← number_to 63 (part parts)
+  members ← number_to most_members (part parts)
   group_named members (slice_split is_space (after_part parts))
 
 -- `members N NAME ..`

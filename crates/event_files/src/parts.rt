@@ -1,14 +1,13 @@
 // Parts of lines: numbers up to a greatest one, and words.
 
 ghost use Rattle.std.specs.Prelude.{◌≡◌, ◌≤◌, IfSome};
+ghost use Rattle.ballots.specs.Ballot.{most_members};
 ghost use Rattle.event_files.specs.Forms.{kept_of, number_to};
 ghost use Rattle.event_files.specs.Within.{IsMember};
 
 use ballots::Members;
+use ballots::limits::MOST_MEMBERS;
 use line_parts::read_number;
-
-/// The most members that there may be.
-const MAX_MEMBERS: u64 = 63;
 
 /// A number from 1 to `most`, in decimal.
 #[tactic(auto, unfolding(crate::specs::Forms::number_to))]
@@ -35,9 +34,9 @@ pub(crate) fn read_member(members: Members, digits: &str) -> Option<u8>
 
 /// How many members there are.
 pub(crate) fn read_count(digits: &str) -> Option<Members>
-    ensures { result ≡ number_to 63 digits.now }
+    ensures { result ≡ number_to most_members digits.now }
 {
-    let number = read_number_to(MAX_MEMBERS, digits)?;
+    let number = read_number_to(u64::from(MOST_MEMBERS), digits)?;
     Members::new(number as u8)
 }
 

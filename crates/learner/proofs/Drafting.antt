@@ -4,7 +4,7 @@ use Rattle.std.specs.Prelude.{IfOk}
 use Rattle.std.specs.List.{All}
 use Rattle.std.proofs.lemmas.List.Elements.{All-filter, filter_more}
 use Rattle.ballots.specs.Ballot.{is_majority}
-use Rattle.ballots.specs.Values.{positions, IsRising}
+use Rattle.ballots.specs.Values.{IsPosition, positions, IsRising}
 use Rattle.ballots.specs.declared.value.Vote.{Vote}
 use Rattle.ballots.specs.declared.value.Pair.{Pair}
 use Rattle.paxos.specs.Knowledge.{AcceptedBy, Heard, pair_of, value_at}
@@ -12,7 +12,6 @@ use Rattle.learner.specs.Changes.{Change, Counts, HasCounted, IsAsWas, IsChanged
 use Rattle.learner.specs.Drafts.{Draft}
 use Rattle.learner.specs.Hearing.{AreAbove, HasHeard, news_at}
 use Rattle.learner.specs.Polls.{IsAdded}
-use Rattle.learner.specs.Slots.{IsPosition}
 use Rattle.learner.specs.Terms.{Learner, Tally, learnt_of}
 use Rattle.learner.proofs.Hearing.{change_as_was, heard_changed, news_of_change}
 use Rattle.learner.proofs.Opening.{added_open}

@@ -5,7 +5,7 @@ use Rattle.std.specs.List.{All}
 use Rattle.std.specs.Option.{option_copied}
 use Rattle.std.proofs.lemmas.Bool.{false≢true, eq-eqb, ne_eqb, cases_eq}
 use Rattle.std.proofs.lemmas.List.Elements.{All-pop}
-use Rattle.ballots.specs.Values.{positions}
+use Rattle.ballots.specs.Values.{IsPosition, positions}
 use Rattle.ballots.specs.declared.value.Value.{Value}
 use Rattle.ballots.specs.declared.value.Pair.{Pair}
 use Rattle.paxos.specs.Knowledge.{first, last_of_run, pair_of, value_at}
@@ -13,7 +13,7 @@ use Rattle.position_map.specs.Slots.{Slot, filled, HasSlot, IsNext, IsRunEnd, va
 use Rattle.learner.specs.Changes.{AreForgotten, not_learnt}
 use Rattle.learner.specs.Hearing.{AreAbove, IsLowest}
 use Rattle.learner.specs.Polls.{IsForgotten}
-use Rattle.learner.specs.Slots.{AreWithin, IsPosition, pairs_of}
+use Rattle.learner.specs.Slots.{AreWithin, pairs_of}
 use Rattle.learner.specs.Terms.{Tally, open_in}
 use Rattle.learner.proofs.Opening.{forgotten_open}
 

@@ -10,7 +10,7 @@ use Rattle.paxos.specs.Lists.{Has}
 use Rattle.paxos.specs.Knowledge.{Heard, ChosenAre, accepted_by, completed, first, kept_news, learnt as learnt_at, numbered, value_at}
 use Rattle.position_map.specs.Slots.{value_at as value_in, filled}
 use Rattle.learner.specs.Hearing.{HasHeard, AreDistinct, is_tallied}
-use Rattle.learner.specs.Slots.{AreWithin, IsPosition, pairs_of}
+use Rattle.learner.specs.Slots.{AreWithin, pairs_of}
 use Rattle.learner.specs.Terms.{Learner, Tally, learnt_of, open_of}
 use Rattle.learner.proofs.Learning.{value_pairs}
 

@@ -7,7 +7,7 @@ use Rattle.ballots.specs.declared.value.Pair.{Pair}
 use Rattle.paxos.specs.Lists.{Has}
 use Rattle.paxos.specs.Knowledge.{Heard, AcceptedBy, ChosenAre, first, pair_of, value_at}
 use Rattle.position_map.specs.Slots.{HasSlot}
-use Rattle.learner.specs.Slots.{IsPosition}
+use Rattle.ballots.specs.Values.{IsPosition}
 use Rattle.learner.specs.Terms.{Learner, Tally, learnt_of, open_of}
 use Rattle.learner.specs.Hearing.{AreDistinct, is_tallied}
 use Rattle.learner.specs.Polls.{HasTally, IsAdded}

@@ -1,12 +1,11 @@
 -- What a learner hears, as the code has it.
 use Rattle.std.specs.Prelude.{◌≤◌}
 use Rattle.std.specs.List.{All}
-use Rattle.ballots.specs.Values.{positions}
+use Rattle.ballots.specs.Values.{IsPosition, positions}
 use Rattle.ballots.specs.declared.value.Pair.{Pair}
 use Rattle.paxos.specs.Knowledge.{Heard, AcceptedBy, ChosenAre}
 use Rattle.learner.specs.Hearing.{AreAbove}
 use Rattle.learner.specs.Changes.{IsMember}
-use Rattle.learner.specs.Slots.{IsPosition}
 use Rattle.learner.specs.declared.heard.Heard.{Heard as HeardOfCode}
 use Rattle.learner.specs.declared.heard.Heard.TheVariants.{Accepted, Chosen}
 

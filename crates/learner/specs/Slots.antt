@@ -1,8 +1,8 @@
 -- Values by position.
-use Rattle.std.specs.Prelude.{ℕ, ◌<◌, ◌≤◌, List, [], ◌∷◌, IsSome}
+use Rattle.std.specs.Prelude.{ℕ, ◌<◌, List, [], ◌∷◌, IsSome}
 use Rattle.ballots.specs.declared.value.Value.{Value}
 use Rattle.ballots.specs.declared.value.Pair.{Pair}
-use Rattle.ballots.specs.Values.{positions}
+use Rattle.ballots.specs.Values.{IsPosition}
 use Rattle.position_map.specs.Slots.{Slot, filled, value_at}
 
 -- positions are above p, and rise
@@ -14,10 +14,6 @@ Rise p (e ∷ es) = (p < e.0) × Rise e.0 es
 abbrev pub pairs_of : List (ℕ × Value) → List Pair
 pairs_of [] = []
 pairs_of (e ∷ es) = record { position = e.0; value = e.1 } ∷ pairs_of es
-
--- a position that there may be
-abbrev pub IsPosition : ℕ → Type 0
-IsPosition p = (1 ≤ p) × (p ≤ positions)
 
 -- values stand at no other positions
 abbrev pub AreWithin : List (Slot Value) → Type 0

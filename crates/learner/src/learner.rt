@@ -3,12 +3,12 @@
 ghost use Rattle.std.specs.Prelude.{◌≡◌, ◌≤◌, ℕ, List, [], ◌∷◌, ◌++◌, None, Some, is_some, length, IfOk, IsSome, OnErr, OnOk, MatchOption};
 ghost use Rattle.std.specs.List.{All};
 ghost use Rattle.std.specs.Option.{option_copied};
-ghost use Rattle.ballots.specs.Values.{positions, IsRising};
+ghost use Rattle.ballots.specs.Values.{IsPosition, positions, IsRising};
 ghost use Rattle.position_map.specs.Slots.{filled, value_at as value_in, HasSlot};
 ghost use Rattle.paxos.specs.Knowledge.{AcceptedBy, ChosenAre, Heard, first, kept_news, last_of_run, learnt as learnt_at, numbered, pair_of, prefix, value_at};
 ghost use Rattle.learner.specs.Changes.{AreForgotten, change_of, HasRoom, IsAsWas, IsChanged, IsDue, Learns, not_learnt, positions_in, positions_of};
 ghost use Rattle.learner.specs.Hearing.{AreAbove, HasHeard, IsLowest, news_at};
-ghost use Rattle.learner.specs.Slots.{AreWithin, IsPosition, pairs_of};
+ghost use Rattle.learner.specs.Slots.{AreWithin, pairs_of};
 ghost use Rattle.learner.specs.Terms.{learnt_of, open_in, open_of};
 ghost use Rattle.ballots.specs.Ballot.{most_members};
 

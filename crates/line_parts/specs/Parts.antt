@@ -3,7 +3,7 @@ use Rattle.std.specs.Prelude.{ℕ, ◌+◌, ◌*◌, ◌-◌, Bool, ◌&&◌, na
 use Rattle.std.specs.List.{list_all, starts_with, before_first, after_first}
 use Rattle.std.specs.Option.{option_and_then}
 use Rattle.document_names.specs.Characters.{is_digit}
-use Rattle.ballots.specs.Terms.{Request}
+use Rattle.ballots.specs.Terms.{Request, most_text}
 
 -- the number that digits stand for
 abbrev pub digits_value : List ℕ → ℕ
@@ -19,7 +19,7 @@ is_space b = b == 32
 
 -- 1 to 4,096 bytes
 abbrev pub has_text_length : List ℕ → Bool
-has_text_length text = nat_lt 0 (length text) && nat_le (length text) 4096
+has_text_length text = nat_lt 0 (length text) && nat_le (length text) most_text
 
 -- what stands after that beginning, of a text that begins so
 unfoldable pub text_after : List ℕ → List ℕ → Option (List ℕ)

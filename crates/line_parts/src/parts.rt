@@ -1,11 +1,12 @@
 //! What a part of a line says.
 
-ghost use Rattle.std.specs.Prelude.{◌≡◌, ◌==◌, ◌≤◌, ◌<◌, ◌^◌, false, true, length, map, string_bytes, IfOk, IsErrOf, OnOk};
+ghost use Rattle.std.specs.Prelude.{◌≡◌, ◌==◌, ◌≤◌, ◌<◌, ◌^◌, suc, false, true, length, map, string_bytes, IfOk, IsErrOf, OnOk};
 ghost use Rattle.std.specs.List.{after_first, before_first, list_all, slice_split};
 ghost use Rattle.std.specs.Option.{option_copied};
 ghost use Rattle.document_names.specs.Characters.{is_digit};
 ghost use Rattle.document_names.specs.Names.{are_document_names};
 ghost use Rattle.ballots.specs.Terms.{is_level};
+ghost use Rattle.ballots.specs.Values.{positions};
 ghost use Rattle.line_parts.specs.Parts.{has_text_length, is_space, number_below, request_of, request_with, text_after};
 
 use ballots::limits::{MOST_BYTES, POSITIONS};
@@ -92,8 +93,9 @@ pub fn read_client(digits: &str) -> Option<u32>
 }
 
 /// A number of positions, up to 1,000,000, in decimal and without a sign; leading zeros are taken.
+#[tactic(auto, unfolding(ballots::specs::Values::positions))]
 pub fn read_floor(digits: &str) -> Option<u32>
-    ensures { result ≡ number_below 1000001 digits.now }
+    ensures { result ≡ number_below (suc positions) digits.now }
 {
     match read_client(digits) {
         Some(floor) if floor <= POSITIONS => Some(floor),

@@ -1,11 +1,10 @@
 -- What is gathered of what a learner has learnt.
 use Rattle.std.proofs.Common.{◌≡◌, ℕ, zero, suc, ◌+◌, ◌-◌, ◌<◌, ◌≤◌, Bool, true, false, ◌||◌, arith, refl, sym, ap, ap₂, ◌∙◌, ◌⊎◌, inl, inr, List, [], ◌∷◌, ◌++◌, map, take, Some, None, is_some, option_to_list, eqb}
 use Rattle.std.proofs.lemmas.Bool.{cases_eq, cases_lt, eq-eqb, ne_eqb}
-use Rattle.ballots.specs.Values.{positions, IsRising}
+use Rattle.ballots.specs.Values.{IsPosition, positions, IsRising}
 use Rattle.ballots.specs.declared.value.Pair.{Pair}
 use Rattle.ballots.specs.declared.value.Value.{Value}
 use Rattle.learner.specs.Hearing.{IsLowest}
-use Rattle.learner.specs.Slots.{IsPosition}
 use Rattle.paxos.specs.Knowledge.{Heard, learnt as learnt_at, learnt_from, pair_of, value_at}
 use Rattle.proposer.specs.Beginning.{is_in}
 use Rattle.member.specs.Learnt.{IsFirst, pairs_from, pairs_in}

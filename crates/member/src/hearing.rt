@@ -1,33 +1,20 @@
 //! Which messages may come to a member.
 
-ghost use Rattle.std.specs.Prelude.{◌≡◌, ◌≤◌, ◌⊎◌, ◌∷◌, [], true, length};
+ghost use Rattle.std.specs.Prelude.{◌≡◌, ◌≤◌, ◌⊎◌, ◌↔◌, ◌∷◌, [], true, length, IsTrue};
+ghost use Rattle.ballots.specs.Ballot.{IsBallotOf};
 ghost use Rattle.ballots.specs.Messages.{body_of, packet, window_of};
 ghost use Rattle.ballots.specs.Values.{positions, most_entries};
-ghost use Rattle.paxos.specs.WellFormed.{ArePairs, AreVotes, IsBallotOf, IsBody, IsPosition, IsSender, IsWindow, last_position};
+ghost use Rattle.paxos.specs.WellFormed.{ArePairs, AreVotes, IsBody, IsSender, IsWindow, last_position};
 ghost use Rattle.member.specs.Steps.{Hears, IsHeard, IsNoQuestion};
 
-use ballots::limits::{LAST_ROUND, MOST_ENTRIES, POSITIONS};
+use ballots::limits::{MOST_ENTRIES, POSITIONS, is_position};
 use ballots::{Ballot, Entry, Members, Message, Pair, Window};
 
 /// Whether a ballot is one of the members'.
-#[tactic(auto, unfolding(ballots::specs::Ballot::last_round))]
 fn is_ballot(members: Members, ballot: Ballot) -> bool
-    ensures sound { result ≡ true → IsBallotOf members ballot }
-    ensures complete { IsBallotOf members ballot → result ≡ true }
+    ensures { IsTrue result ↔ IsBallotOf members ballot }
 {
-    1 <= ballot.round
-        && ballot.round <= LAST_ROUND
-        && 1 <= ballot.member
-        && ballot.member <= members.count()
-}
-
-/// Whether there is such a position.
-#[tactic(auto, unfolding(ballots::specs::Values::positions))]
-fn is_position(position: u32) -> bool
-    ensures sound { result ≡ true → IsPosition position }
-    ensures complete { IsPosition position → result ≡ true }
-{
-    1 <= position && position <= POSITIONS
+    ballot.is_of(u32::from(members.count()))
 }
 
 /// Whether a vote stands between two positions, of a ballot that is not above the promise.

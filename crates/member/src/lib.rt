@@ -9,6 +9,7 @@ mod learnt;
 mod member;
 mod outcome;
 mod sends;
+mod steps;
 mod told;
 
 pub use draft::Draft;

@@ -5,13 +5,13 @@ use Rattle.fault_codes.specs.Codes.{code_number}
 use Rattle.fault_codes.specs.declared.code.Code.{Code}
 use Rattle.ballots.specs.Ballot.{most_members}
 use Rattle.ballots.specs.Terms.{is_level, most_answer, most_level, most_text}
-use Rattle.ballots.specs.Values.{positions}
+use Rattle.ballots.specs.Values.{IsPosition, positions}
 use Rattle.ballots.specs.Replies.{Answered, text, fault}
 use Rattle.ballots.specs.Messages.{Body, Prepare, Promise, Accept, Accepted, Chosen, CatchUp, Submit, Reply, Ask, Answer, Behind, Elsewhere}
 use Rattle.ballots.specs.Spelling.{AreBytes}
 use Rattle.ballots.specs.declared.value.Entry.{Entry}
 use Rattle.paxos.specs.Lists.{at}
-use Rattle.paxos.specs.WellFormed.{IsBody, IsSender, IsPosition, last_position}
+use Rattle.paxos.specs.WellFormed.{IsBody, IsSender, last_position}
 use Rattle.messages.specs.declared.fault.WireFault.TheVariants.{Mark, Kind, Number}
 use Rattle.messages.specs.Reading.{Gives, on_read, pure, prepare_read, promise_read, accept_read, accepted_read, chosen_read, catch_up_read, submit_read, reply_read, ask_read, answer_after, answer_read, behind_read, elsewhere_read, replied, ends_well, codes_by_number, code_of, outcome_after, outcome_read, bodies, body_of_kind, is_sender, header_read, end_read, datagram_read}
 use Rattle.messages.specs.Spelling.{Datagram, mark, ballot_spelling, position_spelling, text_spelling, reply_spelling, answer_spelling, kind, body_spelling, spelling, IsReply, IsAnswer, HasFields, IsDatagram}

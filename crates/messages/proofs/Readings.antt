@@ -2,8 +2,8 @@
 use Rattle.std.proofs.Common.{◌≡◌, ◌≢◌, ℕ, zero, suc, ◌<◌, ◌≤◌, Bool, true, false, nat_le, List, refl, arith, ◌⊎◌, inl, inr}
 use Rattle.std.specs.Str.{IsUtf8, is_utf8}
 use Rattle.std.proofs.lemmas.Str.{IsUtf8-from_is_utf8, is_utf8-from_IsUtf8}
-use Rattle.ballots.specs.declared.spelling.ValueFault.{ValueFault}
-use Rattle.ballots.specs.declared.spelling.ValueFault.TheVariants as of_value
+use Rattle.ballots.specs.declared.spelling.SpellingFault.{SpellingFault}
+use Rattle.ballots.specs.declared.spelling.SpellingFault.TheVariants as of_value
 use Rattle.std.proofs.lemmas.Option.{slice_get_past}
 use Rattle.messages.specs.declared.fault.WireFault.TheVariants.{Number, NotUtf8, Memory}
 use Rattle.messages.specs.Reading.{Gives, Fails, number_read, bytes_read, text_read, fault_of, outcome_read, codes_by_number}
@@ -22,7 +22,7 @@ pub text_read-fails : (most n : ℕ) (bytes rest text after : List ℕ) → numb
 text_read-fails most n bytes rest text after a small b not = rw (a, le-true n most small, b, not-utf8 (is_utf8 text) (λ h. not (IsUtf8-from_is_utf8 text h))) refl
 
 -- a fault that is not want of memory is none of a value's
-pub not_memory : (f : ValueFault) → fault_of f ≢ Memory → f ≢ of_value.Memory
+pub not_memory : (f : SpellingFault) → fault_of f ≢ Memory → f ≢ of_value.Memory
 not_memory f h e = h (rw e refl)
 
 -- past the last code there is none

@@ -16,8 +16,8 @@ use Rattle.ballots.specs.declared.value.Entry.{Entry}
 use Rattle.ballots.specs.declared.value.Pair.{Pair}
 use Rattle.ballots.specs.declared.reply.Reply.{Reply as Outcome}
 use Rattle.ballots.specs.declared.reply.Reply.TheVariants.{Done, Fault}
-use Rattle.ballots.specs.declared.spelling.ValueFault.{ValueFault}
-use Rattle.ballots.specs.declared.spelling.ValueFault.TheVariants as of_value
+use Rattle.ballots.specs.declared.spelling.SpellingFault.{SpellingFault}
+use Rattle.ballots.specs.declared.spelling.SpellingFault.TheVariants as of_value
 use Rattle.paxos.specs.Lists.{at}
 use Rattle.paxos.specs.WellFormed.{last_position}
 use Rattle.messages.specs.Spelling.{Datagram, mark}
@@ -72,7 +72,7 @@ text_read most = do
   pure t
 
 -- why bytes are no value, as a fault of a message
-abbrev pub fault_of : ValueFault → WireFault
+abbrev pub fault_of : SpellingFault → WireFault
 fault_of of_value.Short = Short
 fault_of of_value.Number = Number
 fault_of of_value.NotUtf8 = NotUtf8

@@ -5,7 +5,7 @@ use Rattle.byteorder.specs.Endian.{big_bytes}
 use Rattle.fault_codes.specs.Codes.{code_number}
 use Rattle.ballots.specs.Ballot.{most_members}
 use Rattle.ballots.specs.Terms.{is_level, most_answer, most_text}
-use Rattle.ballots.specs.Values.{positions, most_entries}
+use Rattle.ballots.specs.Values.{IsPosition, positions, most_entries}
 use Rattle.ballots.specs.Replies.{Answered, text, fault}
 use Rattle.ballots.specs.Messages.{Body, Prepare, Promise, Accept, Accepted, Chosen, CatchUp, Submit, Reply, Ask, Answer, Behind, Elsewhere}
 use Rattle.ballots.specs.Spelling.{request_spelling, value_spelling, IsRequest, IsValue}
@@ -15,7 +15,7 @@ use Rattle.ballots.specs.declared.value.Entry.{Entry}
 use Rattle.ballots.specs.declared.value.Pair.{Pair}
 use Rattle.ballots.specs.declared.reply.Reply.{Reply as Outcome}
 use Rattle.ballots.specs.declared.reply.Reply.TheVariants.{Done, Fault}
-use Rattle.paxos.specs.WellFormed.{IsBody, IsSender, IsPosition}
+use Rattle.paxos.specs.WellFormed.{IsBody, IsSender}
 
 -- what one datagram says: its group, who sends it (a member, or 0 for a client), and a message
 pub record Datagram : Type 0 where

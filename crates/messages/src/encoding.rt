@@ -7,6 +7,7 @@ ghost use Rattle.ballots.specs.Replies.{answered};
 ghost use Rattle.ballots.specs.Messages.{body_of, window_of, Promise, Chosen, Submit, Ask as OfAsk, Answer as OfAnswer};
 ghost use Rattle.ballots.specs.Spelling.{value_spelling, IsValue};
 ghost use Rattle.ballots.specs.Terms.{is_level};
+ghost use Rattle.ballots.specs.Values.{most_entries};
 ghost use Rattle.messages.specs.Spelling.{mark, ballot_spelling, position_spelling, entry_spelling, pair_spelling, text_spelling, id_spelling, reply_spelling, answer_spelling, kind, body_spelling, spelling, Fits, IsWithin, IsId, IsApplied, IsAnswer, AreInRange, HasFields};
 ghost use Rattle.messages.specs.Appending.{Extends};
 
@@ -159,7 +160,7 @@ fn length_bytes(length: u16) -> [u8; 2]
 #[tactic(auto, using(crate::proofs::Appending::by_both))]
 /// Appends a text, after its length.
 fn put_text(out: &mut Vec<u8>, text: &str) -> Result<(), AllocError>
-    requires { length text.now < 65536 }
+    requires { length text.now < 2 ^ 16 }
     ensures put { OnOk result (out.new.items ≡ out.old.items ++ text_spelling text.now) }
     ensures kept { Extends out.old.items out.new.items }
     ensures utf8 { is_utf8 text.now ≡ true }
@@ -172,7 +173,7 @@ fn put_text(out: &mut Vec<u8>, text: &str) -> Result<(), AllocError>
 
 /// The bytes of a window before its votes.
 fn window_head(window: &Window) -> [u8; 18]
-    requires { length window.now.entries.items ≤ 8 }
+    requires { length window.now.entries.items ≤ most_entries }
     ensures { result ≡ ballot_spelling window.now.ballot ++ position_spelling window.now.from ++ position_spelling window.now.covered ++ length window.now.entries.items ∷ [] }
 {
     let mut bytes = [0; 18];
@@ -187,7 +188,7 @@ fn window_head(window: &Window) -> [u8; 18]
 #[tactic(auto, using(crate::proofs::Appending::by_both))]
 /// Appends a Promise.
 fn put_window(out: &mut Vec<u8>, window: &Window) -> Result<(), AllocError>
-    requires { length window.now.entries.items ≤ 8 }
+    requires { length window.now.entries.items ≤ most_entries }
     ensures put { OnOk result (out.new.items ≡ out.old.items ++ body_spelling (Promise (window_of window.now))) }
     ensures kept { Extends out.old.items out.new.items }
     ensures fields { OnOk result (HasFields (Promise (window_of window.now))) }
@@ -201,7 +202,7 @@ fn put_window(out: &mut Vec<u8>, window: &Window) -> Result<(), AllocError>
 #[tactic(auto, using(crate::proofs::Appending::by_both, crate::proofs::Appending::twice))]
 /// Appends a Chosen.
 fn put_chosen(out: &mut Vec<u8>, pairs: &[Pair]) -> Result<(), AllocError>
-    requires { length pairs.now ≤ 8 }
+    requires { length pairs.now ≤ most_entries }
     ensures put { OnOk result (out.new.items ≡ out.old.items ++ body_spelling (Chosen pairs.now)) }
     ensures kept { Extends out.old.items out.new.items }
     ensures fields { OnOk result (HasFields (Chosen pairs.now)) }

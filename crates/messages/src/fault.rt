@@ -3,7 +3,7 @@
 ghost use Rattle.std.specs.Prelude.{◌≡◌};
 ghost use Rattle.messages.specs.Reading.{fault_of};
 
-use ballots::ValueFault;
+use ballots::SpellingFault;
 
 /// Why bytes are no message.
 #[derive(Clone, Copy, PartialEq, Eq, Debug)]
@@ -24,15 +24,15 @@ pub enum WireFault {
     Memory,
 }
 
-impl From<ValueFault> for WireFault {
-    fn from(fault: ValueFault) -> WireFault
+impl From<SpellingFault> for WireFault {
+    fn from(fault: SpellingFault) -> WireFault
         ensures { result ≡ fault_of fault }
     {
         match fault {
-            ValueFault::Short => WireFault::Short,
-            ValueFault::Number => WireFault::Number,
-            ValueFault::NotUtf8 => WireFault::NotUtf8,
-            ValueFault::Memory => WireFault::Memory,
+            SpellingFault::Short => WireFault::Short,
+            SpellingFault::Number => WireFault::Number,
+            SpellingFault::NotUtf8 => WireFault::NotUtf8,
+            SpellingFault::Memory => WireFault::Memory,
         }
     }
 }

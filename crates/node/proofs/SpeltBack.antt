@@ -1,7 +1,7 @@
 -- What is sent reads as the messages that were to be sent.
 use Rattle.std.proofs.Common.{◌<◌, ◌≤◌, ◌^◌, ℕ, arith, subst, List, [], ◌∷◌, map, inl, inr}
 use Rattle.std.specs.Prelude.{filter, not, ◌==◌}
-use Rattle.ballots.specs.Ballot.{most_members}
+use Rattle.ballots.specs.Ballot.{IsBallotOf, most_members}
 use Rattle.ballots.specs.Messages.{Body, Prepare, Promise, Accept, Accepted, Chosen, CatchUp, Submit, Ask, Elsewhere, Packet, body_of, packet, up_to, to_all}
 use Rattle.ballots.specs.declared.ballot.Ballot.{Ballot}
 use Rattle.ballots.specs.declared.value.Entry.{Entry}
@@ -17,7 +17,7 @@ use Rattle.paxos.specs.Application.{Application}
 use Rattle.paxos.specs.Lists.{Has}
 use Rattle.paxos.specs.Records.{Record}
 use Rattle.paxos.specs.Step.{Running}
-use Rattle.paxos.specs.WellFormed.{AreVotes, IsBallotOf, IsBody, IsMessage, IsSender, IsState, IsStep}
+use Rattle.paxos.specs.WellFormed.{AreVotes, IsBody, IsMessage, IsSender, IsState, IsStep}
 use Rattle.node.specs.Nodes.{AreAll, HasFieldsInRange, ReadsBack}
 
 -- what may be among n members may be among more

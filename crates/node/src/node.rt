@@ -74,7 +74,8 @@ impl<R: Records + Drop, A: Application + Drop> Node<R, A> {
     /// and has heard nothing else. It applies what is learnt, while memory is found, and says whether it stopped short of that: a later call
     /// applies the rest.
     ///
-    /// The records are those of this member among as many: where they are not, nothing is known of what it does.
+    /// The records are those of this member among as many. Records that suit as many members are, as those of a file that was opened for this
+    /// setup; of others it is known where the record that they keep is one that a member of so many may keep.
     ///
     /// Faults, which give the setup back, and the records with what they keep: memory was refused (3); the store failed (4), which the records
     /// count.
@@ -92,6 +93,8 @@ impl<R: Records + Drop, A: Application + Drop> Node<R, A> {
         ensures base { IfOk result (λ o. R.is_kept o.0.member.acceptor.records → (a : RecordTerm) → R.base records a → R.base o.0.member.acceptor.records a) }
         ensures counts { IfOk result (λ o. R.failed o.0.member.acceptor.records ≡ R.failed records) }
         ensures fates { IfOk result (λ o. (k : ℕ) → R.fates o.0.member.acceptor.records k ≡ R.fates records k) }
+        ensures suits { (n : ℕ) → R.suits records n → IfOk result (λ o. IsRecord n o.0.member.acceptor.kept) }
+        ensures begun { R.suits records setup.members → IfOk result (λ o. HasStarted A.has_applied o.0 o.1) }
         ensures refused { IfErr result (λ e. (e.1 ≡ setup) × IsRefused R.stands R.is_kept R.failed R.fates records e.2 (records_fault e.0)) }
     {
         let Ok(mut application) = A::new(alloc, setup.names()) else {

@@ -5,13 +5,12 @@ use Rattle.std.proofs.lemmas.Bool.{and_parts, leb-true}
 use Rattle.std.proofs.lemmas.List.Elements.{All-nil, All-cons, All-head, All-tail}
 use Rattle.std.proofs.lemmas.Option.{none-some, same_Some}
 use Rattle.paxos.specs.Lists.{Has}
-use Rattle.ballots.specs.Values.{positions}
+use Rattle.ballots.specs.Values.{IsPosition, positions}
 use Rattle.ballots.specs.declared.value.Value.{Value}
 use Rattle.ballots.specs.declared.value.Value.TheVariants.{NoOp}
 use Rattle.ballots.specs.declared.value.Vote.{Vote}
 use Rattle.ballots.specs.declared.value.Pair.{Pair}
 use Rattle.paxos.specs.Proposing.{Turn, passes, proposes, has_place, lies_above, proposal, turn, turns}
-use Rattle.paxos.specs.WellFormed.{IsPosition}
 use Rattle.paxos.proofs.Lists.{has_cases}
 
 -- each is at a position

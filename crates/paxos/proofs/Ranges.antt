@@ -3,16 +3,16 @@ use Rattle.std.proofs.Common.{◌≡◌, ℕ, zero, suc, ◌+◌, ◌≤◌, Boo
 use Rattle.std.specs.Prelude.{flat_map}
 use Rattle.std.proofs.lemmas.Bool.{eqb-false}
 use Rattle.std.proofs.lemmas.List.{length-take}
-use Rattle.ballots.specs.Ballot.{below}
+use Rattle.ballots.specs.Ballot.{IsBallotOf, below}
 use Rattle.ballots.specs.declared.ballot.Ballot.{Ballot}
-use Rattle.ballots.specs.Values.{positions}
+use Rattle.ballots.specs.Values.{IsPosition, positions}
 use Rattle.ballots.specs.declared.value.Value.{Value}
 use Rattle.ballots.specs.declared.value.Vote.{Vote}
 use Rattle.ballots.specs.declared.value.Entry.{Entry}
 use Rattle.ballots.specs.declared.value.Pair.{Pair}
 use Rattle.paxos.specs.Records.{with_vote, since, covered_by, window}
 use Rattle.paxos.specs.Knowledge.{Heard, learnt, pair_of, newly_at, learnt_from}
-use Rattle.paxos.specs.WellFormed.{IsPosition, IsBallotOf, AreVotes, ArePairs, last_position, IsWindow}
+use Rattle.paxos.specs.WellFormed.{AreVotes, ArePairs, last_position, IsWindow}
 use Rattle.paxos.proofs.Order.{below_self, most_trans}
 
 -- votes from less on, up to more, under a ballot that is not lower

@@ -6,9 +6,9 @@ use Rattle.std.proofs.lemmas.List.{length-take}
 use Rattle.std.proofs.lemmas.Option.{same_Some}
 use Rattle.paxos.specs.Lists.{Has}
 use Rattle.ballots.specs.Terms.{Request, Question}
-use Rattle.ballots.specs.Ballot.{most_members, last_round, no_ballot, below}
+use Rattle.ballots.specs.Ballot.{IsBallotOf, most_members, last_round, no_ballot, below}
 use Rattle.ballots.specs.declared.ballot.Ballot.{Ballot}
-use Rattle.ballots.specs.Values.{positions}
+use Rattle.ballots.specs.Values.{IsPosition, positions}
 use Rattle.ballots.specs.declared.value.Value.{Value}
 use Rattle.ballots.specs.declared.value.Value.TheVariants.{Request as Of}
 use Rattle.ballots.specs.declared.value.Vote.{Vote}
@@ -20,7 +20,7 @@ use Rattle.paxos.specs.Records.{Record, window, Write, Nothing, NewPromise, NewV
 use Rattle.paxos.specs.Knowledge.{AcceptedBy, ChosenAre, news, learnt, newly, prefix, learnt_from, joins}
 use Rattle.paxos.specs.Proposing.{Turn, proposes, has_open, has_free_place}
 use Rattle.paxos.specs.Step.{Leader, Running, Effect, says, quiet, yields, yielding, on_prepare, on_accept, cover_heard, report_heard, is_learnt_heard, turn_of, goes_on, accepts, leading, asks_on, on_promise, closes, learns, chosen_packet, on_catch_up, values_of, on_new_request, on_submit, on_ask, on_body, is_called_for, on_message, next_ballot, may_begin, begins, on_begin, resent, on_resend, on_catch_up_tick, keeping, on_keep}
-use Rattle.paxos.specs.WellFormed.{IsPosition, IsBallotOf, AreVotes, ArePairs, IsBody, IsSender, IsMessage, IsRecord, IsLeader, IsCalledFor, IsState, IsStep}
+use Rattle.paxos.specs.WellFormed.{AreVotes, ArePairs, IsBody, IsSender, IsMessage, IsRecord, IsLeader, IsCalledFor, IsState, IsStep}
 use Rattle.paxos.proofs.Order.{below_self, below_not, from_under, most_trans}
 use Rattle.paxos.proofs.Lists.{has_cases, has_flat, has_filter}
 use Rattle.paxos.proofs.News.{prefix_limit}

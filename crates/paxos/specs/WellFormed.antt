@@ -2,23 +2,15 @@
 use Rattle.std.specs.Prelude.{◌≡◌, ◌≤◌, ℕ, suc, false, List, [], ◌∷◌, length, Some, ◌⊎◌}
 use Rattle.std.specs.List.{All}
 use Rattle.paxos.specs.Lists.{at, Has}
-use Rattle.ballots.specs.Ballot.{IsBallot, below, no_ballot}
+use Rattle.ballots.specs.Ballot.{IsBallotOf, below, no_ballot}
 use Rattle.ballots.specs.declared.ballot.Ballot.{Ballot}
-use Rattle.ballots.specs.Values.{positions, most_entries}
+use Rattle.ballots.specs.Values.{IsPosition, positions, most_entries}
 use Rattle.ballots.specs.declared.value.Entry.{Entry}
 use Rattle.ballots.specs.declared.value.Pair.{Pair}
 use Rattle.ballots.specs.Messages.{Window, Body, Prepare, Promise, Accept, Accepted, Chosen, CatchUp, Submit, Ask, Elsewhere, Packet}
 use Rattle.paxos.specs.Records.{Record, written}
 use Rattle.paxos.specs.Step.{Leader, Running, Effect}
 use Rattle.paxos.specs.World.{Member, World}
-
--- a position that there is
-abbrev pub IsPosition : ℕ → Type 0
-IsPosition p = (1 ≤ p) × (p ≤ positions)
-
--- a ballot of one of n members
-abbrev pub IsBallotOf : (members : ℕ) → Ballot → Type 0
-IsBallotOf n b = IsBallot b × (b.member ≤ n)
 
 -- votes that rise from `least` to `most`, of ballots of n members that are not above b
 abbrev pub AreVotes : (members : ℕ) → Ballot → (least : ℕ) → (most : ℕ) → List Entry → Type 0

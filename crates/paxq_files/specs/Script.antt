@@ -1,10 +1,11 @@
 -- The script that a text is: lines that end with line feeds, each a command.
-use Rattle.std.specs.Prelude.{ℕ, Bool, ◌&&◌, not, nat_lt, ◌==◌, if◌then◌else◌, List, [], ◌∷◌, ◌++◌, length, filter, codes, Option, Some, None}
+use Rattle.std.specs.Prelude.{ℕ, suc, Bool, ◌&&◌, not, nat_lt, ◌==◌, if◌then◌else◌, List, [], ◌∷◌, ◌++◌, length, filter, codes, Option, Some, None}
 use Rattle.std.specs.Option.{option_map, option_map_or}
 use Rattle.std.specs.List.{list_any, slice_split, before_first, after_first, enumerate_from, starts_with}
 use Rattle.document_names.specs.Names.{are_document_names}
 use Rattle.line_parts.specs.Parts.{number_below, is_space, has_text_length, request_of, text_after, ◌>>=◌}
 use Rattle.ballots.specs.Terms.{Request as RequestTerm}
+use Rattle.ballots.specs.Values.{positions}
 
 -- what a line asks for, a question at which level of the language
 pub data Command : Type 0 where
@@ -35,7 +36,7 @@ abbrev pub ask_at_with : (level floor : ℕ) → List ℕ → Option Command
 ask_at_with level floor text = if has_text_length text then Some (ask_at level floor text) else None
 
 abbrev pub ask_at_of : (level : ℕ) → List ℕ → Option Command
-ask_at_of level parts = number_below 1000001 (before_first is_space parts) >>= λ floor. ask_at_with level floor (after_first is_space parts)
+ask_at_of level parts = number_below (suc positions) (before_first is_space parts) >>= λ floor. ask_at_with level floor (after_first is_space parts)
 
 -- `submit CLIENT NUMBER TEXT`, `askat FLOOR TEXT` or `ask TEXT` at level 1
 unfoldable pub command_at_1 : List ℕ → Option Command

@@ -6,4 +6,4 @@ mod run;
 mod service;
 
 pub use run::run_node;
-pub use service::{End, serve_over, serve_staged};
+pub use service::{End, open_in_database, serve_in_database, serve_over};

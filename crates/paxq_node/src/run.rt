@@ -1,13 +1,12 @@
 //! A node from its configuration's file to its end.
 
 use super::config::{NoConfig, configuration};
-use super::service::{End, serve_over, serve_staged};
+use super::service::{End, serve_in_database, serve_over};
 use ballots::{Setup, SetupFault};
 use configuration::Config;
 use program_reports::{cannot_read, no_memory, no_network, store_failed, wrong_config};
 use records::MemRecords;
 use sessions::State;
-use sql_records::{OpenFault, SqlRecords};
 use sqlite::{Alter, Connection, Error};
 use std::alloc::{AllocFailed, Global};
 use std::io::Write;
@@ -153,11 +152,5 @@ fn run_over<S: Alter + Drop, W: Wire>(
     let Ok(connection) = connection else {
         return End::Store;
     };
-    match SqlRecords::open(alloc, connection, &setup) {
-        Ok(records) => serve_staged::<SqlRecords<S>, State, W>(
-            alloc, setup, records, wire, peers, leads, turns,
-        ),
-        Err((OpenFault::Memory, _)) => End::Memory,
-        Err((_, _)) => End::Store,
-    }
+    serve_in_database::<S, State, W>(alloc, setup, connection, wire, peers, leads, turns)
 }

@@ -1,6 +1,8 @@
 //! A node's service: it opens, leads where it is told to, and serves.
 
-ghost use Rattle.std.specs.Prelude.{◌≡◌, ◌≤◌, IfOk, if◌then◌else◌};
+ghost use Rattle.std.specs.Prelude.{◌≡◌, ◌≢◌, ◌≤◌, Err, false, IfOk, if◌then◌else◌};
+ghost use Rattle.node.specs.Nodes.{HasStarted};
+ghost use Rattle.paxos.specs.WellFormed.{IsRecord};
 ghost use Rattle.server_steps.specs.Going.{Passed, has_brought_beside, told_to_lead, was_given_or_held};
 ghost use Rattle.server_steps.specs.Moves.{AreTurns};
 ghost use Rattle.serving.specs.Serves.{WritesFirst};
@@ -8,8 +10,10 @@ ghost use Rattle.serving.specs.Serves.{WritesFirst};
 use applications::Application;
 use ballots::Setup;
 use node::{Node, OpenFault};
-use records::{FlushRecords, GroupRecords, RecordsFault, Staged};
+use records::{FlushRecords, RecordsFault, Staged};
 use serving::{MOST_BYTES, ServeFault, Server};
+use sql_records::{OpenFault as DatabaseFault, SqlRecords};
+use sqlite::{Alter, Connection};
 use std::alloc::Global;
 use wires::Wire;
 
@@ -24,23 +28,65 @@ pub enum End {
     Store,
 }
 
-/// Serves as `serve_over` does, over a store that is written once a round: what the steps of a round write to the node's record is taken in memory,
-/// and goes into the store in one write, before anything is sent that rests on it.
-pub fn serve_staged<R: GroupRecords + Drop, A: Application + Drop, W: Wire>(
+/// Opens a node over the records of this member in a database. What its steps write is taken in memory, and goes into the database in one write.
+///
+/// Whatever stands in the database: the node that it gives has started from a record that a member of so many may keep, since all else is refused
+/// when the records are opened. What no memory was found for to apply, a later call applies, where the answer says that it stopped short.
+///
+/// Refusals: memory was refused; the store failed, or holds no records of this member.
+pub fn open_in_database<S: Alter + Drop, A: Application + Drop>(
+    alloc: Global,
+    connection: Connection<S>,
+    setup: Setup,
+) -> Result<(Node<Staged<SqlRecords<S>>, A>, bool), End>
+    ensures setup { IfOk result (λ o. o.0.setup ≡ setup) }
+    ensures started { IfOk result (λ o. HasStarted A.has_applied o.0 o.1) }
+    ensures sound { IfOk result (λ o. IsRecord setup.members o.0.member.acceptor.kept) }
+    ensures running { IfOk result (λ o. o.0.member.acceptor.is_stopped ≡ false) }
+    ensures refused { result ≢ Err End.Done }
+{
+    let records = staged(alloc, connection, &setup)?;
+    match Node::<Staged<SqlRecords<S>>, A>::open(alloc, setup, records) {
+        Ok(opened) => Ok(opened),
+        Err((OpenFault::Memory, _, _)) => Err(End::Memory),
+        Err((OpenFault::Store, _, _)) => Err(End::Store),
+    }
+}
+
+/// The records of this member in a database, which are written once a round.
+fn staged<S: Alter + Drop>(
+    alloc: Global,
+    connection: Connection<S>,
+    setup: &Setup,
+) -> Result<Staged<SqlRecords<S>>, End>
+    ensures sound { IfOk result (λ s. IsRecord setup.now.members s.taken) }
+    ensures refused { result ≢ Err End.Done }
+{
+    match SqlRecords::open(alloc, connection, setup) {
+        Ok(records) => match Staged::open(alloc, records) {
+            Ok(records) => Ok(records),
+            Err((RecordsFault::Memory, _)) => Err(End::Memory),
+            Err((RecordsFault::Store, _)) => Err(End::Store),
+        },
+        Err((DatabaseFault::Memory, _)) => Err(End::Memory),
+        Err((_, _)) => Err(End::Store),
+    }
+}
+
+/// Serves as `serve_over` does, over the records of a database that is written once a round: what the steps of a round write to the node's record
+/// goes there in one write, before anything is sent that rests on it.
+pub fn serve_in_database<S: Alter + Drop, A: Application + Drop, W: Wire>(
     alloc: Global,
     setup: Setup,
-    records: R,
+    connection: Connection<S>,
     wire: &mut W,
     peers: Vec<W::Address>,
     leads: bool,
     turns: u64,
 ) -> End {
-    match Staged::open(alloc, records) {
-        Ok(records) => {
-            serve_over::<Staged<R>, A, W>(alloc, setup, records, wire, peers, leads, turns)
-        }
-        Err((RecordsFault::Memory, _)) => End::Memory,
-        Err((RecordsFault::Store, _)) => End::Store,
+    match open_in_database::<S, A>(alloc, connection, setup) {
+        Ok((node, _)) => serve_node(alloc, node, wire, peers, leads, turns),
+        Err(end) => end,
     }
 }
 
@@ -55,18 +101,28 @@ pub fn serve_over<R: FlushRecords + Drop, A: Application + Drop, W: Wire>(
     leads: bool,
     turns: u64,
 ) -> End {
-    let Ok(mut buffer) = vec![in alloc; 0u8; MOST_BYTES] else {
-        return End::Memory;
-    };
     match Node::<R, A>::open(alloc, setup, records) {
         // What no memory was found for at the start, a later call applies.
-        Ok((node, _)) => {
-            let server = Server::new(alloc, node, 0, peers);
-            serve_to_the_end(alloc, server, wire, leads, turns, &mut buffer)
-        }
+        Ok((node, _)) => serve_node(alloc, node, wire, peers, leads, turns),
         Err((OpenFault::Memory, _, _)) => End::Memory,
         Err((OpenFault::Store, _, _)) => End::Store,
     }
+}
+
+/// Serves with a node that is open.
+fn serve_node<R: FlushRecords + Drop, A: Application + Drop, W: Wire>(
+    alloc: Global,
+    node: Node<R, A>,
+    wire: &mut W,
+    peers: Vec<W::Address>,
+    leads: bool,
+    turns: u64,
+) -> End {
+    let Ok(mut buffer) = vec![in alloc; 0u8; MOST_BYTES] else {
+        return End::Memory;
+    };
+    let server = Server::new(alloc, node, 0, peers);
+    serve_to_the_end(alloc, server, wire, leads, turns, &mut buffer)
 }
 
 /// Serves, and ends.

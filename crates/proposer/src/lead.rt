@@ -1,6 +1,6 @@
 //! What a proposer has while it leads.
 
-ghost use Rattle.std.specs.Prelude.{◌≡◌, ◌≤◌, ◌<◌, ◌+◌, ℕ, [], ◌∷◌, length, nat_le, nat_lt, flat_map, is_some, replicate, ◌++◌, IfOk, OnOk};
+ghost use Rattle.std.specs.Prelude.{◌≡◌, ◌≤◌, ◌<◌, ◌+◌, length, nat_lt, flat_map, replicate, ◌++◌, IfOk, OnOk};
 ghost use Rattle.ballots.specs.Terms.{Request};
 ghost use Rattle.std.specs.Option.{option_copied};
 ghost use Rattle.std.specs.Vec.{vec_capacity};
@@ -9,7 +9,6 @@ ghost use Rattle.ballots.specs.Messages.{up_to, window_of};
 ghost use Rattle.ballots.specs.Values.{is_numbered, positions, IsRising, most_open};
 ghost use Rattle.paxos.specs.Knowledge.{joins};
 ghost use Rattle.paxos.specs.Proposing.{has_free_place, has_open, has_place, still_open};
-ghost use Rattle.position_map.specs.Slots.{filled, value_at, HasSlot};
 ghost use Rattle.proposer.specs.Beginning.{is_in, IsBegun};
 ghost use Rattle.proposer.specs.Knowing.{asked_of, IsAcceptOf, IsAgain};
 ghost use Rattle.proposer.specs.Following.{is_followed_of};
@@ -21,6 +20,7 @@ ghost use Rattle.proposer.specs.Views.{AreRising};
 ghost use Rattle.proposer.specs.Terms.{cover_of, is_learnt_of, proposing, report_of, turn_of};
 
 use super::draft::News;
+use super::reported::{learn_all, merge_all, positions_known, reserve_entries, reserve_positions};
 use super::sends::{Asked, Sends};
 use super::view::{Made, View};
 use ballots::limits::{MOST_OPEN, POSITIONS};
@@ -450,19 +450,6 @@ fn same_covers(alloc: Global, members: Members, cover: u32) -> Result<Vec<u32>, 
     Ok(covers)
 }
 
-/// A map of positions that rise.
-fn positions_known(alloc: Global, learnt: &[u32]) -> Result<PositionMap<()>, AllocError>
-    requires rising { IsRising 1 learnt.now }
-    ensures { IfOk result (λ map. (q : ℕ) → is_some (value_at q (filled map)) ≡ is_in q learnt.now) }
-{
-    let mut map = PositionMap::new(alloc);
-    for position in learnt {
-        map.reserve(*position)?;
-        map.fill(*position, ());
-    }
-    Ok(map)
-}
-
 /// Whether a value is a request of this client and number.
 fn is_numbered(value: &Value, client: u32, number: u64) -> bool
     ensures { (q : Request) → q.client ≡ client → q.number ≡ number → result ≡ is_numbered q value.now }
@@ -470,43 +457,6 @@ fn is_numbered(value: &Value, client: u32, number: u64) -> bool
     match value {
         Value::NoOp => false,
         Value::Request(request) => request.id().client == client && request.id().number == number,
-    }
-}
-
-/// Takes in reported votes: of two at a position the one of the higher ballot stays.
-fn merge_all(reports: &mut PositionMap<Vote>, entries: Vec<Entry>)
-    requires rising { AreRising 1 entries.items }
-    requires room { HaveRoom entries.items reports.old }
-    ensures { IsMerged entries.items reports.old reports.new }
-{
-    let mut left = entries;
-    while let Some(entry) = left.pop() {
-        merge_one(reports, entry);
-    }
-}
-
-/// Takes in a reported vote.
-fn merge_one(reports: &mut PositionMap<Vote>, entry: Entry)
-    requires most { entry.position ≤ positions }
-    requires room { HasSlot entry.position reports.old }
-    ensures { IsMerged (entry ∷ []) reports.old reports.new }
-{
-    if let Some(known) = reports.get(entry.position) {
-        if !known.ballot.is_below(entry.vote.ballot) {
-            return;
-        }
-    }
-    reports.fill(entry.position, entry.vote);
-}
-
-/// Takes in learnt positions.
-fn learn_all(map: &mut PositionMap<()>, learnt: &[u32])
-    requires rising { IsRising 1 learnt.now }
-    requires room { HavePlaces learnt.now map.old }
-    ensures { IsLearning learnt.now map.old map.new }
-{
-    for position in learnt {
-        map.fill(*position, ());
     }
 }
 
@@ -531,30 +481,6 @@ pub(super) fn is_among(positions: &[u32], position: u32) -> bool
     ensures { result ≡ is_in position positions.now }
 {
     positions.contains(&position)
-}
-
-/// Makes room for votes.
-fn reserve_entries(reports: &mut PositionMap<Vote>, entries: &[Entry]) -> Result<(), AllocError>
-    requires rising { AreRising 1 entries.now }
-    ensures same { filled reports.new ≡ filled reports.old }
-    ensures room { OnOk result (HaveRoom entries.now reports.new) }
-{
-    for entry in entries {
-        reports.reserve(entry.position)?;
-    }
-    Ok(())
-}
-
-/// Makes room for learnt positions.
-fn reserve_positions(map: &mut PositionMap<()>, learnt: &[u32]) -> Result<(), AllocError>
-    requires rising { IsRising 1 learnt.now }
-    ensures same { filled map.new ≡ filled map.old }
-    ensures places { OnOk result (HavePlaces learnt.now map.new) }
-{
-    for position in learnt {
-        map.reserve(*position)?;
-    }
-    Ok(())
 }
 
 /// A copy of entries.

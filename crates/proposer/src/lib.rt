@@ -6,6 +6,7 @@ mod fault;
 pub mod laws;
 mod lead;
 mod proposer;
+mod reported;
 mod sends;
 mod view;
 

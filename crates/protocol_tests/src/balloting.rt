@@ -1,8 +1,8 @@
 // Ballots, majorities, refused requests and questions, and values as bytes.
 
 use ballots::{
-    Ask, AskFault, Ballot, Entry, Members, Pair, Request, RequestFault, Setup, SetupFault, Value,
-    ValueFault, Vote, put_value, take_value,
+    Ask, AskFault, Ballot, Entry, Members, Pair, Request, RequestFault, Setup, SetupFault,
+    SpellingFault, Value, Vote, put_value, take_value,
 };
 use document_names::Names;
 use std::alloc::Global;
@@ -140,15 +140,15 @@ fn refuses_other_bytes(rt: HostRuntime) {
     let alloc = rt.alloc();
     for length in 0..REQUEST.len() {
         let fault = take_value(alloc, &REQUEST[..length]).err();
-        assert_eq!(rt; fault, Some(ValueFault::Short), "of {length} bytes");
+        assert_eq!(rt; fault, Some(SpellingFault::Short), "of {length} bytes");
     }
     for (at, byte, want) in [
-        (0, 2, ValueFault::Number),
-        (13, 0, ValueFault::Number),
-        (13, 255, ValueFault::Number),
-        (14, 16, ValueFault::Number),
-        (15, 2, ValueFault::Short),
-        (16, 255, ValueFault::NotUtf8),
+        (0, 2, SpellingFault::Number),
+        (13, 0, SpellingFault::Number),
+        (13, 255, SpellingFault::Number),
+        (14, 16, SpellingFault::Number),
+        (15, 2, SpellingFault::Short),
+        (16, 255, SpellingFault::NotUtf8),
     ] {
         let mut bytes = REQUEST;
         bytes[at] = byte;

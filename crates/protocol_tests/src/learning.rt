@@ -3,6 +3,7 @@
 // `rt try --test --fail-alloc N`, for each N from 1 on, refuses each allocation in turn: the learner is then compared with one that was
 // not called, and the call is made again.
 ghost use Rattle.std.specs.Prelude.{◌≡◌, ◌≤◌};
+ghost use Rattle.ballots.specs.Ballot.{most_members};
 ghost use Rattle.learner.specs.Messages.{IsSent};
 
 mod twins;
@@ -125,7 +126,7 @@ open 0
 // A member accepts the no-op at position 2.
 fn accepted_at_two(member: u8) -> Heard
     requires least { 1 ≤ member }
-    requires most { member ≤ 63 }
+    requires most { member ≤ most_members }
     ensures { IsSent result }
 {
     let ballot = Ballot {

@@ -1,6 +1,7 @@
 //! A reader, and what it is told.
 
 ghost use Rattle.std.specs.Prelude.{◌≡◌, ◌<◌, ◌≤◌, ◌↔◌, ◌⊎◌, [], length, IfOk, IsErrOf};
+ghost use Rattle.ballots.specs.Terms.{most_text};
 ghost use Rattle.left_right.specs.Sides.{view as known};
 ghost use Rattle.published.specs.Readers.{IsAnswer, Learns, first_readers, new_reader};
 ghost use Rattle.sight.specs.Sights.{IsSight};
@@ -150,7 +151,7 @@ impl<A: Application + Drop, J: Naming + Opening> Reader<A, J> {
         ensures sight { IsSight self.old.sight self.new.sight }
         ensures grows { (self.new.sight ≡ self.old.sight) ⊎ (self.new.sight ≡ self.new.shown) }
         ensures goes_on { IsSight self.old.shown self.new.shown }
-        ensures long { IsErrOf result ReadFault.Long ↔ (4096 < length text.now) }
+        ensures long { IsErrOf result ReadFault.Long ↔ (most_text < length text.now) }
         ensures unasked { IsErrOf result ReadFault.Long → self.new ≡ self.old }
         ensures closed { IsErrOf result ReadFault.Closed → self.new.sight ≡ self.old.sight }
         ensures same { self.new.number ≡ self.old.number }

@@ -1,34 +1,13 @@
 //! Votes, promises and learnt values, each with a line once it is acknowledged.
 
-ghost use Rattle.std.specs.Prelude.{◌≡◌, ◌≤◌, true, IfSome};
-ghost use Rattle.ballots.specs.Ballot.{IsBallot};
-ghost use Rattle.ballots.specs.Values.{positions};
+ghost use Rattle.std.specs.Prelude.{◌≡◌, IfSome};
 
 use acceptor::Acceptor;
-use ballots::limits::{LAST_ROUND, MOST_MEMBERS, POSITIONS};
+use ballots::limits::{POSITIONS, is_position};
 use ballots::{Ballot, Request, Value, Vote};
 use records::Records;
 use std::alloc::Global;
 use std::io;
-
-/// Whether there may be that ballot.
-#[tactic(auto, unfolding(ballots::specs::Ballot::last_round))]
-fn is_ballot(ballot: Ballot) -> bool
-    ensures { result ≡ true → IsBallot ballot }
-{
-    1 <= ballot.round
-        && ballot.round <= LAST_ROUND
-        && 1 <= ballot.member
-        && ballot.member <= MOST_MEMBERS
-}
-
-/// Whether there may be that position.
-#[tactic(auto, unfolding(ballots::specs::Values::positions))]
-fn is_position(position: u32) -> bool
-    ensures { result ≡ true → (1 ≤ position) × (position ≤ positions) }
-{
-    1 <= position && position <= POSITIONS
-}
 
 /// A request whose number is made of a round and a position.
 fn request(alloc: Global, round: u64, position: u32) -> Option<Value> {
@@ -73,7 +52,7 @@ fn accepts<R: Records + Drop>(
     ballot: Ballot,
     position: u32,
 ) -> bool {
-    if !is_ballot(ballot) || !is_position(position) {
+    if !ballot.is_valid() || !is_position(position) {
         return false;
     }
     match vote(alloc, ballot, position) {
@@ -106,7 +85,7 @@ pub(super) fn promise_all<R: Records + Drop>(
 /// Whether it promises a ballot.
 fn promises<R: Records + Drop>(alloc: Global, acceptor: &mut Acceptor<R>, ballot: Ballot) -> bool {
     let promised = acceptor.promised();
-    if !is_ballot(ballot) || !promised.is_below(ballot) {
+    if !ballot.is_valid() || !promised.is_below(ballot) {
         return false;
     }
     acceptor.on_begin(alloc, ballot).is_ok()

@@ -14,10 +14,9 @@ use Rattle.sqlite.specs.State.{State, HasCleanDisk, Survives, Shows, IsRolledBac
 use Rattle.sqlite.proofs.Callers.{runs_as, statement_of}
 use Rattle.sqlite.specs.Listing.{understood}
 use Rattle.record_tables.specs.declared.version.Version.TheVariants.{Second}
-use Rattle.ballots.specs.Ballot.{below}
+use Rattle.ballots.specs.Ballot.{IsBallotOf, below}
 use Rattle.ballots.specs.Values.{positions}
 use Rattle.ballots.specs.Terms.{Setup}
-use Rattle.paxos.specs.WellFormed.{IsBallotOf}
 use Rattle.paxos.specs.Records.{Record, NewPromise, NewVote, NewLearnt, written}
 use Rattle.ballots.specs.declared.ballot.Ballot.{Ballot}
 use Rattle.ballots.specs.declared.value.Value.{Value}

@@ -15,9 +15,8 @@ use Rattle.sqlite_trees.specs.Tree.{put_row}
 use Rattle.sqlite.specs.Listing.{understood}
 use Rattle.sqlite.specs.State.{State, HasCleanDisk, Survives, IsUnchanged, IsNotRun, ExecutesIn, Executes, CommitsBy, MayCommit, Writes, mode_of, shows_rows, text_of}
 use Rattle.sqlite.proofs.Callers.{IsPlain, command_of, statement_of, runs_as}
-use Rattle.ballots.specs.Ballot.{below}
+use Rattle.ballots.specs.Ballot.{IsBallotOf, below}
 use Rattle.ballots.specs.Terms.{Setup}
-use Rattle.paxos.specs.WellFormed.{IsBallotOf}
 use Rattle.paxos.specs.Records.{Record, NewPromise, NewLearnt, written}
 use Rattle.ballots.specs.Values.{positions}
 use Rattle.ballots.specs.Spelling.{IsValue}

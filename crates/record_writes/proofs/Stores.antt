@@ -4,13 +4,12 @@ use Rattle.sqlite.specs.Tree.{Trees}
 use Rattle.sqlite_rules.specs.Lists.{Has}
 use Rattle.ballots.specs.Terms.{Setup}
 use Rattle.ballots.specs.Spelling.{IsValue}
-use Rattle.ballots.specs.Ballot.{IsBallot, below, last_round}
+use Rattle.ballots.specs.Ballot.{IsBallot, IsBallotOf, below, last_round}
 use Rattle.ballots.specs.Values.{positions}
 use Rattle.paxos.proofs.Order.{below_self, most_trans}
 use Rattle.ballots.specs.declared.ballot.Ballot.{Ballot}
 use Rattle.ballots.specs.declared.value.Vote.{Vote}
 use Rattle.ballots.specs.declared.value.Entry.{Entry}
-use Rattle.paxos.specs.WellFormed.{IsBallotOf}
 use Rattle.paxos.specs.Records.{Record, NewPromise, NewVote, NewLearnt, written, with_vote}
 use Rattle.ballots.specs.declared.value.Value.{Value}
 use Rattle.record_tables.specs.declared.version.Version.TheVariants.{Second}

@@ -5,8 +5,7 @@ use Rattle.sqlite.specs.declared.types.Value.TheVariants.{Null, Int, Text, Blob}
 use Rattle.sqlite.specs.Order.{Row}
 use Rattle.sqlite.specs.Tree.{Trees}
 use Rattle.sqlite_rules.specs.Lists.{Has}
-use Rattle.ballots.specs.Ballot.{below, no_ballot}
-use Rattle.paxos.specs.WellFormed.{IsBallotOf}
+use Rattle.ballots.specs.Ballot.{IsBallotOf, below, no_ballot}
 use Rattle.ballots.specs.Values.{positions}
 use Rattle.ballots.specs.Terms.{Setup}
 use Rattle.ballots.specs.Spelling.{IsValue, value_spelling}

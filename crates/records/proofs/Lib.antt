@@ -1,3 +1,4 @@
 pub mod Votes
 pub mod Plans
 pub mod Groups
+pub mod Empty

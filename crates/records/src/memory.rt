@@ -1,8 +1,9 @@
 //! A record in memory.
 
-ghost use Rattle.std.specs.Prelude.{◌≡◌, ◌⊎◌, ◌≤◌, ◌<◌, length, None, Some, false, IfErr, IfOk, OnErr, OnOk};
+ghost use Rattle.std.specs.Prelude.{◌≡◌, ◌⊎◌, ◌≤◌, ◌<◌, ℕ, length, None, Some, false, IfErr, IfOk, OnErr, OnOk};
 ghost use Rattle.ballots.specs.Values.{positions};
 ghost use Rattle.paxos.specs.Records.{NewVote, NewLearnt, empty_record, written};
+ghost use Rattle.paxos.specs.WellFormed.{IsRecord};
 ghost use Rattle.records.specs.Group.{AreWrites, HasRoom, IsWrite, MayBeWritten, after, write_of};
 
 use super::group::{GroupRecords, Write};
@@ -31,8 +32,10 @@ impl Model for MemRecords {
 
 impl MemRecords {
     /// No promise and no votes, and nothing kept as learnt.
+    #[tactic(auto, using(crate::proofs::Empty::is_record_empty))]
     pub fn new(alloc: Global) -> MemRecords
-        ensures { result ≡ empty_record }
+        ensures empty { result ≡ empty_record }
+        ensures suits { (n : ℕ) → IsRecord n result }
     {
         MemRecords {
             kept: Record::new(alloc),
@@ -52,6 +55,8 @@ impl Records for MemRecords {
     ghost passes = { λ s. false };
 
     ghost base = { λ s a. ⊥ };
+
+    ghost suits = { λ s n. IsRecord n s };
 
     fn load(&mut self, alloc: Global) -> Result<Record, RecordsFault> {
         match self.kept.clone() {

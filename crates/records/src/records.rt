@@ -4,6 +4,7 @@ ghost use Rattle.std.specs.Prelude.{◌≡◌, ◌⊎◌, ◌≤◌, ℕ, suc, l
 ghost use Rattle.ballots.specs.Ballot.{IsBallot, below};
 ghost use Rattle.ballots.specs.Values.{positions};
 ghost use Rattle.paxos.specs.Records.{Record as RecordTerm, NewPromise, NewVote, NewLearnt, written};
+ghost use Rattle.paxos.specs.WellFormed.{IsRecord};
 ghost use Rattle.records.specs.Law.{Counts, Fate, Goes, Puts};
 
 use super::kept::Record;
@@ -43,6 +44,10 @@ pub trait Records {
     /// record.
     ghost base: { Self → RecordTerm → Type 0 };
 
+    /// What a load gives is a record that one of so many members may keep: a number out of its range, or a vote above the promise, is refused
+    /// where it is read. It need not stay so over a write.
+    ghost suits: { Self → (members : ℕ) → Type 0 };
+
     /// The record that was left. A store of which it is known what it does with writes gives it.
     fn load(&mut self, alloc: Global) -> Result<Record, RecordsFault>
         ensures found { is_kept self.new
@@ -53,7 +58,9 @@ pub trait Records {
         ensures counts { Counts (failed self.old) (failed self.new) result }
         ensures fates { (k : ℕ) → fates self.new k ≡ fates self.old k }
         ensures passes { passes self.new ≡ false }
-        ensures sure { IsErrOf result RecordsFault.Store → fates self.old 0 ≡ None };
+        ensures sure { IsErrOf result RecordsFault.Store → fates self.old 0 ≡ None }
+        ensures sound { (n : ℕ) → suits self.old n → IfOk result (λ r. IsRecord n r) }
+        ensures suits { (n : ℕ) → suits self.old n → suits self.new n };
 
     /// Acknowledges a promise, which is not below the one that stands.
     fn put_promise(&mut self, alloc: Global, ballot: Ballot) -> Result<(), RecordsFault>

@@ -5,6 +5,7 @@ ghost use Rattle.ballots.specs.Ballot.{below};
 ghost use Rattle.ballots.specs.Values.{positions};
 ghost use Rattle.position_map.specs.Slots.{value_at};
 ghost use Rattle.paxos.specs.Records.{Record as RecordTerm, NewPromise, NewVote, NewLearnt, empty_record, written};
+ghost use Rattle.paxos.specs.WellFormed.{IsRecord};
 ghost use Rattle.records.specs.Group.{AreWrites, MayBeWritten, after};
 ghost use Rattle.records.specs.Law.{Counts, Goes, Puts};
 ghost use Rattle.records.specs.Script.{Script, GoesBy, IsKept, Stands, fails_at, fates_of, first_of, next_fate, one_more, stopping};
@@ -56,8 +57,10 @@ impl ScriptRecords {
     /// before it.
     ///
     /// The numbers may stand in any order. Of a number that stands there twice, the first counts. It fails where memory is refused.
+    #[tactic(auto, using(crate::proofs::Empty::is_record_empty))]
     pub fn new(alloc: Global, plan: &[(u64, bool)]) -> Result<ScriptRecords, AllocError>
-        ensures { IfOk result (λ s. s ≡ record { kept = empty_record; plan = plan.now; writes = 0; failures = 0; passes = false }) }
+        ensures empty { IfOk result (λ s. s ≡ record { kept = empty_record; plan = plan.now; writes = 0; failures = 0; passes = false }) }
+        ensures suits { IfOk result (λ s. (n : ℕ) → IsRecord n s.kept) }
     {
         let mut fates: BTreeMap<u64, bool> = BTreeMap::new(alloc);
         for (number, is_made) in plan.iter() {
@@ -159,6 +162,8 @@ impl Records for ScriptRecords {
 
     ghost base = { λ s a. ⊥ };
 
+    ghost suits = { λ s n. IsRecord n s.kept };
+
     fn load(&mut self, alloc: Global) -> Result<Record, RecordsFault>
         ensures found { IsKept self.new
             → IfOk result (λ r. Stands self.new r r × ((a b : RecordTerm) → Stands self.old a b → (r ≡ a) ⊎ (r ≡ b))) }
@@ -166,6 +171,7 @@ impl Records for ScriptRecords {
         ensures kept { IsKept self.new → IsKept self.old }
         ensures counts { Counts self.old.failures self.new.failures result }
         ensures fates { (k : ℕ) → fates_of self.new k ≡ fates_of self.old k }
+        ensures sound { (n : ℕ) → IsRecord n self.old.kept → IfOk result (λ r. IsRecord n r) }
         ensures script { (self.new ≡ stopping self.old) × IfErr result (λ fault. fault ≡ RecordsFault.Memory) }
     {
         self.passes = false;

@@ -1,7 +1,8 @@
 //! Records that take writes in memory, and write them in one.
 
-ghost use Rattle.std.specs.Prelude.{◌≡◌, ◌⊎◌, ◌≤◌, ◌++◌, ◌∷◌, [], length, false, true, IfErr, IfOk, IsErrOf, IsOk, OnErr, OnOk};
+ghost use Rattle.std.specs.Prelude.{◌≡◌, ◌⊎◌, ◌≤◌, ◌++◌, ◌∷◌, [], ℕ, length, false, true, IfErr, IfOk, IsErrOf, IsOk, OnErr, OnOk};
 ghost use Rattle.paxos.specs.Records.{Record as RecordTerm};
+ghost use Rattle.paxos.specs.WellFormed.{IsRecord};
 ghost use Rattle.records.specs.Group.{GoTogether, HasRoom, IsBehind, IsDue, IsWrite, after, fates_of};
 ghost use Rattle.records.specs.Law.{Counts, Grew, Puts};
 
@@ -61,6 +62,7 @@ impl<R: GroupRecords + Drop> Staged<R> {
         ensures crash { IfOk result (λ s. R.is_kept s.store → (a b : RecordTerm) → R.stands store a b → R.stands s.store a b) }
         ensures kept { IfOk result (λ s. R.is_kept s.store → R.is_kept store) }
         ensures failures { IfOk result (λ s. (s.failures ≡ R.failed store) × (R.failed s.store ≡ R.failed store)) }
+        ensures suits { (n : ℕ) → R.suits store n → IfOk result (λ s. IsRecord n s.taken) }
         ensures refused { IfErr result (λ e. R.is_kept e.1 → (a b : RecordTerm) → R.stands store a b → R.stands e.1 a b) }
         ensures counted { IfErr result (λ e. (R.is_kept e.1 → R.is_kept store) × Counts {T = Unit {0}} (R.failed store) (R.failed e.1) (Err e.0)) }
     {
@@ -173,6 +175,7 @@ fn count(failures: &mut u64) -> RecordsFault
 
 impl<R: GroupRecords + Drop> Records for Staged<R> {
     ghost use Rattle.std.specs.Prelude.{◌≡◌, ◌⊎◌, false};
+    ghost use Rattle.paxos.specs.WellFormed.{IsRecord};
     ghost use Rattle.records.specs.Group.{IsBehind, fates_of};
 
     ghost stands = { λ s a b. (s.taken ≡ a) ⊎ (s.taken ≡ b) };
@@ -186,6 +189,8 @@ impl<R: GroupRecords + Drop> Records for Staged<R> {
     ghost passes = { λ s. false };
 
     ghost base = { λ s a. (s.has_failed ≡ false) × IsBehind R.stands s.store s.pending s.taken a };
+
+    ghost suits = { λ s n. IsRecord n s.taken };
 
     fn load(&mut self, alloc: Global) -> Result<Record, RecordsFault> {
         if self.has_failed {

@@ -1,5 +1,5 @@
 -- What is known of a connection whose tables were read.
-use Rattle.std.proofs.Common.{◌≡◌, ◌⊎◌, inl, inr, List, [], ◌∷◌, map, IsTrue, false, sym, ap, subst, ◌∙◌, ⊎_elim, Result, Ok, Err, IfOk, OnOk, refl}
+use Rattle.std.proofs.Common.{◌≡◌, ◌≤◌, ◌⊎◌, ℕ, length, inl, inr, List, [], ◌∷◌, map, IsTrue, false, sym, ap, subst, ◌∙◌, ⊎_elim, Result, Ok, Err, IfOk, OnOk, refl}
 use Rattle.std.specs.List.Sorted.{IsPermutation}
 use Rattle.sqlite.specs.Order.{Row}
 use Rattle.sqlite.specs.Effect.{Database}
@@ -12,8 +12,10 @@ use Rattle.records.specs.Kept.{AreAbove, IsRising}
 use Rattle.record_tables.specs.Texts.{schema}
 use Rattle.record_tables.specs.declared.version.Version.{Version}
 use Rattle.record_tables.specs.declared.version.Version.TheVariants.{Second}
-use Rattle.record_tables.specs.Versions.{tables_of}
-use Rattle.record_writes.specs.Stored.{IsStored, KeepsLearnt}
+use Rattle.record_tables.specs.Versions.{number_of, tables_of}
+use Rattle.ballots.specs.Values.{positions}
+use Rattle.paxos.specs.WellFormed.{IsRecord, AreVotes as MayBeVotes}
+use Rattle.record_writes.specs.Stored.{IsPromise, IsStored, KeepsLearnt}
 use Rattle.record_writes.specs.Holds.{Holds}
 use Rattle.sql_records.specs.Reading.{meta_shown, vote_shown, AreShown, ShowsMember}
 use Rattle.record_writes.proofs.Holding.{SettledAt, StaysAt}
@@ -30,6 +32,18 @@ one_of apart s o r a b stays up x y =
 pub one_stands : (apart : SpeltApart) (s : State) (o : Setup) (a b : Record) → StaysAt s → IsTrue s.is_open → Holds s o a a → Holds s o b b → a ≡ b
 one_stands apart s o a b stays up x y = ⊎_elim (λ h. h) (λ h. h) (one_of apart s o a b b stays up x y)
 
+-- a promise, votes under it and values at positions that there are make a record
+pub sound_record : {E : Type 0} (n : ℕ) (b : Ballot) (votes : Record) (result : Result Record E) → IsPromise n b → MayBeVotes n b 1 positions votes.votes → votes.promise ≡ b
+    → IfOk result (λ x. x.promise ≡ votes.promise) → IfOk result (λ x. x.votes ≡ votes.votes) → IfOk result (λ x. length x.learnt ≤ positions) → IfOk result (λ x. IsRecord n x)
+sound_record n b votes (Ok x) promise may is same_promise same_votes few =
+    let p : x.promise ≡ b = same_promise ∙ is in
+    record {
+      promise = subst (IsPromise n) (sym p) promise;
+      votes = subst (λ vs. MayBeVotes n x.promise 1 positions vs) (sym same_votes) (subst (λ q. MayBeVotes n q 1 positions votes.votes) (sym p) may);
+      learnt = few;
+    }
+sound_record n b votes (Err e) promise may is same_promise same_votes few = tt
+
 -- no call changes nothing
 pub unchanged : (s : State) → IsTrue s.is_open → IsUnchanged s s
 unchanged s up = (record { was_open = up; is_open = up; now_is = refl; committed_is = refl; mode = refl }, record { changes = refl; last_rowid = refl }, refl)
@@ -39,7 +53,7 @@ module _ (version : Version) (old mid new : State) (o : Setup) (has : old.now.sc
   sound = subst (λ s. IsSound s old.now.trees) has (live first.0.was_open).0
 
   -- what the rows of the first two tables show, and what is kept, is a record
-  pub stored : {E : Type 0} (row : Row) (b : Ballot) (rows : List Row) (votes : Record) (result : Result Record E) → IsPermutation (map meta_shown (old.now.trees 0)) (row ∷ []) → ShowsMember version o b row
+  pub stored : {E : Type 0} (row : Row) (b : Ballot) (rows : List Row) (votes : Record) (result : Result Record E) → IsPermutation (map meta_shown (old.now.trees 0)) (row ∷ []) → ShowsMember (number_of version) o b row
       → IsPermutation (map vote_shown (mid.now.trees 1)) rows → AreShown o.members b rows votes.votes → votes.promise ≡ b → IsRising votes
       → IfOk result (λ x. KeepsLearnt version old.now.trees x.learnt) → IfOk result (λ x. x.promise ≡ votes.promise) → IfOk result (λ x. x.votes ≡ votes.votes)
       → IfOk result (λ x. IsStored version o old.now.trees x)

@@ -267,17 +267,17 @@ obeyed Second trees sound =
     ((typed.0, present.0), (typed.1.0, present.1.0))
 
 module _ (version : Version) (o : Setup) (trees : Trees) (sound : IsSound (tables_of version) trees) where
-  pub member_row : (row : Row) (b : Ballot) → IsPermutation (map meta_shown (trees 0)) (row ∷ []) → ShowsMember version o b row → trees 0 ≡ meta_row (number_of version) o b.round b.member ∷ []
-  member_row row b moved m =
+  pub member_row : (row : Row) (number : ℕ) (b : Ballot) → IsPermutation (map meta_shown (trees 0)) (row ∷ []) → ShowsMember number o b row → trees 0 ≡ meta_row number o b.round b.member ∷ []
+  member_row row number b moved m =
       let one = one_permutation row (map meta_shown (trees 0)) (IsPermutation-sym _ _ moved) in
       let it = single meta_shown (trees 0) row one in
       let obeys = (obeyed version trees sound).0 in
       let typed = (subst (AreTyped meta_columns) it.1.0 obeys.0).0 in
       let present = (subst (ArePresent meta_columns) it.1.0 obeys.1).0 in
-      let s : ShowsMember version o b (meta_shown it.0) = subst (ShowsMember version o b) (sym it.1.1) m in
+      let s : ShowsMember number o b (meta_shown it.0) = subst (ShowsMember number o b) (sym it.1.1) m in
       it.1.0 ∙ ap (λ (r : Row). r ∷ []) (meta_shape it.0 typed present ∙ rw (s.id, s.number, s.group, s.member, s.members, s.docs, s.round, s.leader) refl)
 
-  pub loaded : (row : Row) (b : Ballot) (rows : List Row) (r : Record) → IsPermutation (map meta_shown (trees 0)) (row ∷ []) → ShowsMember version o b row
+  pub loaded : (row : Row) (b : Ballot) (rows : List Row) (r : Record) → IsPermutation (map meta_shown (trees 0)) (row ∷ []) → ShowsMember (number_of version) o b row
       → IsPermutation (map vote_shown (trees 1)) rows → AreShown o.members b rows r.votes → r.promise ≡ b → IsRising r → KeepsLearnt version trees r.learnt → IsStored version o trees r
   loaded row b rows r metas m moved shown promise rising kept =
       let obeys = (obeyed version trees sound).1 in
@@ -285,7 +285,7 @@ module _ (version : Version) (o : Setup) (trees : Trees) (sound : IsSound (table
       let same : IsPermutation (trees 1) (map vote_row r.votes) = subst₂ IsPermutation (wide (trees 1) obeys.0 obeys.1) (seen o.members b rows r.votes shown) from in
       let it = unmapped vote_row r.votes (trees 1) (IsPermutation-sym _ _ same) in
       record {
-        meta = subst (λ (c : Ballot). trees 0 ≡ meta_row (number_of version) o c.round c.member ∷ []) (sym promise) (member_row row b metas m);
+        meta = subst (λ (c : Ballot). trees 0 ≡ meta_row (number_of version) o c.round c.member ∷ []) (sym promise) (member_row row (number_of version) b metas m);
         rows = it.0;
         votes = it.1.0;
         once = λ p. let few = once_rising p 0 r.votes rising in let moves = times_permuted p r.votes it.0 it.1.1 in omega (arith, few, moves);

@@ -8,7 +8,7 @@ use Rattle.sqlite_catalog.specs.Listing.{IsSound}
 use Rattle.sqlite_value.specs.Order.{column}
 use Rattle.ballots.specs.Terms.{IsPlace, Setup}
 use Rattle.record_tables.specs.declared.version.Version.{Version}
-use Rattle.record_tables.specs.Versions.{number_of, tables_of}
+use Rattle.record_tables.specs.Versions.{tables_of}
 use Rattle.record_writes.specs.Stored.{meta_row}
 use Rattle.sql_records.specs.Reading.{IsSetup, ShowsOwner, ShowsAnother, meta_shown}
 use Rattle.sql_records.specs.Faults.{IsAnothersIn}
@@ -19,12 +19,12 @@ pub someone : (row : Row) (group member members : ℕ) (docs : List ℕ) → col
 someone row group member members docs a b c d low place =
     (record { group = group; member = member; members = members; names = docs ∷ [] }, (low, place), record { group = a; member = b; members = c; docs = d ∙ ap Text (sym (append-nil docs)) })
 
-module _ (version : Version) (o : Setup) (db : Database) (known : db.schema ≡ tables_of version) (sound : IsSound (tables_of version) db.trees) (rows : List Row) (moved : IsPermutation (map meta_shown (db.trees 0)) rows) (it : ShowsAnother version o rows) where
-  row_is : db.trees 0 ≡ meta_row (number_of version) it.other it.promise.round it.promise.member ∷ []
-  row_is = member_row version it.other db.trees sound it.row it.promise (subst (IsPermutation (map meta_shown (db.trees 0))) it.only moved) it.shows
+module _ (version : Version) (o : Setup) (db : Database) (known : db.schema ≡ tables_of version) (sound : IsSound (tables_of version) db.trees) (rows : List Row) (moved : IsPermutation (map meta_shown (db.trees 0)) rows) (it : ShowsAnother o rows) where
+  row_is : db.trees 0 ≡ meta_row it.version it.other it.promise.round it.promise.member ∷ []
+  row_is = member_row version it.other db.trees sound it.row it.version it.promise (subst (IsPermutation (map meta_shown (db.trees 0))) it.only moved) it.shows
 
   -- were it this member's row, it would show this member
-  same : meta_row (number_of version) it.other it.promise.round it.promise.member ≡ meta_row (number_of version) o it.promise.round it.promise.member → ShowsOwner o it.row
+  same : meta_row it.version it.other it.promise.round it.promise.member ≡ meta_row it.version o it.promise.round it.promise.member → ShowsOwner o it.row
   same h = record {
     group = it.shows.group ∙ ap (λ (r : Row). column r 3) h;
     member = it.shows.member ∙ ap (λ (r : Row). column r 4) h;
@@ -33,4 +33,4 @@ module _ (version : Version) (o : Setup) (db : Database) (known : db.schema ≡ 
   }
 
   pub anothers : IsAnothersIn version o db
-  anothers = record { known = known; other = it.other; numbers = it.numbers; promise = it.promise; row = row_is; sound = it.shows.promise; differs = λ h. it.differs (same h) }
+  anothers = record { known = known; other = it.other; numbers = it.numbers; number = it.version; few = it.few; promise = it.promise; row = row_is; sound = it.shows.promise; differs = λ h. it.differs (same h) }

@@ -15,12 +15,16 @@ use Rattle.record_tables.specs.declared.version.Version.{Version}
 use Rattle.record_tables.specs.declared.version.Version.TheVariants.{First, Second}
 use Rattle.record_tables.specs.Versions.{number_of, tables_of}
 use Rattle.record_writes.specs.Stored.{IsPromise, IsStored, KeepsLearnt, meta_row}
-use Rattle.sql_records.specs.Reading.{IsSetup, AreVotes, ShowsMember, ShowsNoMember, meta_shown}
+use Rattle.sql_records.specs.Reading.{IsSetup, AreVotes, IsVersion, ShowsMember, ShowsNoMember, ShowsOwner, meta_shown}
 use Rattle.sql_records.specs.Faults.{HoldsNone, IsAnothers, IsAnothersIn, IsDamaged}
 use Rattle.sql_records.proofs.Loaded.{above_has}
 
-shows : (version : Version) (p : Setup) (b : Ballot) → IsPromise p.members b → ShowsMember version p b (meta_shown (meta_row (number_of version) p b.round b.member))
-shows version p b good = record { id = refl; number = refl; group = refl; member = refl; members = refl; docs = refl; round = refl; leader = refl; promise = good }
+shows : (number : ℕ) (p : Setup) (b : Ballot) → IsPromise p.members b → ShowsMember number p b (meta_shown (meta_row number p b.round b.member))
+shows number p b good = record { id = refl; number = refl; group = refl; member = refl; members = refl; docs = refl; round = refl; leader = refl; promise = good }
+
+is_version : (version : Version) → IsVersion (number_of version)
+is_version First = omega arith
+is_version Second = omega arith
 
 ballot_of : ℕ → ℕ → Ballot
 ballot_of round member = record { round = round; member = member }
@@ -30,14 +34,18 @@ module _ (version : Version) (o : Setup) (db : Database) where
   row_of = meta_row (number_of version)
 
   module _ (rows : List Row) (moved : IsPermutation (map meta_shown (db.trees 0)) rows) where
-    one : (p : Setup) (round leader : ℕ) → db.trees 0 ≡ row_of p round leader ∷ [] → rows ≡ meta_shown (row_of p round leader) ∷ []
-    one p round leader is = one_permutation (meta_shown (row_of p round leader)) rows (subst (λ t. IsPermutation (map meta_shown t) rows) is moved)
+    one : (number : ℕ) (p : Setup) (round leader : ℕ) → db.trees 0 ≡ meta_row number p round leader ∷ [] → rows ≡ meta_shown (meta_row number p round leader) ∷ []
+    one number p round leader is = one_permutation (meta_shown (meta_row number p round leader)) rows (subst (λ t. IsPermutation (map meta_shown t) rows) is moved)
+
+    -- a row that shows this member is its own
+    own : (number : ℕ) (p : Setup) (round leader : ℕ) → ShowsOwner o (meta_shown (meta_row number p round leader)) → meta_row number p round leader ≡ meta_row number o round leader
+    own number p round leader shown = rw (shown.group, shown.member, shown.members, shown.docs) refl
 
     -- there is no row of a member
-    pub no_member : IsSetup o → ShowsNoMember version rows → HoldsNone version o db
+    pub no_member : IsSetup o → ShowsNoMember version o rows → HoldsNone version o db
     no_member numbers none = record {
-      none = λ known r s. none (meta_shown (row_of o r.promise.round r.promise.member)) (one o r.promise.round r.promise.member s.meta) o r.promise numbers (shows version o r.promise s.promise);
-      nobody = λ a. none (meta_shown (row_of a.other a.promise.round a.promise.member)) (one a.other a.promise.round a.promise.member a.row) a.other a.promise a.numbers (shows version a.other a.promise a.sound);
+      none = λ known r s. (none (meta_shown (row_of o r.promise.round r.promise.member)) (one (number_of version) o r.promise.round r.promise.member s.meta) (number_of version) o r.promise (is_version version) numbers (shows (number_of version) o r.promise s.promise)).1 refl;
+      nobody = λ a. a.differs (own a.number a.other a.promise.round a.promise.member (none (meta_shown (meta_row a.number a.other a.promise.round a.promise.member)) (one a.number a.other a.promise.round a.promise.member a.row) a.number a.other a.promise a.few a.numbers (shows a.number a.other a.promise a.sound)).0);
     }
 
   votes_of : (r : Record) (s : IsStored version o db.trees r) → AreVotes o.members r.promise (db.trees 1) s.rows
@@ -60,11 +68,12 @@ module _ (version : Version) (o : Setup) (db : Database) where
     -- the row is that of this member, so it is not another's
     nobody : ¬ IsAnothersIn version o db
     nobody a =
-        let rows : row_of a.other a.promise.round a.promise.member ∷ [] ≡ row_of o b.round b.member ∷ [] = sym a.row ∙ row in
-        let first : row_of a.other a.promise.round a.promise.member ≡ row_of o b.round b.member = cc in
+        let rows : meta_row a.number a.other a.promise.round a.promise.member ∷ [] ≡ row_of o b.round b.member ∷ [] = sym a.row ∙ row in
+        let first : meta_row a.number a.other a.promise.round a.promise.member ≡ row_of o b.round b.member = cc in
         let n : a.promise.round ≡ b.round = cc in
         let m : a.promise.member ≡ b.member = cc in
-        a.differs (rw (n, m) (rw (n, m) at first))
+        let v : a.number ≡ number_of version = cc in
+        a.differs (rw (v, n, m) (rw (v, n, m) at first))
 
     -- the votes are none
     pub no_votes : ((votes : List Entry) → ¬ AreVotes o.members b (db.trees 1) votes) → HoldsNone version o db

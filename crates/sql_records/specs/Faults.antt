@@ -1,5 +1,5 @@
 -- Which fault a database is.
-use Rattle.std.specs.Prelude.{◌≡◌, ◌≢◌, ◌⊎◌, [], ◌∷◌, false, IsSome}
+use Rattle.std.specs.Prelude.{◌≡◌, ◌≢◌, ◌⊎◌, ℕ, [], ◌∷◌, false, IsSome}
 use Rattle.sqlite_disk.specs.Disk.{MoreFaults}
 use Rattle.sqlite.specs.State.{State}
 use Rattle.sqlite.specs.Effect.{Database}
@@ -8,22 +8,24 @@ use Rattle.ballots.specs.declared.ballot.Ballot.{Ballot}
 use Rattle.paxos.specs.Records.{Record}
 use Rattle.record_tables.specs.Texts.{no_schema}
 use Rattle.record_tables.specs.declared.version.Version.{Version}
-use Rattle.record_tables.specs.Versions.{number_of, tables_of}
+use Rattle.record_tables.specs.Versions.{tables_of}
 use Rattle.record_writes.specs.Stored.{IsPromise, IsStored, meta_row}
-use Rattle.sql_records.specs.Reading.{IsSetup}
+use Rattle.sql_records.specs.Reading.{IsSetup, IsVersion}
 
--- The one row of the member's table is that of some member, in the version of the tables, with a promise, and not the row of this one:
--- another group, member, number of members or list of names.
+-- The one row of the member's table is that of some member, in any version, with a promise, and not the row of this one: another group, member,
+-- number of members or list of names.
 pub record IsAnothersIn (version : Version) (o : Setup) (db : Database) : Type 0 where
   pub known : db.schema ≡ tables_of version
   pub other : Setup
   pub numbers : IsSetup other
+  pub number : ℕ
+  pub few : IsVersion number
   pub promise : Ballot
-  pub row : db.trees 0 ≡ meta_row (number_of version) other promise.round promise.member ∷ []
+  pub row : db.trees 0 ≡ meta_row number other promise.round promise.member ∷ []
   pub sound : IsPromise other.members promise
-  pub differs : meta_row (number_of version) other promise.round promise.member ≢ meta_row (number_of version) o promise.round promise.member
+  pub differs : meta_row number other promise.round promise.member ≢ meta_row number o promise.round promise.member
 
--- so it is in one of the versions
+-- so it is in the tables of one of the versions
 abbrev pub IsAnothers : Setup → Database → Type 0
 IsAnothers o db = (version : Version) × IsAnothersIn version o db
 

@@ -1,7 +1,7 @@
 //! Making the tables of a new member.
 
-ghost use Rattle.std.specs.Prelude.{◌≡◌, ◌≢◌, ◌⊎◌, ◌≤◌, List, [], true, false, IfErr, IfOk, IsErrOf, IsTrue, OnOk};
-ghost use Rattle.sqlite.specs.State.{HasCleanDisk, Survives};
+ghost use Rattle.std.specs.Prelude.{◌≡◌, ◌≢◌, ◌⊎◌, ◌≤◌, List, [], true, false, IfErr, IfOk, IsErrOf, IsTrue, OnErr, OnOk};
+ghost use Rattle.sqlite.specs.State.{HasCleanDisk, KeepsCommit, Survives};
 ghost use Rattle.sqlite.specs.Held.{state};
 ghost use Rattle.sqlite.specs.Tree.{Trees};
 ghost use Rattle.sqlite.specs.Order.{Row};
@@ -10,6 +10,7 @@ ghost use Rattle.sqlite.specs.declared.error.ErrorCode.TheVariants.{OutOfMemory}
 ghost use Rattle.document_names.specs.Names.{are_document_names};
 ghost use Rattle.sql_records.specs.Created.{FirstIsEmpty, HaveNoneLearnt, HaveRows, Makes, MakesOnly, half_schema};
 ghost use Rattle.sql_records.specs.Faults.{StoreFailed};
+ghost use Rattle.sql_records.specs.Opened.{IsAsBefore};
 ghost use Rattle.record_writes.specs.Holds.{Holds};
 ghost use Rattle.record_writes.specs.Stored.{IsStored, joined};
 ghost use Rattle.paxos.specs.Records.{empty_record};
@@ -28,6 +29,7 @@ fn make_meta<S: Alter>(tx: &mut Transaction<'_, S>) -> Result<usize, Error>
     ensures same_reference { tx.new.conn.ghost_name ≡ tx.old.conn.ghost_name }
     ensures made { HasCleanDisk (state S.Store tx.new.conn.now) → Makes (state S.Store tx.old.conn.now) no_schema (λ _. Unit {0}) → OnOk result (Makes (state S.Store tx.new.conn.now) half_schema FirstIsEmpty) }
     ensures store { HasCleanDisk (state S.Store tx.new.conn.now) → Makes (state S.Store tx.old.conn.now) no_schema (λ _. Unit {0}) → IfErr result (λ e. e ≢ Error.SqliteFailure OutOfMemory → StoreFailed (state S.Store tx.old.conn.now) (state S.Store tx.new.conn.now)) }
+    ensures undone { HasCleanDisk (state S.Store tx.new.conn.now) → KeepsCommit (state S.Store tx.old.conn.now) (state S.Store tx.new.conn.now) }
     ensures survives { Survives (state S.Store tx.old.conn.now) (state S.Store tx.new.conn.now) (λ _. ⊥) }
 {
     tx.execute(
@@ -41,6 +43,7 @@ fn make_votes<S: Alter>(tx: &mut Transaction<'_, S>) -> Result<usize, Error>
     ensures same_reference { tx.new.conn.ghost_name ≡ tx.old.conn.ghost_name }
     ensures made { HasCleanDisk (state S.Store tx.new.conn.now) → Makes (state S.Store tx.old.conn.now) half_schema FirstIsEmpty → OnOk result (Makes (state S.Store tx.new.conn.now) schema_1 (HaveRows [] [])) }
     ensures store { HasCleanDisk (state S.Store tx.new.conn.now) → Makes (state S.Store tx.old.conn.now) half_schema FirstIsEmpty → IfErr result (λ e. e ≢ Error.SqliteFailure OutOfMemory → StoreFailed (state S.Store tx.old.conn.now) (state S.Store tx.new.conn.now)) }
+    ensures undone { HasCleanDisk (state S.Store tx.new.conn.now) → KeepsCommit (state S.Store tx.old.conn.now) (state S.Store tx.new.conn.now) }
     ensures survives { Survives (state S.Store tx.old.conn.now) (state S.Store tx.new.conn.now) (λ _. ⊥) }
 {
     tx.execute(
@@ -54,6 +57,7 @@ pub(super) fn make_learnt<S: Alter>(tx: &mut Transaction<'_, S>) -> Result<usize
     ensures same_reference { tx.new.conn.ghost_name ≡ tx.old.conn.ghost_name }
     ensures made { HasCleanDisk (state S.Store tx.new.conn.now) → (member votes : List Row) → Makes (state S.Store tx.old.conn.now) schema_1 (HaveRows member votes) → OnOk result (Makes (state S.Store tx.new.conn.now) schema (HaveNoneLearnt member votes)) }
     ensures store { HasCleanDisk (state S.Store tx.new.conn.now) → (member votes : List Row) → Makes (state S.Store tx.old.conn.now) schema_1 (HaveRows member votes) → IfErr result (λ e. e ≢ Error.SqliteFailure OutOfMemory → StoreFailed (state S.Store tx.old.conn.now) (state S.Store tx.new.conn.now)) }
+    ensures undone { HasCleanDisk (state S.Store tx.new.conn.now) → KeepsCommit (state S.Store tx.old.conn.now) (state S.Store tx.new.conn.now) }
     ensures survives { Survives (state S.Store tx.old.conn.now) (state S.Store tx.new.conn.now) (λ _. ⊥) }
 {
     tx.execute(
@@ -79,6 +83,7 @@ fn put_member<S: Alter>(
     ensures same_reference { tx.new.conn.ghost_name ≡ tx.old.conn.ghost_name }
     ensures made { HasCleanDisk (state S.Store tx.new.conn.now) → Makes (state S.Store tx.old.conn.now) schema (HaveNoneLearnt [] []) → OnOk result (Makes (state S.Store tx.new.conn.now) schema (λ db. IsStored Version.Second setup.now db empty_record)) }
     ensures store { HasCleanDisk (state S.Store tx.new.conn.now) → Makes (state S.Store tx.old.conn.now) schema (HaveNoneLearnt [] []) → IfErr result (λ e. e ≢ Error.SqliteFailure OutOfMemory → StoreFailed (state S.Store tx.old.conn.now) (state S.Store tx.new.conn.now)) }
+    ensures undone { HasCleanDisk (state S.Store tx.new.conn.now) → KeepsCommit (state S.Store tx.old.conn.now) (state S.Store tx.new.conn.now) }
     ensures survives { Survives (state S.Store tx.old.conn.now) (state S.Store tx.new.conn.now) (λ _. ⊥) }
 {
     are_names(setup);
@@ -97,6 +102,7 @@ fn fill<S: Alter>(tx: &mut Transaction<'_, S>, setup: &Setup, docs: &str) -> Res
     ensures same_reference { tx.new.conn.ghost_name ≡ tx.old.conn.ghost_name }
     ensures made { HasCleanDisk (state S.Store tx.new.conn.now) → Makes (state S.Store tx.old.conn.now) no_schema (λ _. Unit {0}) → OnOk result (Makes (state S.Store tx.new.conn.now) schema (λ db. IsStored Version.Second setup.now db empty_record)) }
     ensures store { HasCleanDisk (state S.Store tx.new.conn.now) → Makes (state S.Store tx.old.conn.now) no_schema (λ _. Unit {0}) → IfErr result (λ e. e ≢ Error.SqliteFailure OutOfMemory → StoreFailed (state S.Store tx.old.conn.now) (state S.Store tx.new.conn.now)) }
+    ensures undone { HasCleanDisk (state S.Store tx.new.conn.now) → KeepsCommit (state S.Store tx.old.conn.now) (state S.Store tx.new.conn.now) }
     ensures survives { Survives (state S.Store tx.old.conn.now) (state S.Store tx.new.conn.now) (λ _. ⊥) }
 {
     make_meta(tx)?;
@@ -108,7 +114,8 @@ fn fill<S: Alter>(tx: &mut Transaction<'_, S>, setup: &Setup, docs: &str) -> Res
 
 /// Makes the tables of a member with no promise and nothing kept, in one transaction.
 ///
-/// Faults: `Memory` where memory is refused; `Store` where the store failed. Whatever happens, a crash leaves what it could leave before,
+/// Faults: `Memory` where memory is refused; `Store` where the store failed. The connection is as it was
+/// then. Whatever happens, a crash leaves what it could leave before,
 /// or the tables with that record.
 pub(super) fn create<S: Alter>(
     alloc: Global,
@@ -117,11 +124,13 @@ pub(super) fn create<S: Alter>(
 ) -> Result<(), OpenFault>
     requires mode { connection.old.in_transaction ≡ false }
     requires empty { (state S.Store connection.old).now.schema ≡ no_schema }
+    requires settled { IsTrue (state S.Store connection.old).is_open → (state S.Store connection.old).now ≡ (state S.Store connection.old).committed }
     ensures made { HasCleanDisk (state S.Store connection.new) → OnOk result (Holds (state S.Store connection.new) setup.now empty_record empty_record) }
     ensures open { HasCleanDisk (state S.Store connection.new) → OnOk result (IsTrue (state S.Store connection.new).is_open) }
     ensures not_other { IsErrOf result OpenFault.Other → ⊥ }
     ensures not_damaged { IsErrOf result OpenFault.Damaged → ⊥ }
     ensures store { HasCleanDisk (state S.Store connection.new) → IsErrOf result OpenFault.Store → StoreFailed (state S.Store connection.old) (state S.Store connection.new) }
+    ensures back { HasCleanDisk (state S.Store connection.new) → OnErr result (IsAsBefore (state S.Store connection.old) (state S.Store connection.new)) }
     ensures makes { MakesOnly setup.now (state S.Store connection.old) (state S.Store connection.new) }
     ensures clean { doubt (state S.Store connection.old).is_clean ≤ doubt (state S.Store connection.new).is_clean }
 {

@@ -1,9 +1,10 @@
 //! The values that a record keeps as learnt, one row at a time.
 
-ghost use Rattle.std.specs.Prelude.{◌≡◌, [], List, IfOk, IsErrOf, IsTrue, OnOk};
+ghost use Rattle.std.specs.Prelude.{◌≡◌, ◌≤◌, [], List, length, IfOk, IsErrOf, IsTrue, OnOk};
 ghost use Rattle.sqlite.specs.State.{HasCleanDisk, IsUnchanged, Survives};
 ghost use Rattle.sqlite.specs.Held.{state};
 ghost use Rattle.sqlite_catalog.specs.Listing.{IsSound};
+ghost use Rattle.ballots.specs.Values.{positions};
 ghost use Rattle.ballots.specs.declared.value.Value.{Value as ValueTerm};
 ghost use Rattle.record_tables.specs.Texts.{schema};
 ghost use Rattle.record_tables.specs.Versions.{tables_of};
@@ -32,6 +33,7 @@ fn load_learnt<S: Alter>(
     requires sound { HasCleanDisk (state S.Store connection.old) → IsSound schema (state S.Store connection.old).now.trees }
     requires none { found.learnt ≡ [] }
     ensures kept { HasCleanDisk (state S.Store connection.new) → IfOk result (λ r. AreKept ((state S.Store connection.old).now.trees 2) r.learnt) }
+    ensures few { IfOk result (λ r. length r.learnt ≤ positions) }
     ensures promise { IfOk result (λ r. r.promise ≡ found.promise) }
     ensures votes { IfOk result (λ r. r.votes ≡ found.votes) }
     ensures not_other { IsErrOf result OpenFault.Other → ⊥ }
@@ -75,6 +77,7 @@ pub(super) fn load_kept<S: Alter>(
     requires open { HasCleanDisk (state S.Store connection.old) → IsTrue (state S.Store connection.old).is_open }
     requires none { found.learnt ≡ [] }
     ensures kept { HasCleanDisk (state S.Store connection.new) → IfOk result (λ r. KeepsLearnt version (state S.Store connection.old).now.trees r.learnt) }
+    ensures few { IfOk result (λ r. length r.learnt ≤ positions) }
     ensures promise { IfOk result (λ r. r.promise ≡ found.promise) }
     ensures votes { IfOk result (λ r. r.votes ≡ found.votes) }
     ensures not_other { IsErrOf result OpenFault.Other → ⊥ }

@@ -2,6 +2,7 @@
 
 ghost use Rattle.std.specs.Prelude.{◌≡◌, ◌⊎◌, ◌≤◌, ◌≢◌, false, IfOk, IsErrOf, OnOk, IsTrue};
 ghost use Rattle.sql_records.specs.Faults.{HoldsNone, IsAnothersIn, StoreFailed};
+ghost use Rattle.sql_records.specs.Opened.{IsAsBefore};
 ghost use Rattle.sqlite.specs.Tree.{Trees};
 ghost use Rattle.sqlite_trees.specs.View.{doubt};
 ghost use Rattle.sqlite.specs.declared.error.ErrorCode.TheVariants.{OutOfMemory};
@@ -9,6 +10,7 @@ ghost use Rattle.sqlite.specs.State.{HasCleanDisk, IsLive, IsUnchanged, Survives
 ghost use Rattle.sqlite.specs.Held.{state};
 ghost use Rattle.ballots.specs.Terms.{Setup as Owner};
 ghost use Rattle.paxos.specs.Records.{Record as RecordTerm};
+ghost use Rattle.paxos.specs.WellFormed.{IsRecord};
 ghost use Rattle.record_writes.specs.Holds.{Holds};
 ghost use Rattle.record_writes.specs.Stored.{IsStored};
 ghost use Rattle.record_tables.specs.Texts.{schema as our_schema};
@@ -60,6 +62,7 @@ pub(super) fn read<S: Alter>(
     version: Version,
 ) -> Result<Record, OpenFault>
     ensures stored { HasCleanDisk (state S.Store connection.new) → IfOk result (λ r. IsStored version setup.now (state S.Store connection.old).now.trees r) }
+    ensures sound { IfOk result (λ r. IsRecord setup.now.members r) }
     ensures schema { OnOk result ((state S.Store connection.old).now.schema ≡ tables_of version) }
     ensures mode { OnOk result ((state S.Store connection.old).in_transaction ≡ false) }
     ensures settled { OnOk result (IsTrue (state S.Store connection.old).is_open → (state S.Store connection.old).now ≡ (state S.Store connection.old).committed) }
@@ -68,6 +71,7 @@ pub(super) fn read<S: Alter>(
     ensures store { HasCleanDisk (state S.Store connection.new) → IsErrOf result OpenFault.Store → StoreFailed (state S.Store connection.old) (state S.Store connection.new) }
     ensures same { HasCleanDisk (state S.Store connection.new) → OnOk result (IsUnchanged (state S.Store connection.old) (state S.Store connection.new)) }
     ensures crash { HasCleanDisk (state S.Store connection.new) → (o : Owner) (a b : RecordTerm) → Holds (state S.Store connection.old) o a b → Holds (state S.Store connection.new) o a b }
+    ensures back { HasCleanDisk (state S.Store connection.new) → IsAsBefore (state S.Store connection.old) (state S.Store connection.new) }
     ensures survives { Survives (state S.Store connection.old) (state S.Store connection.new) (λ _. ⊥) }
 {
     spellings();
@@ -99,11 +103,13 @@ pub(super) fn load<S: Alter>(
         × ((a b : RecordTerm) → Holds (state S.Store connection.old) setup.now a b → (r ≡ a) ⊎ (r ≡ b))) }
     ensures crash { HasCleanDisk (state S.Store connection.new) → (o : Owner) (a b : RecordTerm) → Holds (state S.Store connection.old) o a b → Holds (state S.Store connection.new) o a b }
     ensures stored { HasCleanDisk (state S.Store connection.new) → IfOk result (λ r. IsStored Version.Second setup.now (state S.Store connection.old).now.trees r) }
+    ensures sound { IfOk result (λ r. IsRecord setup.now.members r) }
     ensures other { HasCleanDisk (state S.Store connection.new) → IsErrOf result OpenFault.Other → IsAnothersIn Version.Second setup.now (state S.Store connection.old).now }
     ensures damaged { HasCleanDisk (state S.Store connection.new) → IsErrOf result OpenFault.Damaged → (state S.Store connection.old).in_transaction ≡ false → HoldsNone Version.Second setup.now (state S.Store connection.old).now }
     ensures store { HasCleanDisk (state S.Store connection.new) → IsErrOf result OpenFault.Store → StoreFailed (state S.Store connection.old) (state S.Store connection.new) }
     ensures open { HasCleanDisk (state S.Store connection.new) → OnOk result (IsTrue (state S.Store connection.new).is_open) }
     ensures schema { OnOk result ((state S.Store connection.old).now.schema ≡ our_schema) }
+    ensures back { HasCleanDisk (state S.Store connection.new) → IsAsBefore (state S.Store connection.old) (state S.Store connection.new) }
     ensures left { HasCleanDisk (state S.Store connection.new) → (db : Trees) → (state S.Store connection.new).may_leave db → (state S.Store connection.old).may_leave db }
     ensures clean { doubt (state S.Store connection.old).is_clean ≤ doubt (state S.Store connection.new).is_clean }
 {

@@ -1,15 +1,16 @@
 //! Opening a database as a member's records.
 
-ghost use Rattle.std.specs.Prelude.{◌≡◌, ◌≢◌, ◌⊎◌, ◌≤◌, false, IfErr, IfOk, IsErrOf, OnOk, IsTrue};
+ghost use Rattle.std.specs.Prelude.{◌≡◌, ◌≢◌, ◌⊎◌, ◌≤◌, false, IfErr, IfOk, IsErrOf, OnErr, OnOk, IsTrue};
 ghost use Rattle.sql_records.specs.Faults.{IsAnothers, IsDamaged, StoreFailed};
 ghost use Rattle.sqlite_trees.specs.View.{doubt};
 ghost use Rattle.sqlite.specs.State.{HasCleanDisk};
 ghost use Rattle.sqlite.specs.Held.{state};
 ghost use Rattle.sqlite.specs.Tree.{Trees};
 ghost use Rattle.paxos.specs.Records.{Record as RecordTerm, empty_record};
+ghost use Rattle.paxos.specs.WellFormed.{IsRecord};
 ghost use Rattle.record_writes.specs.Holds.{Holds};
 ghost use Rattle.sql_records.specs.Created.{OpensOnly};
-ghost use Rattle.sql_records.specs.Opened.{connection_of, owner};
+ghost use Rattle.sql_records.specs.Opened.{IsAsBefore, connection_of, owner};
 ghost use Rattle.record_writes.specs.Stored.{IsStored};
 ghost use Rattle.record_tables.specs.Texts.{no_schema, schema_1};
 ghost use Rattle.record_tables.specs.Versions.{AreTables, tables_of};
@@ -47,6 +48,7 @@ fn copy(alloc: Global, setup: &Setup) -> Result<Setup, OpenFault>
 fn is_new<S: Alter>(connection: &Connection<S>) -> bool
     ensures mode { IsTrue result → connection.now.in_transaction ≡ false }
     ensures schema { IsTrue result → (state S.Store connection.now).now.schema ≡ no_schema }
+    ensures settled { IsTrue result → IsTrue (state S.Store connection.now).is_open → (state S.Store connection.now).now ≡ (state S.Store connection.now).committed }
     ensures empty { (state S.Store connection.now).in_transaction ≡ false → (state S.Store connection.now).now.schema ≡ no_schema → IsTrue result }
 {
     connection.is_autocommit() && is_empty(connection.schema())
@@ -56,6 +58,7 @@ fn is_new<S: Alter>(connection: &Connection<S>) -> bool
 fn is_first<S: Alter>(connection: &Connection<S>) -> bool
     ensures mode { IsTrue result → connection.now.in_transaction ≡ false }
     ensures schema { IsTrue result → (state S.Store connection.now).now.schema ≡ schema_1 }
+    ensures settled { IsTrue result → IsTrue (state S.Store connection.now).is_open → (state S.Store connection.now).now ≡ (state S.Store connection.now).committed }
     ensures first { (state S.Store connection.now).in_transaction ≡ false → (state S.Store connection.now).now.schema ≡ schema_1 → IsTrue result }
 {
     connection.is_autocommit() && has_tables(connection.schema(), Version::First)
@@ -70,11 +73,13 @@ fn upgrade<S: Alter>(
     requires mode { connection.old.in_transaction ≡ false }
     requires first { (state S.Store connection.old).now.schema ≡ schema_1 }
     ensures stored { HasCleanDisk (state S.Store connection.new) → IfOk result (λ r. IsStored Version.First setup.now (state S.Store connection.old).now.trees r) }
+    ensures sound { IfOk result (λ r. IsRecord setup.now.members r) }
     ensures holds { HasCleanDisk (state S.Store connection.new) → IfOk result (λ r. Holds (state S.Store connection.new) setup.now r r) }
     ensures open { HasCleanDisk (state S.Store connection.new) → OnOk result (IsTrue (state S.Store connection.old).is_open × IsTrue (state S.Store connection.new).is_open) }
     ensures other { HasCleanDisk (state S.Store connection.new) → IsErrOf result OpenFault.Other → IsAnothers setup.now (state S.Store connection.old).now }
     ensures damaged { HasCleanDisk (state S.Store connection.new) → IsErrOf result OpenFault.Damaged → IsDamaged setup.now (state S.Store connection.old).now }
     ensures store { HasCleanDisk (state S.Store connection.new) → IsErrOf result OpenFault.Store → StoreFailed (state S.Store connection.old) (state S.Store connection.new) }
+    ensures back { HasCleanDisk (state S.Store connection.new) → OnErr result (IsAsBefore (state S.Store connection.old) (state S.Store connection.new)) }
     ensures migrates { HasCleanDisk (state S.Store connection.new) → (db : Trees) → (state S.Store connection.new).may_leave db → (state S.Store connection.old).may_leave db ⊎ ((r : RecordTerm) × IsStored Version.First setup.now (state S.Store connection.old).now.trees r × IsStored Version.Second setup.now db r) }
     ensures clean { doubt (state S.Store connection.old).is_clean ≤ doubt (state S.Store connection.new).is_clean }
 {
@@ -89,12 +94,14 @@ fn upgrade<S: Alter>(
 
 /// The record of this member: the empty one where there are no tables, which are made; else the one that is read, and made one of version 2
 /// where it is of version 1.
+#[tactic(auto, using(records::proofs::Empty::is_record_empty))]
 fn prepare<S: Alter>(
     alloc: Global,
     connection: &mut Connection<S>,
     setup: &Setup,
 ) -> Result<Record, OpenFault>
     ensures open { HasCleanDisk (state S.Store connection.new) → OnOk result (IsTrue (state S.Store connection.new).is_open) }
+    ensures sound { IfOk result (λ r. IsRecord setup.now.members r) }
     ensures holds { HasCleanDisk (state S.Store connection.new) → IfOk result (λ r. Holds (state S.Store connection.new) setup.now r r) }
     ensures found { HasCleanDisk (state S.Store connection.new) → (state S.Store connection.old).now.schema ≢ no_schema → IfOk result (λ r. (a b : RecordTerm) → Holds (state S.Store connection.old) setup.now a b → (r ≡ a) ⊎ (r ≡ b)) }
     ensures made { (state S.Store connection.old).now.schema ≡ no_schema → IfOk result (λ r. r ≡ empty_record) }
@@ -103,6 +110,7 @@ fn prepare<S: Alter>(
     ensures other { HasCleanDisk (state S.Store connection.new) → IsErrOf result OpenFault.Other → IsAnothers setup.now (state S.Store connection.old).now }
     ensures damaged { HasCleanDisk (state S.Store connection.new) → IsErrOf result OpenFault.Damaged → (state S.Store connection.old).in_transaction ≡ false → IsDamaged setup.now (state S.Store connection.old).now }
     ensures store { HasCleanDisk (state S.Store connection.new) → IsErrOf result OpenFault.Store → StoreFailed (state S.Store connection.old) (state S.Store connection.new) }
+    ensures back { HasCleanDisk (state S.Store connection.new) → OnErr result (IsAsBefore (state S.Store connection.old) (state S.Store connection.new)) }
     ensures opens { OpensOnly setup.now (state S.Store connection.old) (state S.Store connection.new) }
     ensures clean { doubt (state S.Store connection.old).is_clean ≤ doubt (state S.Store connection.new).is_clean }
 {
@@ -122,7 +130,7 @@ impl<S: Alter> SqlRecords<S> {
     ///
     /// What was read is held: the first `load` gives it away and reads nothing, unless a write came before.
     ///
-    /// A refusal gives the connection back: want of memory (1), a store that failed (2), another member's records (3), and records
+    /// A refusal gives the connection back as it was, or shut, where the store failed: want of memory (1), a store that failed (2), another member's records (3), and records
     /// that are damaged (4), as are other tables, a number out of its range, and a vote of a ballot above the promise; a connection in
     /// a transaction is refused by 4 too. The tables are made in one transaction: whatever happens, a crash leaves none of them, or
     /// all with that first record. So is version 2: a crash leaves the record in version 1, or in version 2.
@@ -143,7 +151,9 @@ impl<S: Alter> SqlRecords<S> {
         ensures other { IfErr result (λ e. HasCleanDisk (state S.Store e.1) → e.0 ≡ OpenFault.Other → IsAnothers setup.now (state S.Store connection).now) }
         ensures damaged { (state S.Store connection).in_transaction ≡ false → IfErr result (λ e. HasCleanDisk (state S.Store e.1) → e.0 ≡ OpenFault.Damaged → IsDamaged setup.now (state S.Store connection).now) }
         ensures store { IfErr result (λ e. HasCleanDisk (state S.Store e.1) → e.0 ≡ OpenFault.Store → StoreFailed (state S.Store connection) (state S.Store e.1)) }
+        ensures back { IfErr result (λ e. HasCleanDisk (state S.Store e.1) → IsAsBefore (state S.Store connection) (state S.Store e.1)) }
         ensures whose { IfOk result (λ s. owner s ≡ setup.now) }
+        ensures suits { IfOk result (λ s. ⟦<SqlRecords<S> as Records>⟧.suits s setup.now.members) }
         ensures failures { IfOk result (λ s. ⟦<SqlRecords<S> as Records>⟧.failed s ≡ 0) }
     {
         let mut connection = connection;

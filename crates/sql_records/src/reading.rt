@@ -2,7 +2,6 @@
 
 ghost use Rattle.std.specs.Prelude.{◌≡◌, ◌≢◌, ◌⊎◌, ◌≤◌, ◌<◌, ◌+◌, ◌^◌, [], ◌∷◌, ◌↔◌, ℕ, suc, pos, length, IfOk, IsErrOf, IsTrue, OnOk};
 ghost use Rattle.ballots.specs.Terms.{IsPlace, Setup as Owner};
-ghost use Rattle.paxos.specs.WellFormed.{IsBallotOf};
 ghost use Rattle.ballots.specs.Values.{positions};
 ghost use Rattle.sqlite_value.specs.Order.{column};
 ghost use Rattle.sqlite.specs.declared.types.Value.TheVariants.{Int, Null, Text};
@@ -11,13 +10,14 @@ ghost use Rattle.ballots.specs.declared.ballot.Ballot.{Ballot as BallotTerm};
 ghost use Rattle.ballots.specs.declared.value.Entry.{Entry as EntryTerm};
 ghost use Rattle.ballots.specs.declared.value.Value.{Value as ValueTerm};
 ghost use Rattle.paxos.specs.Records.{NewLearnt, with_vote, written};
+ghost use Rattle.record_tables.specs.Versions.{number_of};
 ghost use Rattle.record_writes.specs.Stored.{IsPromise, joined};
 ghost use Rattle.sql_records.specs.Reading.{IsSetup, Shows, ShowsAnother, ShowsLearnt, ShowsMember, ShowsNoMember, ShowsNotNext, ShowsNoVote, ShowsOwner};
 
 use super::docs;
 use ballots::laws::spellings;
-use ballots::limits::{LAST_ROUND, MOST_MEMBERS, POSITIONS};
-use ballots::{Ballot, Entry, Setup, Value, ValueFault, Vote, take_value};
+use ballots::limits::{MOST_MEMBERS, POSITIONS, is_position};
+use ballots::{Ballot, Entry, Setup, SpellingFault, Value, Vote, take_value};
 use record_tables::Version;
 use records::Record;
 use sqlite::types::FromSql;
@@ -68,31 +68,11 @@ fn read_ballot(row: &Row, round: usize, leader: usize) -> Result<Ballot, OpenFau
     }
 }
 
-/// Whether there may be that ballot among so many members.
-#[tactic(auto, unfolding(ballots::specs::Ballot::last_round))]
-fn is_ballot(ballot: Ballot, members: u32) -> bool
-    ensures { IsTrue result ↔ IsBallotOf members ballot }
-{
-    1 <= ballot.round
-        && ballot.round <= LAST_ROUND
-        && 1 <= ballot.member
-        && ballot.member <= MOST_MEMBERS
-        && u32::from(ballot.member) <= members
-}
-
 /// Whether there may be that promise among so many members.
 fn is_promise(ballot: Ballot, members: u32) -> bool
     ensures { IsTrue result ↔ IsPromise members ballot }
 {
-    ballot == Ballot::NONE || is_ballot(ballot, members)
-}
-
-/// Whether there may be that position.
-#[tactic(auto, unfolding(ballots::specs::Values::positions))]
-fn is_position(position: u32) -> bool
-    ensures { IsTrue result ↔ (1 ≤ position) × (position ≤ positions) }
-{
-    1 <= position && position <= POSITIONS
+    ballot == Ballot::NONE || ballot.is_of(members)
 }
 
 /// Bytes are numbers below 256.
@@ -118,7 +98,7 @@ fn read_value(alloc: Global, bytes: &[u8]) -> Result<Value, OpenFault>
                 Err(OpenFault::Damaged)
             }
         }
-        Err(ValueFault::Memory) => Err(OpenFault::Memory),
+        Err(SpellingFault::Memory) => Err(OpenFault::Memory),
         Err(_) => Err(OpenFault::Damaged),
     }
 }
@@ -134,7 +114,7 @@ fn read_vote(alloc: Global, row: &Row, promise: Ballot, members: u32) -> Result<
 {
     let position: u32 = column(row, 0)?;
     let ballot = read_ballot(row, 1, 2)?;
-    if !is_position(position) || !is_ballot(ballot, members) || promise.is_below(ballot) {
+    if !is_position(position) || !ballot.is_of(members) || promise.is_below(ballot) {
         return Err(OpenFault::Damaged);
     }
     let Ok(ValueRef::Blob(bytes)) = row.get_ref(3) else {
@@ -218,18 +198,18 @@ pub(super) fn add_learnt(alloc: Global, row: &Row, found: &mut Record) -> Result
 
 /// The promise in the row of this member, in that version.
 ///
-/// Faults: `Memory` where memory is refused; `Other` where the row is another member's; `Damaged` where there is not just one row, or it is
-/// that of no member.
+/// Faults: `Memory` where memory is refused; `Other` where the row is another member's, in whatever version; `Damaged` where there is not just one
+/// row, or it is that of no member, or this member's in another version.
 pub(super) fn read_member(
     alloc: Global,
     rows: &[Row],
     setup: &Setup,
     version: Version,
 ) -> Result<Ballot, OpenFault>
-    ensures other { IsErrOf result OpenFault.Other → ShowsAnother version setup.now rows.now }
+    ensures other { IsErrOf result OpenFault.Other → ShowsAnother setup.now rows.now }
     ensures not_store { IsErrOf result OpenFault.Store → ⊥ }
-    ensures shows { IfOk result (λ b. (row : _) × (rows.now ≡ row ∷ []) × ShowsMember version setup.now b row) }
-    ensures damaged { IsErrOf result OpenFault.Damaged → ShowsNoMember version rows.now }
+    ensures shows { IfOk result (λ b. (row : _) × (rows.now ≡ row ∷ []) × ShowsMember (number_of version) setup.now b row) }
+    ensures damaged { IsErrOf result OpenFault.Damaged → ShowsNoMember version setup.now rows.now }
 {
     let [row] = rows else {
         return Err(OpenFault::Damaged);
@@ -238,11 +218,15 @@ pub(super) fn read_member(
     let number: u32 = column(row, 1)?;
     let members: u32 = column(row, 4)?;
     let ballot = read_ballot(row, 6, 7)?;
-    if id != 1 || number != version.number() || !is_promise(ballot, members) {
+    if id != 1 || !is_promise(ballot, members) {
         return Err(OpenFault::Damaged);
     }
+    // Another member's records are not judged by their version: whoever opens them took the wrong file.
     if !is_of(alloc, row, setup)? {
         return Err(OpenFault::Other);
+    }
+    if number != version.number() {
+        return Err(OpenFault::Damaged);
     }
     Ok(ballot)
 }

@@ -1,6 +1,7 @@
 //! Records in a SQLite database.
 
 ghost use Rattle.std.specs.Prelude.{◌≡◌, ◌≤◌, ◌↔◌, None, Some, false, IsTrue};
+ghost use Rattle.paxos.specs.WellFormed.{IsRecord};
 ghost use Rattle.records.specs.Law.{Counts, Grew};
 ghost use Rattle.record_writes.specs.Members.{HasMember, HasMembers};
 ghost use Rattle.sql_records.specs.Opened.{IsCurrent, connection_of};
@@ -26,6 +27,8 @@ pub struct SqlRecords<S: Alter> {
 }
 
 impl<S: Alter> Model for SqlRecords<S> {
+    ghost use Rattle.std.specs.Prelude.{IfSome};
+    ghost use Rattle.paxos.specs.WellFormed.{IsRecord};
     ghost use Rattle.sql_records.specs.Opened.{Opened, opened_code, IsCurrent};
 
     ghost Value = { Opened S };
@@ -34,13 +37,14 @@ impl<S: Alter> Model for SqlRecords<S> {
 
     ghost view = { λ s. record { connection = s.connection; setup = s.setup; failures = s.failures } };
 
-    ghost invariant = { λ s. IsCurrent S.Store s.connection s.setup s.read };
+    ghost invariant = { λ s. IsCurrent S.Store s.connection s.setup s.read × IfSome s.read (λ r. IsRecord s.setup.members r) };
 }
 
 impl<S: Alter> SqlRecords<S> {
     /// The records over a connection, with no failures, and the record that was read there.
     pub(super) fn new(connection: Connection<S>, setup: Setup, read: Record) -> SqlRecords<S>
-        requires { IsCurrent S.Store connection setup (Some read) }
+        requires current { IsCurrent S.Store connection setup (Some read) }
+        requires sound { IsRecord setup.members read }
         ensures { result ≡ record { connection = connection; setup = setup; failures = 0 } }
     {
         SqlRecords {
@@ -121,6 +125,7 @@ fn are_of_members(setup: &Setup, writes: &[Write]) -> bool
 }
 
 impl<S: Alter> Records for SqlRecords<S> {
+    ghost use Rattle.std.specs.Prelude.{◌≡◌};
     ghost use Rattle.sqlite.specs.State.{HasCleanDisk};
     ghost use Rattle.sqlite.specs.Held.{state};
     ghost use Rattle.record_writes.specs.Holds.{Holds};
@@ -137,6 +142,8 @@ impl<S: Alter> Records for SqlRecords<S> {
     ghost passes = { λ s. false };
 
     ghost base = { λ s a. ⊥ };
+
+    ghost suits = { λ s n. n ≡ (owner s).members };
 
     fn load(&mut self, alloc: Global) -> Result<Record, RecordsFault> {
         spellings();

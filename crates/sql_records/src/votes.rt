@@ -4,7 +4,9 @@ ghost use Rattle.std.specs.Prelude.{◌≡◌, List, [], map, IfOk, IsErrOf, OnO
 ghost use Rattle.sqlite.specs.State.{HasCleanDisk, IsUnchanged, Survives};
 ghost use Rattle.sqlite.specs.Order.{Row as RowTerm};
 ghost use Rattle.sqlite.specs.Held.{state};
+ghost use Rattle.ballots.specs.Values.{positions};
 ghost use Rattle.ballots.specs.declared.value.Entry.{Entry as EntryTerm};
+ghost use Rattle.paxos.specs.WellFormed.{AreVotes as MayBeVotes};
 ghost use Rattle.records.specs.Kept.{IsRising};
 ghost use Rattle.sql_records.specs.Faults.{StoreFailed};
 ghost use Rattle.record_writes.specs.Holds.{Ended};
@@ -31,6 +33,7 @@ pub(super) fn load_votes<S: Alter>(
 ) -> Result<Record, OpenFault>
     requires { HasCleanDisk (state S.Store connection.old) → AreTables (state S.Store connection.old).now.schema }
     ensures votes { HasCleanDisk (state S.Store connection.new) → IfOk result (λ r. (rows : List RowTerm) × IsPermutation (map vote_shown ((state S.Store connection.old).now.trees 1)) rows × AreShown members promise rows r.votes) }
+    ensures sound { IfOk result (λ r. MayBeVotes members promise 1 positions r.votes) }
     ensures promise { IfOk result (λ r. r.promise ≡ promise) }
     ensures rising { IfOk result IsRising }
     ensures learnt { IfOk result (λ r. r.learnt ≡ []) }

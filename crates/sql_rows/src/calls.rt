@@ -3,36 +3,15 @@
 //! `begin ROUND MEMBER`, `prepare ROUND MEMBER POSITION`, `accept POSITION ROUND MEMBER`, which votes for the no-op, and `keep`, which
 //! keeps the no-op as learnt at the next position. What the rules refuse is `silent`.
 
-ghost use Rattle.std.specs.Prelude.{◌≡◌, ◌≤◌, true};
-ghost use Rattle.ballots.specs.Ballot.{IsBallot};
-ghost use Rattle.ballots.specs.Values.{positions};
+ghost use Rattle.std.specs.Prelude.{◌≡◌};
 
 use super::results::keeping;
 use acceptor::Acceptor;
-use ballots::limits::{LAST_ROUND, MOST_MEMBERS, POSITIONS};
+use ballots::limits::{POSITIONS, is_position};
 use ballots::{Ballot, Entry, Value, Vote, Window};
 use records::{Records, RecordsFault};
 use rows::{RowFault, Words};
 use std::alloc::Global;
-
-/// Whether there may be that ballot.
-#[tactic(auto, unfolding(ballots::specs::Ballot::last_round))]
-fn is_ballot(ballot: Ballot) -> bool
-    ensures { result ≡ true → IsBallot ballot }
-{
-    1 <= ballot.round
-        && ballot.round <= LAST_ROUND
-        && 1 <= ballot.member
-        && ballot.member <= MOST_MEMBERS
-}
-
-/// Whether there may be that position.
-#[tactic(auto, unfolding(ballots::specs::Values::positions))]
-fn is_position(position: u32) -> bool
-    ensures { result ≡ true → (1 ≤ position) × (position ≤ positions) }
-{
-    1 <= position && position <= POSITIONS
-}
 
 /// The next two words, a ballot. Fault: `NotARow`.
 fn ballot(words: &mut Words) -> Result<Ballot, RowFault> {
@@ -103,7 +82,7 @@ fn begin<R: Records + Drop>(
 ) -> Result<String, RowFault> {
     let ballot = ballot(words)?;
     let promised = acceptor.promised();
-    if !is_ballot(ballot) || !promised.is_below(ballot) {
+    if !ballot.is_valid() || !promised.is_below(ballot) {
         return Err(RowFault::NotARow);
     }
     match acceptor.on_begin(alloc, ballot) {
@@ -120,7 +99,7 @@ fn prepare<R: Records + Drop>(
 ) -> Result<String, RowFault> {
     let ballot = ballot(words)?;
     let from = position(words)?;
-    if !is_ballot(ballot) {
+    if !ballot.is_valid() {
         return Err(RowFault::NotARow);
     }
     match acceptor.on_prepare(alloc, ballot, from) {
@@ -172,7 +151,7 @@ fn accept<R: Records + Drop>(
 ) -> Result<String, RowFault> {
     let position = position(words)?;
     let ballot = ballot(words)?;
-    if !is_ballot(ballot) || !is_position(position) {
+    if !ballot.is_valid() || !is_position(position) {
         return Err(RowFault::NotARow);
     }
     match acceptor.on_accept(alloc, position, &vote(ballot)) {

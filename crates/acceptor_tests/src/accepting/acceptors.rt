@@ -3,12 +3,11 @@
 // `begin BALLOT`, `prepare BALLOT POSITION`, `accept POSITION BALLOT` (of the no-op) and `keep CLIENT` (of a client's first request). After ` > ` stands the answer: `nothing`, or `window BALLOT FIRST
 // LAST` and for each vote `vote POSITION BALLOT`; `yes` or `no`; `store`, where the store fails. `promised BALLOT` says what shows, and
 // `held CLIENT ..` whose requests are kept as learnt, by position.
-ghost use Rattle.std.specs.Prelude.{◌≡◌, ◌≤◌, ◌<◌, length, true};
-ghost use Rattle.ballots.specs.Ballot.{IsBallot};
+ghost use Rattle.std.specs.Prelude.{◌≡◌, ◌<◌, length, true};
 ghost use Rattle.ballots.specs.Values.{positions};
 
 use acceptor::Acceptor;
-use ballots::limits::POSITIONS;
+use ballots::limits::{POSITIONS, is_position};
 use ballots::{Ballot, Entry, Request, Value, Vote, Window};
 use records::{Records, RecordsFault, ScriptRecords};
 use rows::cut;
@@ -23,22 +22,6 @@ enum Answer {
     Promised(Option<Window>),
     Accepted(bool),
     Kept,
-}
-
-#[tactic(auto, unfolding(ballots::specs::Ballot::last_round))]
-// Whether this is a ballot of a low round.
-pub(super) fn is_ballot(ballot: Ballot) -> bool
-    ensures { result ≡ true → IsBallot ballot }
-{
-    1 <= ballot.round && ballot.round <= 9 && 1 <= ballot.member && ballot.member <= 63
-}
-
-#[tactic(auto, unfolding(ballots::specs::Values::positions))]
-// Whether there is such a position.
-pub(super) fn is_position(position: u32) -> bool
-    ensures { result ≡ true → (1 ≤ position) × (position ≤ positions) }
-{
-    1 <= position && position <= POSITIONS
 }
 
 // A vote for the no-op.
@@ -56,7 +39,7 @@ fn begin<R: Records + Drop>(
     words: &mut Words,
 ) -> Result<Answer, RecordsFault> {
     let ballot = words.ballot().expect(rt, "a ballot");
-    assert!(rt; is_ballot(ballot) && acceptor.promised().is_below(ballot));
+    assert!(rt; ballot.is_valid() && acceptor.promised().is_below(ballot));
     acceptor.on_begin(alloc, ballot)?;
     Ok(Answer::Begun)
 }
@@ -69,7 +52,7 @@ fn prepare<R: Records + Drop>(
 ) -> Result<Answer, RecordsFault> {
     let ballot = words.ballot().expect(rt, "a ballot");
     let from = words.position().expect(rt, "a position");
-    assert!(rt; is_ballot(ballot));
+    assert!(rt; ballot.is_valid());
     Ok(Answer::Promised(acceptor.on_prepare(alloc, ballot, from)?))
 }
 
@@ -81,7 +64,7 @@ fn accept<R: Records + Drop>(
 ) -> Result<Answer, RecordsFault> {
     let position = words.position().expect(rt, "a position");
     let ballot = words.ballot().expect(rt, "a ballot");
-    assert!(rt; is_ballot(ballot) && is_position(position));
+    assert!(rt; ballot.is_valid() && is_position(position));
     Ok(Answer::Accepted(acceptor.on_accept(alloc, position, &vote(ballot))?))
 }
 

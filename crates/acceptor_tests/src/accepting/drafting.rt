@@ -2,8 +2,9 @@
 ghost use Rattle.std.specs.Prelude.{◌≡◌, None, false, IfOk};
 ghost use Rattle.acceptor.specs.Drafts.{IsDue};
 
-use super::acceptors::{is_ballot, is_position, open, play, vote};
+use super::acceptors::{open, play, vote};
 use acceptor::{Acceptor, Draft};
+use ballots::limits::is_position;
 use ballots::{Ballot, Request, Value, Vote};
 use records::{MemRecords, Record, Records, RecordsFault};
 use std::alloc::{AllocError, Global};
@@ -25,7 +26,7 @@ fn draft_once<R: Records + Drop>(
     ensures due { IfOk result (λ d. IsDue acceptor.new.kept d.write) }
 {
     let vote = vote(FIRST);
-    assert!(rt; is_ballot(FIRST) && is_position(position));
+    assert!(rt; FIRST.is_valid() && is_position(position));
     acceptor.draft_accept(alloc, position, &vote)
 }
 
@@ -56,7 +57,7 @@ fn commits_the_last<R: Records + Drop>(rt: &impl Abort, alloc: Global, acceptor:
 
 // Whether a begin of ballot 1,1 may be drafted.
 fn may_begin<R: Records + Drop>(rt: &impl Abort, acceptor: &Acceptor<R>) -> bool {
-    assert!(rt; is_ballot(FIRST) && acceptor.promised().is_below(FIRST));
+    assert!(rt; FIRST.is_valid() && acceptor.promised().is_below(FIRST));
     acceptor.draft_begin(FIRST).is_ok()
 }
 
@@ -165,6 +166,8 @@ impl Records for Counting {
     ghost passes = { λ s. false };
 
     ghost base = { λ s a. ⊥ };
+
+    ghost suits = { λ s n. ⊥ };
 
     fn load(&mut self, alloc: Global) -> Result<Record, RecordsFault> {
         Ok(Record::new(alloc))

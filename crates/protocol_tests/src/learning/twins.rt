@@ -7,10 +7,11 @@
 // `open COUNT`, `prefix COUNT`, `learnt POSITION NUMBER` (0 is the no-op, `-` nothing) and `next FROM POSITION` say what shows.
 ghost use Rattle.std.specs.Prelude.{◌≡◌, ◌≤◌, true};
 ghost use Rattle.std.specs.List.{All};
-ghost use Rattle.ballots.specs.Values.{positions};
+ghost use Rattle.ballots.specs.Ballot.{most_members};
+ghost use Rattle.ballots.specs.Values.{IsPosition, positions};
 ghost use Rattle.learner.specs.Hearing.{AreAbove};
 
-use ballots::limits::{MOST_MEMBERS, POSITIONS};
+use ballots::limits::{MOST_MEMBERS, POSITIONS, is_position};
 use ballots::{Ballot, Members, Pair, Request, Value, Vote};
 use learner::{Heard, Learner};
 use rows::cut;
@@ -103,12 +104,11 @@ fn read_heard(rt: &impl Abort, alloc: Global, text: &str) -> Result<Option<Heard
     }
 }
 
-#[tactic(auto, unfolding(ballots::specs::Values::positions))]
 // Whether these are numbers of a member and of a position.
 fn is_acceptance(member: u8, position: u32) -> bool
-    ensures { result ≡ true → (1 ≤ member) × (member ≤ 63) × (1 ≤ position) × (position ≤ positions) }
+    ensures { result ≡ true → (1 ≤ member) × (member ≤ most_members) × IsPosition position }
 {
-    1 <= member && member <= MOST_MEMBERS && 1 <= position && position <= POSITIONS
+    1 <= member && member <= MOST_MEMBERS && is_position(position)
 }
 
 #[tactic(auto, unfolding(ballots::specs::Values::positions))]

@@ -7,6 +7,7 @@ use Rattle.sqlite.specs.declared.error.Error.TheVariants.{SqliteFailure}
 use Rattle.sql_records.specs.Faults.{StoreFailed}
 use Rattle.sql_records.proofs.Queried.{was_clean}
 use Rattle.sql_records.proofs.StoreFaults.{err_later}
+use Rattle.sql_records.proofs.Undone.{keeps_both}
 use Rattle.sql_records.proofs.migration.rewrite.Goals as goal
 
 pub returns-in_err-make_learnt-clause-store : goal.returns-in_err-make_learnt-clause-store
@@ -29,3 +30,19 @@ returns-clause-made g c clean db r it m =
     let new = state g.S.Store c.set_version.new.tx.conn.now in
     let mid_clean : HasCleanDisk mid = was_clean mid new _ c.set_version.ensures.survives clean in
     c.in_ok-set_version.ensures.made clean db r it (c.in_ok-make_learnt.ensures.made mid_clean (db 0) (db 1) m)
+
+pub returns-in_err-set_version-clause-undone : goal.returns-in_err-set_version-clause-undone
+returns-in_err-set_version-clause-undone g c clean =
+    let old = state g.S.Store c.args.tx.now.conn.now in
+    let one = state g.S.Store c.make_learnt.new.tx.conn.now in
+    let new = state g.S.Store c.set_version.new.tx.conn.now in
+    let one_clean : HasCleanDisk one = was_clean one new _ c.set_version.ensures.survives clean in
+    keeps_both old one new (c.make_learnt.ensures.undone one_clean) (c.set_version.ensures.undone clean)
+
+pub returns-clause-undone : goal.returns-clause-undone
+returns-clause-undone g c clean =
+    let old = state g.S.Store c.args.tx.now.conn.now in
+    let one = state g.S.Store c.make_learnt.new.tx.conn.now in
+    let new = state g.S.Store c.set_version.new.tx.conn.now in
+    let one_clean : HasCleanDisk one = was_clean one new _ c.set_version.ensures.survives clean in
+    keeps_both old one new (c.make_learnt.ensures.undone one_clean) (c.set_version.ensures.undone clean)

@@ -12,11 +12,12 @@ use Rattle.std.specs.List.Sorted.{IsPermutation}
 use Rattle.sql_records.specs.Reading.{AreShown, AreVotes, Shows, ShowsNoVote, vote_shown}
 use Rattle.record_tables.specs.Texts.{votes_load_text}
 use Rattle.record_tables.specs.Versions.{AreTables}
+use Rattle.paxos.specs.WellFormed.{AreVotes as MayBeVotes}
 use Rattle.sql_records.proofs.Means.{votes_plain}
 use Rattle.sql_records.specs.Faults.{StoreFailed}
 use Rattle.sql_records.proofs.StoreFaults.{since, votes_failed}
 use Rattle.sql_records.proofs.Queried.{votes_bare, fails_ended, query_commits_nothing, was_clean, votes_queried}
-use Rattle.sql_records.proofs.Read.{UpTo, last_is, last_of, read_more, still_up_to, too_many}
+use Rattle.sql_records.proofs.Read.{UpTo, last_is, last_of, read_more, still_up_to, still_votes, too_many}
 use Rattle.sql_records.proofs.Ordered.{refuses}
 use Rattle.ballots.specs.Values.{positions}
 use Rattle.ballots.specs.declared.value.Entry.{Entry}
@@ -57,6 +58,7 @@ votes-init g c =
           let begun = begun_plain g.S.Store votes_load_text [] c.args.connection.now c.in-Ok.rows.conn.now plain (made.begun clean) in
           ([], begun.0, begun.1, subst (λ (r : Record). AreShown c.args.members c.args.promise [] r.votes) (sym c.new-record.ensures) tt),
       subst (λ (r : Record). r.learnt ≡ []) (sym c.new-record.ensures) refl,
+      subst (λ (r : Record). MayBeVotes c.args.members c.args.promise 1 positions r.votes) (sym c.new-record.ensures) tt,
     )
 
 pub returns-in_default-get-clause-votes : goal.returns-in_default-get-clause-votes
@@ -75,6 +77,9 @@ returns-in_default-get-clause-votes g c clean =
     let known : AreTables (state g.S.Store before).now.schema = subst (λ (d : Database). AreTables d.schema) (sym it.2.0.now_is) (c.requires first) in
     let moved = votes_queried (state g.S.Store before) (state g.S.Store after) known it.0 shown in
     (it.0, subst (λ (d : Database). IsPermutation (map vote_shown (d.trees 1)) it.0) it.2.0.now_is moved, subst (λ (r : Record). AreShown c.args.members c.args.promise it.0 r.votes) (sym c.set_promise.ensures) it.3)
+
+pub returns-in_default-get-clause-sound : goal.returns-in_default-get-clause-sound
+returns-in_default-get-clause-sound g c = subst (λ (r : Record). MayBeVotes c.args.members c.args.promise 1 positions r.votes) (sym c.set_promise.ensures) c.votes.invariant.8
 
 pub votes-preserved : goal.votes-preserved
 votes-preserved g c =
@@ -98,6 +103,7 @@ votes-preserved g c =
           let given = subst (λ row. Advances g.S.Store before after row) some (c.in_default.ensures.ok late) votes_load_text [] it.0 it.1 in
           (it.0 ++ row ∷ [], given, unchanged_then old (state g.S.Store before) (state g.S.Store after) it.2 (c.in_default.ensures.same late), read_more row c.votes.record.votes fs c.votes.last added.0 inv.2 added.2 added.4 c.args.members c.args.promise it.0 it.3 added.1),
       c.in_ok-add_vote.ensures.learnt ∙ inv.7,
+      still_votes row c.votes.record.votes fs c.votes.last added.0 inv.2 added.2 added.4 c.args.members c.args.promise added.1.stands inv.8,
     )
 
 pub returns-in_err-add_vote-clause-damaged : goal.returns-in_err-add_vote-clause-damaged

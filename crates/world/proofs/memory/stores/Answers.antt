@@ -12,6 +12,6 @@ loop-before-preserved c =
       omega (arith, i.0, many),
       λ r h. ⊎_elim
           (λ (o : Has c.loop-before.stores.items r). i.1 r o)
-          (λ (o : Has (c.new.result ∷ []) r). ⊎_elim (λ (e : c.new.result ≡ r). sym e ∙ c.new.ensures) (λ (n : ⊥). absurd n) o)
+          (λ (o : Has (c.new.result ∷ []) r). ⊎_elim (λ (e : c.new.result ≡ r). sym e ∙ c.new.ensures.empty) (λ (n : ⊥). absurd n) o)
           (has_cases c.loop-before.stores.items (c.new.result ∷ []) r (subst (λ rs. Has rs r) grown h)),
     )

@@ -13,3 +13,6 @@ returns-in-Ok-open-clause-started g c = λ is.
     started {R = g.row.R.Denot} {A = g.row.A.Denot} g.A.Application.has_applied x c.in-Ok.application c.apply_learnt-is_short.result
     (c.in-Ok-open.ensures.place.0 ∙ c.members.ensures) is.learnt (subst (λ m. IsThis {R = g.row.R.Denot} (resumed m x.member.acceptor.kept) x.member) c.member.ensures.member this)
     (subst (λ (names : List (List ℕ)). g.A.Application.has_applied names [] c.in-Ok.application) c.names.ensures c.in-Ok.ensures) c.apply_learnt-is_short.ensures.gone
+
+pub returns-in-Ok-open-clause-begun : goal.returns-in-Ok-open-clause-begun
+returns-in-Ok-open-clause-begun g c = λ suits. returns-in-Ok-open-clause-started g c (c.in-Ok-open.ensures.suits c.args.setup.members suits)

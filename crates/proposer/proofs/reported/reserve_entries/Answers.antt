@@ -1,6 +1,6 @@
 use Rattle.std.proofs.Common.{◌∙◌, ◌+◌, drop}
 use Rattle.proposer.proofs.Merging.{entries_from, entries_rest, room_more}
-use Rattle.proposer.proofs.lead.reserve_entries.Goals as goal
+use Rattle.proposer.proofs.reported.reserve_entries.Goals as goal
 
 pub loop-entry-preserved : goal.loop-entry-preserved
 loop-entry-preserved c = (

@@ -1,7 +1,7 @@
 use Rattle.std.proofs.Common.{◌∙◌, ◌+◌, drop, get_or}
 use Rattle.proposer.proofs.Merging.{place_more}
 use Rattle.proposer.proofs.Positions.{from_place, rising_rest}
-use Rattle.proposer.proofs.lead.reserve_positions.Goals as goal
+use Rattle.proposer.proofs.reported.reserve_positions.Goals as goal
 
 pub loop-position-preserved : goal.loop-position-preserved
 loop-position-preserved c = (

@@ -1,7 +1,7 @@
 use Rattle.std.proofs.Common.{◌∙◌}
 use Rattle.position_map.specs.Slots.{filled}
 use Rattle.proposer.proofs.Positions.{rising_rest, known_more}
-use Rattle.proposer.proofs.lead.positions_known.Goals as goal
+use Rattle.proposer.proofs.reported.positions_known.Goals as goal
 
 pub loop-position-preserved : goal.loop-position-preserved
 loop-position-preserved c = (

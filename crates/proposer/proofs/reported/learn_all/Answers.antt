@@ -1,7 +1,7 @@
 use Rattle.std.proofs.Common.{◌+◌, drop, get_or}
 use Rattle.proposer.proofs.Merging.{learn_more}
 use Rattle.proposer.proofs.Positions.{from_place}
-use Rattle.proposer.proofs.lead.learn_all.Goals as goal
+use Rattle.proposer.proofs.reported.learn_all.Goals as goal
 
 pub loop-position-preserved : goal.loop-position-preserved
 loop-position-preserved c =

@@ -2,7 +2,7 @@ use Rattle.std.proofs.Common.{subst}
 use Rattle.proposer.specs.Merging.{HaveRoom}
 use Rattle.proposer.specs.Views.{AreRising}
 use Rattle.proposer.proofs.Merging.{merge_more, parted, last_room}
-use Rattle.proposer.proofs.lead.merge_all.Goals as goal
+use Rattle.proposer.proofs.reported.merge_all.Goals as goal
 
 pub merge_one-requires-clause-most : goal.merge_one-requires-clause-most
 merge_one-requires-clause-most c = (parted 1 c.pop.new.self.items c.in-Some.entry (subst (AreRising 1) c.in-Some.ensures.items c.loop-entry.invariant.rising)).3

@@ -1,6 +1,6 @@
 use Rattle.std.proofs.Common.{length}
 use Rattle.proposer.proofs.Merging.{Merges}
-use Rattle.proposer.proofs.lead.merge_all.Given as goal
+use Rattle.proposer.proofs.reported.merge_all.Given as goal
 
 abbrev pub decreases-loop-entry : goal.decreases-loop-entry
 decreases-loop-entry l = length l.left.items

@@ -2,7 +2,7 @@ use Rattle.std.proofs.Common.{◌≡◌, ◌||◌, ℕ, is_some, drop}
 use Rattle.position_map.specs.Slots.{filled, value_at}
 use Rattle.ballots.specs.Values.{IsRising}
 use Rattle.proposer.specs.Beginning.{is_in}
-use Rattle.proposer.proofs.lead.positions_known.Given as goal
+use Rattle.proposer.proofs.reported.positions_known.Given as goal
 
 abbrev pub invariant-loop-position : goal.invariant-loop-position
 invariant-loop-position l =
