@@ -36,6 +36,8 @@ impl<W: Wire + Drop> Wire for FloodedWire<W> {
 
     ghost has_brought = { λ w ds. Unit {0} };
 
+    ghost has_waited = { λ w vain failures. Unit {0} };
+
     fn address(&self, end: usize) -> Option<W::Address> {
         self.wire.address(end)
     }

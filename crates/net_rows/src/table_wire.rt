@@ -97,6 +97,8 @@ impl Wire for TableWire {
 
     ghost has_brought = { λ w ds. Unit {0} };
 
+    ghost has_waited = { λ w vain failures. Unit {0} };
+
     fn address(&self, end: usize) -> Option<u8> {
         if end == 0 { Some(self.own) } else { None }
     }

@@ -1,4 +1,6 @@
+pub mod Askable
 pub mod Brought
+pub mod Giving
 pub mod Hearing
 pub mod Holding
 pub mod Lines

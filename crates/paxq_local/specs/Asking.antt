@@ -1,12 +1,15 @@
 -- What a command asks of members.
-use Rattle.std.specs.Prelude.{◌≡◌, ℕ, List}
+use Rattle.std.specs.Prelude.{◌≡◌, ◌≤◌, ℕ, Bool, true, List, [], ◌++◌, length, replicate, IfOk, MatchOption, Option, Result}
 use Rattle.ballots.specs.Messages.{Submit, Ask}
+use Rattle.ballots.specs.Terms.{is_level, most_text}
+use Rattle.ballots.specs.Values.{positions}
 use Rattle.ballots.specs.declared.request.RequestId.{RequestId}
 use Rattle.messages.specs.Spelling.{spelling}
-use Rattle.paxq_files.specs.Script.{Command, submit, ask, ask_at}
+use Rattle.paxq_files.specs.Script.{Command, submit, ask, ask_at, command_alone}
 use Rattle.paxq_local.specs.declared.asked.Form.{Form}
 use Rattle.paxq_local.specs.declared.asked.Form.TheVariants as form
 use Rattle.paxq_local.specs.declared.asked.Asked.{Asked}
+use Rattle.wires.specs.Wires.{Carried}
 
 abbrev pub form_of : Command → Form
 form_of (submit r) = form.Submit
@@ -33,3 +36,38 @@ pub record IsAsked (group : ℕ) (own : RequestId) (floor : ℕ) (command : Comm
   pub id : asked.id ≡ id_of own command
   pub form : asked.form ≡ form_of command
   pub bytes : asked.bytes.items ≡ bytes_of group own floor command
+
+-- there is a datagram that asks it: there is the level, the text is not too long, and the floor is 0 or a position
+abbrev pub IsQuestion : (floor level : ℕ) → (text : List ℕ) → Type 0
+IsQuestion floor level text = (is_level level ≡ true) × (length text ≤ most_text) × (floor ≤ positions)
+
+-- so it is with a command; a request has one
+abbrev pub CanBeAsked : (floor : ℕ) → Command → Type 0
+CanBeAsked floor (submit r) = Unit {0}
+CanBeAsked floor (ask level text) = IsQuestion floor level text
+CanBeAsked floor (ask_at level own text) = IsQuestion own level text
+
+-- the datagram that asks the node at an address for it, from end 0; a question goes by the client and the number 0
+abbrev pub datagram_to : {A : Type 0} → (group : ℕ) → (to : A) → Command → Carried A
+datagram_to group to command = record { end = 0; peer = to; bytes = bytes_of group (record { client = 0; number = 0 }) 0 command }
+
+-- how often something is sent before it gets no answer
+abbrev pub most_tries : ℕ
+most_tries = 200
+
+module _ {W A : Type 0} (was_given : W → List (Carried A) → Type 0) where
+  -- from the one to the other the wire was given these
+  abbrev pub IsGiven : (v w : W) → List (Carried A) → Type 0
+  IsGiven v w sent = (ds : List (Carried A)) → was_given v ds → was_given w (ds ++ sent)
+
+  -- It was given a datagram again and again, 200 times at most: once at least where something was said to it, and all of them where nothing was.
+  abbrev pub IsTried : {T E : Type 0} → (v w : W) → Carried A → (said : Result (Option T) E) → Type 0
+  IsTried v w datagram said = (times : ℕ) × (times ≤ most_tries) × IsGiven v w (replicate times datagram) × IfOk said (λ s. MatchOption s (times ≡ most_tries) (λ _. 1 ≤ times))
+
+  -- The same of what a run that ends with that status sends for a command: it is answered (0), or not (3).
+  abbrev pub IsSent : (v w : W) → Carried A → (status : ℕ) → Type 0
+  IsSent v w datagram status = (times : ℕ) × (times ≤ most_tries) × IsGiven v w (replicate times datagram) × (status ≡ 0 → 1 ≤ times) × (status ≡ 3 → times ≡ most_tries)
+
+  -- and for a line; where it is no command nothing is sent
+  abbrev pub IsSentFor : (v w : W) → (group : ℕ) → (to : A) → (line : List ℕ) → (status : ℕ) → Type 0
+  IsSentFor v w group to line status = MatchOption (command_alone line) (IsGiven v w []) (λ command. IsSent v w (datagram_to group to command) status)

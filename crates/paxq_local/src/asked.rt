@@ -6,7 +6,7 @@ ghost use Rattle.messages.specs.Reading.{datagram_read};
 ghost use Rattle.clients.specs.Hearing.{heard_in, heard_term};
 ghost use Rattle.paxq_files.specs.Commands.{command_term};
 ghost use Rattle.paxq_local.specs.Told.{answer_told, told};
-ghost use Rattle.paxq_local.specs.Asking.{IsAsked};
+ghost use Rattle.paxq_local.specs.Asking.{CanBeAsked, IsAsked};
 
 use ballots::{Reply, RequestId};
 use clients::{Heard, hear, question, request};
@@ -44,7 +44,8 @@ pub(super) fn asked_of(
     id: RequestId,
     floor: u32,
 ) -> Result<Option<Asked>, AllocError>
-    ensures { IfOk result (λ asked. IfSome asked (IsAsked group id floor (command_term command))) }
+    ensures asked { IfOk result (λ asked. IfSome asked (IsAsked group id floor (command_term command))) }
+    ensures is_asked { CanBeAsked floor (command_term command) → IfOk result IsSome }
 {
     match command {
         Command::Submit(asked) => {
@@ -69,7 +70,8 @@ pub(super) fn asked_of(
 
 /// What these bytes ask, if there are any.
 fn with_bytes(id: RequestId, form: Form, bytes: Option<Vec<u8>>) -> Option<Asked>
-    ensures { IfSome result (λ asked. (asked.id ≡ id) × (asked.form ≡ form) × (bytes ≡ Some asked.bytes)) }
+    ensures asked { IfSome result (λ asked. (asked.id ≡ id) × (asked.form ≡ form) × (bytes ≡ Some asked.bytes)) }
+    ensures is_asked { IsSome bytes → IsSome result }
 {
     match bytes {
         Some(bytes) => Some(Asked { id, form, bytes }),

@@ -1,11 +1,11 @@
 //! `paxq send --group G ADDRESS LINE`.
 
-ghost use Rattle.std.specs.Prelude.{◌≡◌, ◌≤◌, List, IfOk, IfSome, Some, length, take, string_bytes};
+ghost use Rattle.std.specs.Prelude.{◌≡◌, ◌≤◌, List, [], ◌∷◌, IfOk, IfSome, Some, length, take, string_bytes};
 ghost use Rattle.std.specs.Option.{option_map};
 ghost use Rattle.clients.specs.Hearing.{heard_in, heard_term};
 ghost use Rattle.messages.specs.Reading.{datagram_read};
 ghost use Rattle.paxq_files.specs.Commands.{command_term};
-ghost use Rattle.paxq_local.specs.Asking.{form_of, id_of};
+ghost use Rattle.paxq_local.specs.Asking.{CanBeAsked, IsGiven, IsSent, IsSentFor, IsTried, datagram_to, form_of, id_of};
 ghost use Rattle.paxq_local.specs.Playing.{AskedRun, SentRun};
 ghost use Rattle.paxq_local.specs.Told.{Brings, HasCome, IsSaid, told_by_one};
 ghost use Rattle.program_reports.specs.Reports.{Run, Wrote};
@@ -34,8 +34,8 @@ const QUESTION: RequestId = RequestId {
 
 /// Sends one line to the node of a group at an address, from end 0 of a wire, and answers the exit status.
 ///
-/// The line is `submit CLIENT NUMBER TEXT`, `ask TEXT` (with the floor 0) or `askat FLOOR TEXT`. It is sent until it is answered, 200 times at
-/// most, with what the wire waits between.
+/// The line is `submit CLIENT NUMBER TEXT`, `ask TEXT` (with the floor 0) or `askat FLOOR TEXT`. Its datagram is sent until it is answered, 200 times at
+/// most, with what the wire waits between, and nothing else is sent.
 ///
 /// The statuses are 0, 1 (any other line), 3 (no answer), and 4 where memory is refused. An `Err` says that `output` or `errors` could not be
 /// written.
@@ -48,9 +48,10 @@ pub fn send_line<W: Wire, O: Write, E: Write>(
     output: &mut O,
     errors: &mut E,
 ) -> io::Result<u8>
-    ensures { IfOk result (λ status. Brings W.has_brought wire.old wire.new (λ brought. (run : Run)
+    ensures run { IfOk result (λ status. Brings W.has_brought wire.old wire.new (λ brought. (run : Run)
         × Wrote (O.contents output.old, O.contents output.new) (E.contents errors.old, E.contents errors.new) status run
         × SentRun group brought line.now run)) }
+    ensures sent { IfOk result (IsSentFor W.was_given wire.old wire.new group to line.now) }
 {
     match read_command(alloc, line) {
         Ok(Some(command)) => send_command(alloc, wire, group, to, command, output, errors),
@@ -69,9 +70,10 @@ fn send_command<W: Wire, O: Write, E: Write>(
     output: &mut O,
     errors: &mut E,
 ) -> io::Result<u8>
-    ensures { IfOk result (λ status. Brings W.has_brought wire.old wire.new (λ brought. (run : Run)
+    ensures run { IfOk result (λ status. Brings W.has_brought wire.old wire.new (λ brought. (run : Run)
         × Wrote (O.contents output.old, O.contents output.new) (E.contents errors.old, E.contents errors.new) status run
         × AskedRun group brought (command_term command) run)) }
+    ensures sent { CanBeAsked 0 (command_term command) → IfOk result (IsSent W.was_given wire.old wire.new (datagram_to group to (command_term command))) }
 {
     match ask_command(alloc, wire, group, to, command) {
         Ok(Some(said)) => {
@@ -94,8 +96,9 @@ fn ask_command<W: Wire>(
     to: W::Address,
     command: Command,
 ) -> Result<Option<Said>, AllocError>
-    ensures { Brings W.has_brought wire.old wire.new (λ brought. IfOk result (λ said. IfSome said (λ s.
+    ensures said { Brings W.has_brought wire.old wire.new (λ brought. IfOk result (λ said. IfSome said (λ s.
         IsSaid brought (told_by_one (form_of (command_term command))) group (id_of (record { client = 0; number = 0 }) (command_term command)) (string_bytes s.text)))) }
+    ensures sent { CanBeAsked 0 (command_term command) → IsTried W.was_given wire.old wire.new (datagram_to group to (command_term command)) result }
 {
     match asked_of(alloc, group, command, QUESTION, 0)? {
         Some(asked) => ask_with_room(alloc, wire, group, to, &asked),
@@ -111,7 +114,8 @@ fn ask_with_room<W: Wire>(
     to: W::Address,
     asked: &Asked,
 ) -> Result<Option<Said>, AllocError>
-    ensures { Brings W.has_brought wire.old wire.new (λ brought. IfOk result (λ said. IfSome said (λ s. IsSaid brought (told_by_one asked.now.form) group asked.now.id (string_bytes s.text)))) }
+    ensures said { Brings W.has_brought wire.old wire.new (λ brought. IfOk result (λ said. IfSome said (λ s. IsSaid brought (told_by_one asked.now.form) group asked.now.id (string_bytes s.text)))) }
+    ensures sent { IsTried W.was_given wire.old wire.new (record { end = 0; peer = to; bytes = asked.now.bytes.items }) result }
 {
     let mut buffer = vec![in alloc; 0u8; MOST_BYTES]?;
     ask(alloc, wire, group, to, asked, &mut buffer)
@@ -126,7 +130,8 @@ fn ask<W: Wire>(
     asked: &Asked,
     buffer: &mut [u8],
 ) -> Result<Option<Said>, AllocError>
-    ensures { Brings W.has_brought wire.old wire.new (λ brought. IfOk result (λ said. IfSome said (λ s. IsSaid brought (told_by_one asked.now.form) group asked.now.id (string_bytes s.text)))) }
+    ensures said { Brings W.has_brought wire.old wire.new (λ brought. IfOk result (λ said. IfSome said (λ s. IsSaid brought (told_by_one asked.now.form) group asked.now.id (string_bytes s.text)))) }
+    ensures sent { IsTried W.was_given wire.old wire.new (record { end = 0; peer = to; bytes = asked.now.bytes.items }) result }
 {
     for _turn in 0..TRIES {
         send_once(wire, to, asked);
@@ -139,6 +144,7 @@ fn ask<W: Wire>(
 
 /// Sends what is asked. Where the wire does not take it, it is lost.
 fn send_once<W: Wire>(wire: &mut W, to: W::Address, asked: &Asked)
+    ensures given { IsGiven W.was_given wire.old wire.new (record { end = 0; peer = to; bytes = asked.now.bytes.items } ∷ []) }
     ensures brought { (ds : List (Carried W.Address)) → W.has_brought wire.old ds → W.has_brought wire.new ds }
 {
     let _ = wire.send(0, to, &asked.bytes);
@@ -152,7 +158,8 @@ fn listen<W: Wire>(
     asked: &Asked,
     buffer: &mut [u8],
 ) -> Result<Option<Said>, AllocError>
-    ensures { Brings W.has_brought wire.old wire.new (λ brought. IfOk result (λ said. IfSome said (λ s. IsSaid brought (told_by_one asked.now.form) group asked.now.id (string_bytes s.text)))) }
+    ensures said { Brings W.has_brought wire.old wire.new (λ brought. IfOk result (λ said. IfSome said (λ s. IsSaid brought (told_by_one asked.now.form) group asked.now.id (string_bytes s.text)))) }
+    ensures given { (ds : List (Carried W.Address)) → W.was_given wire.old ds → W.was_given wire.new ds }
 {
     for _datagram in 0..u64::MAX {
         let Some(length) = next(wire, buffer) else {
@@ -172,6 +179,7 @@ fn listen<W: Wire>(
 /// wire's while has passed.
 fn next<W: Wire>(wire: &mut W, buffer: &mut [u8]) -> Option<usize>
     ensures fits { IfSome result (λ n. n ≤ length buffer.new) }
+    ensures given { (ds : List (Carried W.Address)) → W.was_given wire.old ds → W.was_given wire.new ds }
     ensures brought { Brings W.has_brought wire.old wire.new (λ brought. IfSome result (λ n. HasCome brought (take n buffer.new))) }
 {
     for _datagram in 0..u64::MAX {

@@ -5,6 +5,7 @@ pub mod HeldLemmas
 pub mod Holding
 pub mod Keeping
 pub mod Outcomes
+pub mod Said
 pub mod Seats
 pub mod SenderLemmas
 pub mod Words

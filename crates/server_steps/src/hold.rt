@@ -1,6 +1,6 @@
 //! What a server's steps have sent, until it is given to the wire.
 
-ghost use Rattle.std.specs.Prelude.{◌≡◌, ◌+◌, ◌≤◌, ◌++◌, [], List, length, OnOk};
+ghost use Rattle.std.specs.Prelude.{◌≡◌, ℕ, ◌+◌, ◌≤◌, ◌++◌, [], List, length, OnOk};
 ghost use Rattle.std.specs.Vec.{vec_capacity};
 ghost use Rattle.server_steps.specs.Hold.{datagrams_of, held_by};
 ghost use Rattle.wires.specs.Wires.{Carried};
@@ -74,6 +74,7 @@ impl<D: Copy + Eq + Drop> Hold<D> {
     pub(super) fn give<W: Wire<Address = D>>(&mut self, wire: &mut W)
         ensures given { (ds : List (Carried D)) → W.was_given wire.old ds → W.was_given wire.new (ds ++ held_by self.old.place self.old.outboxes.items) }
         ensures brought { (ds : List (Carried D)) → W.has_brought wire.old ds → W.has_brought wire.new ds }
+        ensures waited { (vain failures : ℕ) → W.has_waited wire.old vain failures → W.has_waited wire.new vain failures }
         ensures place { self.new.place ≡ self.old.place }
         ensures empty { self.new.outboxes.items ≡ [] }
     {
@@ -90,6 +91,7 @@ fn give_all<D: Copy + Eq + Drop, W: Wire<Address = D>>(
 )
     ensures given { (ds : List (Carried D)) → W.was_given wire.old ds → W.was_given wire.new (ds ++ held_by place.now held.now) }
     ensures brought { (ds : List (Carried D)) → W.has_brought wire.old ds → W.has_brought wire.new ds }
+    ensures waited { (vain failures : ℕ) → W.has_waited wire.old vain failures → W.has_waited wire.new vain failures }
 {
     for one in held {
         give(wire, place, one);
@@ -100,6 +102,7 @@ fn give_all<D: Copy + Eq + Drop, W: Wire<Address = D>>(
 fn give<W: Wire>(wire: &mut W, place: &Place<W::Address>, held: &HeldOutbox<W::Address>)
     ensures given { (ds : List (Carried W.Address)) → W.was_given wire.old ds → W.was_given wire.new (ds ++ datagrams_of place.now held.now) }
     ensures brought { (ds : List (Carried W.Address)) → W.has_brought wire.old ds → W.has_brought wire.new ds }
+    ensures waited { (vain failures : ℕ) → W.has_waited wire.old vain failures → W.has_waited wire.new vain failures }
 {
     post(
         wire,

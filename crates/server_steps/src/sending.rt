@@ -22,6 +22,7 @@ pub(super) fn send_to<W: Wire>(
 )
     ensures given { (ds : List (Carried W.Address)) → W.was_given wire.old ds → W.was_given wire.new (ds ++ datagram_to place.now.end place.now.peers client bytes.now target) }
     ensures brought { (ds : List (Carried W.Address)) → W.has_brought wire.old ds → W.has_brought wire.new ds }
+    ensures waited { (vain failures : ℕ) → W.has_waited wire.old vain failures → W.has_waited wire.new vain failures }
 {
     if let Some(address) = place.address_of(client, target) {
         let _ = wire.send(place.end, address, bytes);
@@ -38,6 +39,7 @@ fn send_to_all<W: Wire>(
 )
     ensures given { (ds : List (Carried W.Address)) → W.was_given wire.old ds → W.was_given wire.new (ds ++ flat_map (datagram_to place.now.end place.now.peers client bytes.now) (up_to count)) }
     ensures brought { (ds : List (Carried W.Address)) → W.has_brought wire.old ds → W.has_brought wire.new ds }
+    ensures waited { (vain failures : ℕ) → W.has_waited wire.old vain failures → W.has_waited wire.new vain failures }
 {
     if count == 0 {
         return;
@@ -57,6 +59,7 @@ fn send_to_others<W: Wire>(
 )
     ensures given { (ds : List (Carried W.Address)) → W.was_given wire.old ds → W.was_given wire.new (ds ++ flat_map (datagram_to place.now.end place.now.peers client bytes.now) (filter (λ k. not (k == sender)) (up_to count))) }
     ensures brought { (ds : List (Carried W.Address)) → W.has_brought wire.old ds → W.has_brought wire.new ds }
+    ensures waited { (vain failures : ℕ) → W.has_waited wire.old vain failures → W.has_waited wire.new vain failures }
 {
     if count == 0 {
         return;
@@ -78,6 +81,7 @@ fn send_one<W: Wire>(
 )
     ensures given { (ds : List (Carried W.Address)) → W.was_given wire.old ds → W.was_given wire.new (ds ++ flat_map (datagram_to place.now.end place.now.peers client one.now.bytes.items) (targets members member one.now.to)) }
     ensures brought { (ds : List (Carried W.Address)) → W.has_brought wire.old ds → W.has_brought wire.new ds }
+    ensures waited { (vain failures : ℕ) → W.has_waited wire.old vain failures → W.has_waited wire.new vain failures }
 {
     let bytes = one.bytes.as_slice();
     match one.to {
@@ -100,6 +104,7 @@ pub(super) fn post<W: Wire>(
 )
     ensures given { (ds : List (Carried W.Address)) → W.was_given wire.old ds → W.was_given wire.new (ds ++ addressed place.now.end place.now.peers client (posted members member sent.now)) }
     ensures brought { (ds : List (Carried W.Address)) → W.has_brought wire.old ds → W.has_brought wire.new ds }
+    ensures waited { (vain failures : ℕ) → W.has_waited wire.old vain failures → W.has_waited wire.new vain failures }
 {
     let Some((first, others)) = sent.split_first() else {
         return;

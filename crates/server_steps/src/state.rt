@@ -1,6 +1,6 @@
 //! A server's state, and the steps by which it goes on. What they send is held: no step touches the wire, which `give` gives all of it.
 
-ghost use Rattle.std.specs.Prelude.{◌≡◌, ◌<◌, ◌≤◌, ◌⊎◌, ◌++◌, [], ◌∷◌, List, true, false, IfOk, OnErr, OnOk};
+ghost use Rattle.std.specs.Prelude.{◌≡◌, ℕ, ◌<◌, ◌≤◌, ◌⊎◌, ◌++◌, [], ◌∷◌, List, true, false, IfOk, OnErr, OnOk};
 ghost use Rattle.paxos.specs.Lists.{Has};
 ghost use Rattle.server_steps.specs.Held.{held_in};
 ghost use Rattle.server_steps.specs.Keeping.{FirstAreKept, LearntIsKept, kept_by};
@@ -96,6 +96,7 @@ impl<R: FlushRecords + Drop, A: Application + Drop, D: Copy + Eq + Drop> State<R
     pub fn give<W: Wire<Address = D>>(&mut self, wire: &mut W)
         ensures given { (ds : List (Carried D)) → W.was_given wire.old ds → W.was_given wire.new (ds ++ (shown self.old).held) }
         ensures brought { (ds : List (Carried D)) → W.has_brought wire.old ds → W.has_brought wire.new ds }
+        ensures waited { (vain failures : ℕ) → W.has_waited wire.old vain failures → W.has_waited wire.new vain failures }
         ensures seat { (shown self.new).seat ≡ (shown self.old).seat }
         ensures place { (shown self.new).place ≡ (shown self.old).place }
         ensures empty { (shown self.new).held ≡ [] }

@@ -1,9 +1,9 @@
 //! What a wire has brought, taken: each datagram is a step, and what the steps send is held.
 
-ghost use Rattle.std.specs.Prelude.{◌≡◌, ◌≤◌, ◌⊎◌, ◌++◌, [], ◌∷◌, List, length, take, true, IfOk};
+ghost use Rattle.std.specs.Prelude.{◌≡◌, ℕ, ◌+◌, ◌≤◌, ◌⊎◌, ◌++◌, [], ◌∷◌, List, length, take, true, IfOk};
 ghost use Rattle.server_steps.specs.Going.{IsGivenNothing, Passed, has_brought_beside, shown, was_given_or_held};
 ghost use Rattle.server_steps.specs.Moves.{AreTurns};
-ghost use Rattle.wires.specs.Wires.{Carried};
+ghost use Rattle.wires.specs.Wires.{Carried, HasSaid};
 
 use super::fault::ServeFault;
 use super::state::State;
@@ -22,6 +22,7 @@ impl<R: FlushRecords + Drop, A: Application + Drop, D: Copy + Eq + Drop> State<R
     ) -> Result<u64, ServeFault>
         ensures took { Passed A.has_applied A.meaning R.failed D.eq (was_given_or_held W.was_given) (has_brought_beside W.has_brought) R.stands R.is_kept R.base R.leaves AreTurns result (shown self.old) (shown self.new) ((shown self.old).held, wire.old) ((shown self.new).held, wire.new) }
         ensures most { IfOk result (λ taken. taken ≤ 1) }
+        ensures said { IfOk result (λ taken. HasSaid W.has_brought W.has_waited wire.old wire.new taken 0) }
         ensures unsent { IsGivenNothing W.was_given wire.old wire.new }
     {
         match wire.receive_waiting(buffer) {
@@ -44,6 +45,7 @@ impl<R: FlushRecords + Drop, A: Application + Drop, D: Copy + Eq + Drop> State<R
     ) -> Result<u64, ServeFault>
         ensures took { Passed A.has_applied A.meaning R.failed D.eq (was_given_or_held W.was_given) (has_brought_beside W.has_brought) R.stands R.is_kept R.base R.leaves AreTurns result (shown self.old) (shown self.new) ((shown self.old).held, wire.old) ((shown self.new).held, wire.new) }
         ensures most { IfOk result (λ taken. taken ≤ most) }
+        ensures said { IfOk result (λ taken. HasSaid W.has_brought W.has_waited wire.old wire.new taken 0) }
         ensures unsent { IsGivenNothing W.was_given wire.old wire.new }
     {
         let mut taken = 0u64;
@@ -72,6 +74,7 @@ impl<R: FlushRecords + Drop, A: Application + Drop, D: Copy + Eq + Drop> State<R
             → Passed A.has_applied A.meaning R.failed D.eq (was_given_or_held W.was_given) (has_brought_beside W.has_brought) R.stands R.is_kept R.base R.leaves AreTurns result (shown self.old) (shown self.new) ((shown self.old).held, v) ((shown self.new).held, wire.new) }
         ensures least { IfOk result (λ taken. 1 ≤ taken) }
         ensures most { IfOk result (λ taken. taken ≤ most) }
+        ensures said { IfOk result (λ taken. (more : ℕ) × (taken ≡ 1 + more) × HasSaid W.has_brought W.has_waited wire.old wire.new more 0) }
         ensures unsent { IsGivenNothing W.was_given wire.old wire.new }
     {
         self.take(alloc, arrival, &buffer[..arrival.length])?;

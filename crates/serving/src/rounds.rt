@@ -1,10 +1,10 @@
 //! How a server's round ends: one write of its node's records, and then all that is held is given to the wire; and a round of what the wire brings.
 
-ghost use Rattle.std.specs.Prelude.{◌≡◌, ◌≤◌, ◌++◌, [], ◌∷◌, true, false, List, length, take, IfOk, OnErr, OnOk};
+ghost use Rattle.std.specs.Prelude.{◌≡◌, ℕ, ◌+◌, ◌≤◌, ◌++◌, [], ◌∷◌, true, false, List, length, take, IfOk, OnErr, OnOk};
 ghost use Rattle.server_steps.specs.Going.{IsGivenNothing, IsWritten, Passed, has_brought_beside, was_given_or_held};
-ghost use Rattle.serving.specs.Serves.{IsWrittenFirst};
+ghost use Rattle.serving.specs.Serves.{IsEnded, IsEndedIfDone, IsWrittenFirst};
 ghost use Rattle.server_steps.specs.Moves.{AreTurns, Halts, Stays};
-ghost use Rattle.wires.specs.Wires.{Carried};
+ghost use Rattle.wires.specs.Wires.{Carried, HasSaid};
 
 use super::server::Server;
 use applications::Application;
@@ -31,8 +31,10 @@ impl<R: FlushRecords + Drop, A: Application + Drop, D: Copy + Eq + Drop> Server<
         ensures word { self.new.server.word ≡ self.old.server.word }
         ensures given { (ds : List (Carried D)) → was_given_or_held W.was_given (self.old.server.held, wire.old) ds → was_given_or_held W.was_given (self.new.server.held, wire.new) ds }
         ensures brought { (ds : List (Carried D)) → W.has_brought wire.old ds → W.has_brought wire.new ds }
+        ensures waited { (vain failures : ℕ) → W.has_waited wire.old vain failures → W.has_waited wire.new vain failures }
         ensures acknowledged { OnOk result (IsWrittenFirst R.is_kept R.leaves W.was_given self.new.server wire.old wire.new) }
         ensures written { OnOk result (self.new.lags ≡ false → IsWritten R.is_kept R.leaves self.new.server) }
+        ensures ended { OnOk result (IsEnded R.is_kept R.leaves W.was_given self.new wire.old wire.new) }
         ensures unsent { OnErr result (IsGivenNothing W.was_given wire.old wire.new) }
     {
         if self.state.write(alloc)? {
@@ -57,7 +59,9 @@ impl<R: FlushRecords + Drop, A: Application + Drop, D: Copy + Eq + Drop> Server<
         ensures took { (v : W) → IsGivenNothing W.was_given v wire.old → ((ds : List (Carried D)) → W.has_brought v ds → W.has_brought wire.old (ds ++ record { end = arrival.end; peer = arrival.from; bytes = take arrival.length buffer.old } ∷ []))
             → Passed A.has_applied A.meaning R.failed D.eq (was_given_or_held W.was_given) (has_brought_beside W.has_brought) R.stands R.is_kept R.base R.leaves AreTurns result self.old.server self.new.server (self.old.server.held, v) (self.new.server.held, wire.new) }
         ensures most { IfOk result (λ taken. taken ≤ most) }
+        ensures said { IfOk result (λ taken. (more : ℕ) × (taken ≡ 1 + more) × HasSaid W.has_brought W.has_waited wire.old wire.new more 0) }
         ensures acknowledged { OnOk result (IsWrittenFirst R.is_kept R.leaves W.was_given self.new.server wire.old wire.new) }
+        ensures ended { OnOk result (IsEnded R.is_kept R.leaves W.was_given self.new wire.old wire.new) }
         ensures unsent { OnErr result (IsGivenNothing W.was_given wire.old wire.new) }
     {
         let before = self.state.node().prefix();
@@ -82,7 +86,9 @@ impl<R: FlushRecords + Drop, A: Application + Drop, D: Copy + Eq + Drop> Server<
         requires { 1 ≤ most }
         ensures took { Passed A.has_applied A.meaning R.failed D.eq (was_given_or_held W.was_given) (has_brought_beside W.has_brought) R.stands R.is_kept R.base R.leaves AreTurns result self.old.server self.new.server (self.old.server.held, wire.old) (self.new.server.held, wire.new) }
         ensures most { IfOk result (λ taken. taken ≤ most) }
+        ensures said { IfOk result (λ taken. (failures : ℕ) × (1 ≤ taken + failures) × HasSaid W.has_brought W.has_waited wire.old wire.new taken failures) }
         ensures acknowledged { OnOk result (IsWrittenFirst R.is_kept R.leaves W.was_given self.new.server wire.old wire.new) }
+        ensures ended { OnOk result (IsEndedIfDone R.is_kept R.leaves W.was_given self.old self.new wire.old wire.new) }
         ensures unsent { OnErr result (IsGivenNothing W.was_given wire.old wire.new) }
     {
         match wire.receive(buffer) {

@@ -1,9 +1,9 @@
 //! A server: a node that serves over a wire.
 
-ghost use Rattle.std.specs.Prelude.{◌≡◌, ◌≤◌, false, List, [], ◌∷◌, IfOk, OnErr, OnOk};
+ghost use Rattle.std.specs.Prelude.{◌≡◌, ℕ, ◌≤◌, false, List, [], ◌∷◌, IfOk, OnErr, OnOk};
 ghost use Rattle.server_steps.specs.Going.{IsGivenNothing, IsWritten, Passed, Went, has_brought_beside, started, told_to_lead, was_given_or_held};
 ghost use Rattle.server_steps.specs.Keeping.{LearntIsKept};
-ghost use Rattle.serving.specs.Serves.{IsWrittenFirst, WentJustBy, WritesFirst};
+ghost use Rattle.serving.specs.Serves.{GoesByRounds, IsEnded, IsWrittenFirst, TakesAll, WentJustBy, WritesFirst};
 ghost use Rattle.server_steps.specs.Moves.{AreTurns, Ticked, Took};
 ghost use Rattle.wires.specs.Wires.{Carried};
 
@@ -104,6 +104,7 @@ impl<R: FlushRecords + Drop, A: Application + Drop, D: Copy + Eq + Drop> Server<
         ensures went { WentJustBy A.has_applied A.meaning R.failed D.eq (was_given_or_held W.was_given) (has_brought_beside W.has_brought) R.stands R.is_kept R.base R.leaves result (Ticked Tick.Begin ∷ []) self.old.server self.new.server (self.old.server.held, wire.old) (self.new.server.held, wire.new) }
         ensures acknowledged { OnOk result (IsWrittenFirst R.is_kept R.leaves W.was_given self.new.server wire.old wire.new) }
         ensures written { OnOk result (self.new.lags ≡ false → IsWritten R.is_kept R.leaves self.new.server) }
+        ensures ended { OnOk result (IsEnded R.is_kept R.leaves W.was_given self.new wire.old wire.new) }
         ensures unsent { OnErr result (IsGivenNothing W.was_given wire.old wire.new) }
         ensures brought { (ds : List (Carried D)) → W.has_brought wire.old ds → W.has_brought wire.new ds }
     {
@@ -126,8 +127,10 @@ impl<R: FlushRecords + Drop, A: Application + Drop, D: Copy + Eq + Drop> Server<
         ensures kept { OnOk result (self.new.server.seat.has_lost ≡ false → LearntIsKept A.has_applied self.old.server.seat.node self.new.server.seat.node) }
         ensures acknowledged { OnOk result (IsWrittenFirst R.is_kept R.leaves W.was_given self.new.server wire.old wire.new) }
         ensures written { OnOk result (self.new.lags ≡ false → IsWritten R.is_kept R.leaves self.new.server) }
+        ensures ended { OnOk result (IsEnded R.is_kept R.leaves W.was_given self.new wire.old wire.new) }
         ensures unsent { OnErr result (IsGivenNothing W.was_given wire.old wire.new) }
         ensures brought { (ds : List (Carried D)) → W.has_brought wire.old ds → W.has_brought wire.new ds }
+        ensures waited { (vain failures : ℕ) → W.has_waited wire.old vain failures → W.has_waited wire.new vain failures }
     {
         self.lags = true;
         self.state.tick_and_keep(alloc)?;
@@ -149,6 +152,7 @@ impl<R: FlushRecords + Drop, A: Application + Drop, D: Copy + Eq + Drop> Server<
         ensures kept { OnOk result (self.new.server.seat.has_lost ≡ false → LearntIsKept A.has_applied self.old.server.seat.node self.new.server.seat.node) }
         ensures acknowledged { OnOk result (IsWrittenFirst R.is_kept R.leaves W.was_given self.new.server wire.old wire.new) }
         ensures written { OnOk result (self.new.lags ≡ false → IsWritten R.is_kept R.leaves self.new.server) }
+        ensures ended { OnOk result (IsEnded R.is_kept R.leaves W.was_given self.new wire.old wire.new) }
         ensures unsent { OnErr result (IsGivenNothing W.was_given wire.old wire.new) }
         ensures brought { (ds : List (Carried D)) → W.has_brought wire.old ds → W.has_brought wire.new ds }
     {
@@ -173,6 +177,8 @@ impl<R: FlushRecords + Drop, A: Application + Drop, D: Copy + Eq + Drop> Server<
     ) -> Result<u64, ServeFault>
         ensures took { Passed A.has_applied A.meaning R.failed D.eq (was_given_or_held W.was_given) (has_brought_beside W.has_brought) R.stands R.is_kept R.base R.leaves AreTurns result self.old.server self.new.server (self.old.server.held, wire.old) (self.new.server.held, wire.new) }
         ensures most { IfOk result (λ taken. taken ≤ turns) }
+        ensures all { IfOk result (λ taken. TakesAll W.has_brought W.has_waited turns taken wire.old wire.new) }
+        ensures rounds { OnOk result (GoesByRounds A.has_applied A.meaning R.failed D.eq W.was_given W.has_brought R.is_kept R.leaves self.old wire.old self.new wire.new) }
         ensures acknowledged { WritesFirst A.has_applied A.meaning R.failed D.eq W.was_given W.has_brought R.is_kept R.leaves self.old.server wire.old wire.new }
     {
         let mut taken = 0u64;

@@ -125,6 +125,8 @@ impl Wire for ScriptedWire {
 
     ghost has_brought = { λ w ds. Unit {0} };
 
+    ghost has_waited = { λ w vain failures. Unit {0} };
+
     fn address(&self, end: usize) -> Option<u8> {
         let end = u8::try_from(end).ok()?;
         if end < self.ends { Some(end) } else { None }

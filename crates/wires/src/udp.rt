@@ -185,6 +185,8 @@ impl<C: Clock + Drop> Wire for UdpWire<C> {
 
     ghost has_brought = { λ w ds. Unit {0} };
 
+    ghost has_waited = { λ w vain failures. Unit {0} };
+
     fn address(&self, end: usize) -> Option<SocketAddr> {
         self.addresses.get(end).copied()
     }

@@ -1,4 +1,4 @@
-use Rattle.std.proofs.Common.{[], ◌∷◌, take}
+use Rattle.std.proofs.Common.{[], ◌∷◌, refl, take}
 use Rattle.server_steps.proofs.Beside.{given_beside, halted_beside, on_beside}
 use Rattle.server_steps.proofs.Going.{goes_hearing, halts_after, hears_first, passed_both, passed_err, passed_stops, passed_taking}
 use Rattle.server_steps.specs.Going.{Server, has_brought_beside, shown, was_given_or_held}
@@ -37,3 +37,6 @@ returns-clause-took g c v gives brings =
     (hears_first {R = g.row.R.Denot} {A = g.row.A.Denot} {D = g.row.D.Denot} g.A.Application.has_applied g.A.Application.meaning g.R.Records.failed g.D.PartialEq.eq (was_given_or_held g.W.Wire.was_given) (has_brought_beside g.W.Wire.has_brought) (Took d ∷ []) (d ∷ []) (d ∷ []) x y (x.held, v) (x.held, c.args.wire.now) (y.held, c.args.wire.now) (given_beside {R = g.row.R.Denot} {A = g.row.A.Denot} {D = g.row.D.Denot} g.A.Application.has_applied g.A.Application.meaning g.R.Records.failed g.D.PartialEq.eq g.W.Wire.was_given x.held v c.args.wire.now gives) brings
     (on_beside {R = g.row.R.Denot} {A = g.row.A.Denot} {D = g.row.D.Denot} g.A.Application.has_applied g.A.Application.meaning g.R.Records.failed g.D.PartialEq.eq g.W.Wire.was_given g.W.Wire.has_brought (Took d ∷ []) (d ∷ []) x y x.held y.held c.args.wire.now c.in_ok-take.ensures)) in
     passed_both {R = g.row.R.Denot} {A = g.row.A.Denot} {D = g.row.D.Denot} g.A.Application.has_applied g.A.Application.meaning g.R.Records.failed g.D.PartialEq.eq (was_given_or_held g.W.Wire.was_given) (has_brought_beside g.W.Wire.has_brought) g.R.Records.stands g.R.Records.is_kept g.R.Records.base g.R.FlushRecords.leaves 1 c.in_ok-more.more x y z (x.held, v) (y.held, c.args.wire.now) (z.held, c.take_waiting.new.wire) one c.in_ok-more.ensures.took
+
+pub returns-clause-said : goal.returns-clause-said
+returns-clause-said g c = (c.in_ok-more.more, refl, c.in_ok-more.ensures.said)

@@ -1,6 +1,7 @@
 use Rattle.std.proofs.Common.{◌≡◌, ◌-◌, [], ◌∷◌, Ok, ap, refl, ◌∙◌, take, arith}
 use Rattle.server_steps.proofs.Beside.{given_beside, halted_beside, on_beside}
 use Rattle.server_steps.proofs.Going.{brought_none, brought_one, goes_hearing, halts_after, hears_first, passed_err, passed_none, passed_taking}
+use Rattle.server_steps.proofs.Said.{said_waiting}
 use Rattle.server_steps.specs.Going.{Server, has_brought_beside, shown, was_given_or_held}
 use Rattle.server_steps.specs.Moves.{AreTurns, Took}
 use Rattle.wires.specs.Wires.{Carried, carried_in}
@@ -44,3 +45,12 @@ returns-in-Err-clause-took g c =
     passed_none {R = g.row.R.Denot} {A = g.row.A.Denot} {D = g.row.D.Denot} g.A.Application.has_applied g.A.Application.meaning g.R.Records.failed g.D.PartialEq.eq (was_given_or_held g.W.Wire.was_given) (has_brought_beside g.W.Wire.has_brought) g.R.Records.stands g.R.Records.is_kept g.R.Records.base g.R.FlushRecords.leaves x (x.held, c.args.wire.now) (x.held, c.receive_waiting.new.self)
     (goes_hearing {R = g.row.R.Denot} {A = g.row.A.Denot} {D = g.row.D.Denot} g.A.Application.has_applied g.A.Application.meaning g.R.Records.failed g.D.PartialEq.eq (was_given_or_held g.W.Wire.was_given) (has_brought_beside g.W.Wire.has_brought) x (x.held, c.args.wire.now) (x.held, c.receive_waiting.new.self) [] (given_beside {R = g.row.R.Denot} {A = g.row.A.Denot} {D = g.row.D.Denot} g.A.Application.has_applied g.A.Application.meaning g.R.Records.failed g.D.PartialEq.eq g.W.Wire.was_given x.held c.args.wire.now c.receive_waiting.new.self c.receive_waiting.ensures.given)
     (brought_none {R = g.row.R.Denot} {A = g.row.A.Denot} {D = g.row.D.Denot} g.A.Application.has_applied g.A.Application.meaning g.R.Records.failed g.D.PartialEq.eq g.W.Wire.was_given g.W.Wire.has_brought c.args.wire.now c.receive_waiting.new.self c.receive_waiting.result c.receive_waiting.new.buffer (ap (λ q. carried_in q c.receive_waiting.new.buffer) c.in-Err.is) c.receive_waiting.ensures.brought))
+
+pub returns-in_ok-take-in-Ok-Some-clause-said : goal.returns-in_ok-take-in-Ok-Some-clause-said
+returns-in_ok-take-in-Ok-Some-clause-said g c = said_waiting {D = g.row.D.Denot} g.W.Wire.has_brought g.W.Wire.has_waited c.args.wire.now c.receive_waiting.new.self c.receive_waiting.result c.receive_waiting.new.buffer _ (ap (λ q. carried_in q c.receive_waiting.new.buffer) (c.in-Ok-Some.is ∙ ap Ok c.in-Ok-Some.field-0-is)) c.receive_waiting.ensures.brought c.receive_waiting.ensures.waited
+
+pub returns-in-Ok-None-clause-said : goal.returns-in-Ok-None-clause-said
+returns-in-Ok-None-clause-said g c = said_waiting {D = g.row.D.Denot} g.W.Wire.has_brought g.W.Wire.has_waited c.args.wire.now c.receive_waiting.new.self c.receive_waiting.result c.receive_waiting.new.buffer _ (ap (λ q. carried_in q c.receive_waiting.new.buffer) (c.in-Ok-None.is ∙ ap Ok c.in-Ok-None.field-0-is)) c.receive_waiting.ensures.brought c.receive_waiting.ensures.waited
+
+pub returns-in-Err-clause-said : goal.returns-in-Err-clause-said
+returns-in-Err-clause-said g c = said_waiting {D = g.row.D.Denot} g.W.Wire.has_brought g.W.Wire.has_waited c.args.wire.now c.receive_waiting.new.self c.receive_waiting.result c.receive_waiting.new.buffer _ (ap (λ q. carried_in q c.receive_waiting.new.buffer) c.in-Err.is) c.receive_waiting.ensures.brought c.receive_waiting.ensures.waited

@@ -1,8 +1,10 @@
-use Rattle.std.proofs.Common.{◌∙◌, [], ◌∷◌, Ok, ap, refl, inr, take}
+use Rattle.std.proofs.Common.{◌∙◌, [], ◌∷◌, Ok, ap, refl, inl, inr, arith, take}
 use Rattle.member.specs.declared.input.Tick.TheVariants.{CatchUp, Resend}
 use Rattle.server_steps.proofs.Beside.{given_beside}
+use Rattle.serving.proofs.Rounding.{ended_after, said_first}
 use Rattle.serving.proofs.Closing.{first_after}
 use Rattle.server_steps.proofs.Going.{brought_none, brought_one, goes_hearing, halts_after, hears_first, passed_err, passed_none, passed_waiting}
+use Rattle.server_steps.proofs.Said.{said_by, said_further}
 use Rattle.server_steps.proofs.Outcomes.{any_err, on_err, on_ok}
 use Rattle.server_steps.specs.Going.{Server, has_brought_beside, was_given_or_held}
 use Rattle.server_steps.specs.Moves.{AreTurns, Ticked}
@@ -57,3 +59,21 @@ returns-in_ok-tick-in-Ok-None-clause-acknowledged g c =
 
 pub returns-in-Err-clause-acknowledged : goal.returns-in-Err-clause-acknowledged
 returns-in-Err-clause-acknowledged g c = inr c.receive.ensures.given
+
+pub returns-in-Ok-Some-clause-said : goal.returns-in-Ok-Some-clause-said
+returns-in-Ok-Some-clause-said g c = said_first {D = g.row.D.Denot} g.W.Wire.has_brought g.W.Wire.has_waited c.args.wire.now c.receive.new.self c.round_from.new.wire c.round_from.result (said_by {D = g.row.D.Denot} g.W.Wire.has_brought g.W.Wire.has_waited c.args.wire.now c.receive.new.self c.receive.result _ c.receive.new.buffer (c.in-Ok-Some.is ∙ ap Ok c.in-Ok-Some.field-0-is) c.receive.ensures.brought c.receive.ensures.waited) c.round_from.ensures.said
+
+pub returns-in_ok-tick-in-Ok-None-clause-said : goal.returns-in_ok-tick-in-Ok-None-clause-said
+returns-in_ok-tick-in-Ok-None-clause-said g c = (0, omega arith, said_further {D = g.row.D.Denot} g.W.Wire.has_brought g.W.Wire.has_waited c.args.wire.now c.receive.new.self c.tick.new.wire 1 0 (said_by {D = g.row.D.Denot} g.W.Wire.has_brought g.W.Wire.has_waited c.args.wire.now c.receive.new.self c.receive.result _ c.receive.new.buffer (c.in-Ok-None.is ∙ ap Ok c.in-Ok-None.field-0-is) c.receive.ensures.brought c.receive.ensures.waited) c.tick.ensures.brought c.tick.ensures.waited)
+
+pub returns-in-Err-clause-said : goal.returns-in-Err-clause-said
+returns-in-Err-clause-said g c = (1, omega arith, said_by {D = g.row.D.Denot} g.W.Wire.has_brought g.W.Wire.has_waited c.args.wire.now c.receive.new.self c.receive.result _ c.receive.new.buffer c.in-Err.is c.receive.ensures.brought c.receive.ensures.waited)
+
+pub returns-in-Ok-Some-clause-ended : goal.returns-in-Ok-Some-clause-ended
+returns-in-Ok-Some-clause-ended g c = on_ok c.round_from.result c.round_from.ensures.ended (λ ended. inl (ended_after {R = g.row.R.Denot} {A = g.row.A.Denot} {D = g.row.D.Denot} g.R.Records.is_kept g.R.FlushRecords.leaves g.W.Wire.was_given c.round_from.new.self c.args.wire.now c.receive.new.self c.round_from.new.wire c.receive.ensures.given ended))
+
+pub returns-in_ok-tick-in-Ok-None-clause-ended : goal.returns-in_ok-tick-in-Ok-None-clause-ended
+returns-in_ok-tick-in-Ok-None-clause-ended g c = inl (ended_after {R = g.row.R.Denot} {A = g.row.A.Denot} {D = g.row.D.Denot} g.R.Records.is_kept g.R.FlushRecords.leaves g.W.Wire.was_given c.tick.new.self c.args.wire.now c.receive.new.self c.tick.new.wire c.receive.ensures.given c.in_ok-tick-in-Ok-None.ensures.ended)
+
+pub returns-in-Err-clause-ended : goal.returns-in-Err-clause-ended
+returns-in-Err-clause-ended g c = inr (refl, c.receive.ensures.given)

@@ -1,8 +1,10 @@
 use Rattle.std.proofs.Common.{[]}
 use Rattle.server_steps.proofs.Beside.{given_beside, halted_beside, on_beside}
+use Rattle.serving.proofs.Rounding.{ended_after}
 use Rattle.serving.proofs.Closing.{first_after, passed_closing, passed_ending}
 use Rattle.server_steps.proofs.Giving.{given_none}
 use Rattle.server_steps.proofs.Going.{goes_hearing, halts_after, halts_at_once, on_hearing, passed_err, passed_stops}
+use Rattle.server_steps.proofs.Said.{said_further}
 use Rattle.server_steps.proofs.Outcomes.{any_err}
 use Rattle.server_steps.specs.Going.{Server, has_brought_beside, shown, was_given_or_held}
 use Rattle.server_steps.specs.Moves.{AreTurns}
@@ -55,3 +57,12 @@ returns-in_err-close-clause-unsent g c = any_err c.from_residual-in_err-close.re
 
 pub returns-clause-acknowledged : goal.returns-clause-acknowledged
 returns-clause-acknowledged g c = first_after {R = g.row.R.Denot} {A = g.row.A.Denot} {D = g.row.D.Denot} g.A.Application.has_applied g.A.Application.meaning g.R.Records.failed g.D.PartialEq.eq g.W.Wire.was_given g.W.Wire.has_brought g.R.Records.is_kept g.R.FlushRecords.leaves c.close.new.self.server c.args.wire.now c.has_while_passed-has_passed.new.self c.close.new.wire (λ ds h. c.has_while_passed-has_passed.ensures.given ds (c.take_all.ensures.unsent ds h)) c.in_ok-close.ensures.acknowledged
+
+pub returns-clause-said : goal.returns-clause-said
+returns-clause-said g c =
+    let first = c.in_ok-taken.ensures.said in
+    let asked = said_further {D = g.row.D.Denot} g.W.Wire.has_brought g.W.Wire.has_waited c.args.wire.now c.take_all.new.wire c.has_while_passed-has_passed.new.self first.0 0 first.2 c.has_while_passed-has_passed.ensures.brought c.has_while_passed-has_passed.ensures.waited in
+    (first.0, first.1, said_further {D = g.row.D.Denot} g.W.Wire.has_brought g.W.Wire.has_waited c.args.wire.now c.has_while_passed-has_passed.new.self c.close.new.wire first.0 0 asked c.close.ensures.brought c.close.ensures.waited)
+
+pub returns-clause-ended : goal.returns-clause-ended
+returns-clause-ended g c = ended_after {R = g.row.R.Denot} {A = g.row.A.Denot} {D = g.row.D.Denot} g.R.Records.is_kept g.R.FlushRecords.leaves g.W.Wire.was_given c.close.new.self c.args.wire.now c.has_while_passed-has_passed.new.self c.close.new.wire (λ ds h. c.has_while_passed-has_passed.ensures.given ds (c.take_all.ensures.unsent ds h)) c.in_ok-close.ensures.ended
