@@ -1,3 +1,12 @@
+pub mod Turns
+pub mod Attributes
+pub mod Leading
+pub mod Merges
+pub mod Alls
+pub mod Cuts
+pub mod Steps
+pub mod Siblings
+pub mod Calls
 pub mod Results
 pub mod Stored
 pub mod Copied

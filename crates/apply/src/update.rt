@@ -11,15 +11,15 @@ ghost use Rattle.update_meaning.specs.Brought.{new_trees};
 ghost use Rattle.update_meaning.specs.Changed.{changed};
 ghost use Rattle.update_meaning.specs.Results.{applied, judged, IsStored};
 
+use super::tidying::tidy;
+use super::verdict::judge;
 use fault_codes::Code;
 use pending::{PendingList, Primitive};
 use std::alloc::{AllocError, Global};
 use std::mem;
 use tracked_drafts::TrackedDraft;
 use trees::{Forest, NodeId, Prepared};
-use update_judging::judge;
 use update_stages::run_stages;
-use update_tidying::tidy;
 
 /// Why an update is not made.
 #[derive(Clone, Copy, PartialEq, Eq, Debug)]

@@ -1,5 +1,6 @@
 pub mod Results
 pub mod Plans
+pub mod Added
 pub mod Items
 pub mod Ranks
 pub mod Sites

@@ -4,6 +4,7 @@
 //! Contracts speak of the table that a plan and the rows below it are together (`specs/Planned.antt`).
 #![tactic(auto)]
 
+pub mod changes;
 pub mod numbers;
 pub mod plan;
 pub mod splice;

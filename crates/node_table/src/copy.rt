@@ -62,6 +62,7 @@ pub fn copy_all(
         } = row.clone()?;
         let copy = *next;
         let below = Some(NodeId::new(copy));
+        // Counted before its row is there: what has to be removed where memory is refused further on are all identities up to this one.
         *next += 1;
         let row = Row {
             kind,

@@ -11,3 +11,4 @@ pub mod Rising
 pub mod Numbered
 pub mod Views
 pub mod Drafts
+pub mod Undone

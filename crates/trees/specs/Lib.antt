@@ -2,3 +2,5 @@ pub mod Forest
 pub mod Inside
 pub mod Drafts
 pub mod Drafted
+pub mod Undo
+pub mod Settled

@@ -24,13 +24,13 @@ use std::marker::Model;
 /// The fields of a forest, and the plan of what is to become of them.
 #[derive(Drop)]
 pub struct Drafted {
-    rows: Rows,
-    documents: IndexMap<String, NodeId>,
-    first: u64,
-    nodes: u64,
-    plan: Plan,
-    next: u64,
-    count: u64,
+    pub(crate) rows: Rows,
+    pub(crate) documents: IndexMap<String, NodeId>,
+    pub(crate) first: u64,
+    pub(crate) nodes: u64,
+    pub(crate) plan: Plan,
+    pub(crate) next: u64,
+    pub(crate) count: u64,
 }
 
 /// A forest together with rows that are planned in the place of some of its own.
@@ -58,7 +58,7 @@ impl Model for Draft {
 /// A draft for which all memory is there that it takes to settle it.
 #[derive(Drop)]
 pub struct Prepared {
-    parts: Drafted,
+    pub(crate) parts: Drafted,
 }
 
 impl Model for Prepared {

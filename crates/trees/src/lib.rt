@@ -6,7 +6,11 @@
 
 mod draft;
 mod forest;
+mod making;
+mod order;
+mod undo;
 
 pub use data_model::{Axis, Content, Kind, NodeId, NodeView, Tree};
 pub use draft::{Draft, Prepared};
 pub use forest::{Forest, MakeFault};
+pub use undo::Undo;

@@ -1,0 +1,274 @@
+//! What changes a forest: nodes and copies that are made, and lists, names and texts that change.
+
+ghost use Rattle.std.specs.Prelude.{◌≡◌, ℕ, ◌+◌, ◌<◌, ◌≤◌, ◌^◌, ◌↔◌, ◌-◌, Some, None, IfOk, OnOk, OnErr, IsErrOf, IsSome, string_bytes, IsTrue, max};
+ghost use Rattle.data_model.specs.Trees.{append, leaf, find, count, size, parent_of};
+ghost use Rattle.data_model.specs.Changes.{with_content, taken_out, all_moved_below, CanAllMoveBelow, pick, renumbered, ranked};
+ghost use Rattle.data_model.specs.declared.node.Part.TheVariants.{Attributes, Children};
+ghost use Rattle.data_model.specs.Tree.{trees_of_tree};
+ghost use Rattle.data_model.specs.Planted.{past};
+
+use super::forest::{Forest, MakeFault};
+use data_model::{Kind, NodeId, Part, Tree};
+use node_table::table::Row;
+use node_table::{copy, order, plant, table};
+use std::alloc::{AllocError, Global};
+use std::slice;
+
+/// No identity reaches this number.
+const LIMIT: u64 = 1 << 62;
+
+impl Forest {
+    /// Makes a node with no parent, which takes the next identity.
+    ///
+    /// Where memory is refused (`Memory`) or the next identity would pass 2^62 (`Limit`), all stays as it was.
+    pub fn make(
+        &mut self,
+        alloc: Global,
+        kind: Kind,
+        name: String,
+        text: String,
+    ) -> Result<NodeId, MakeFault>
+        ensures made { IfOk result
+            (λ i. (i ≡ self.old.next)
+            × (self.new
+            ≡ record self.old {
+              trees =
+                  append
+                  self.old.trees
+                  (leaf
+                  (record {
+                    identity = i;
+                    kind = kind;
+                    name = string_bytes name;
+                    text = string_bytes text;
+                  }));
+              next = i + 1;
+            })) }
+        ensures limit { IsErrOf result MakeFault.Limit ↔ (2 ^ 62 ≤ self.old.next) }
+        ensures refused { OnErr result (self.new ≡ self.old) }
+    {
+        let id = self.next;
+        if id >= LIMIT {
+            return Err(MakeFault::Limit);
+        }
+        let row = Row {
+            kind,
+            name,
+            text,
+            parent: None,
+            attributes: Vec::new(alloc),
+            children: Vec::new(alloc),
+            place: id,
+        };
+        let Ok(_before) = self.rows.insert(id, row) else {
+            return Err(MakeFault::Memory);
+        };
+        self.next = id + 1;
+        self.nodes += 1;
+        Ok(NodeId::new(id))
+    }
+
+    /// Makes the tree of a node that has a parent a tree of its own.
+    pub fn take_out(&mut self, id: NodeId)
+        requires has { IsSome (find id self.old.trees) }
+        requires below { IsSome (parent_of id self.old.trees) }
+        ensures { self.new ≡ record self.old { trees = taken_out id self.old.trees } }
+    {
+        let row = self.row(id);
+        let part = if row.kind == Kind::Attribute {
+            Part::Attributes
+        } else {
+            Part::Children
+        };
+        if let Some(parent) = row.parent {
+            table::drop_child(&mut self.rows, part, parent, id);
+            table::set_parent(&mut self.rows, id, None);
+        }
+    }
+
+    /// Puts trees of their own into a list below a node, one after the other.
+    fn put_below(
+        &mut self,
+        part: Part,
+        parent: NodeId,
+        index: usize,
+        nodes: &[NodeId],
+    ) -> Result<(), AllocError>
+        requires { CanAllMoveBelow part parent index nodes.now self.old.trees }
+        ensures put { OnOk result (self.new ≡ record self.old { trees = all_moved_below part parent index nodes.now self.old.trees }) }
+        ensures refused { OnErr result (self.new ≡ self.old) }
+    {
+        table::reserve(&mut self.rows, part, parent, nodes.len())?;
+        let mut at = index;
+        for node in nodes {
+            table::move_below(&mut self.rows, part, parent, at, *node);
+            order::settle(&mut self.rows, part, parent, at);
+            at += 1;
+        }
+        Ok(())
+    }
+
+    /// Puts trees of their own below a node, one after the other, as children before which `index` others stand.
+    ///
+    /// Where memory is refused, all stays as it was.
+    pub fn put_children(
+        &mut self,
+        parent: NodeId,
+        index: usize,
+        nodes: &[NodeId],
+    ) -> Result<(), AllocError>
+        requires { CanAllMoveBelow Children parent index nodes.now self.old.trees }
+        ensures put { OnOk result (self.new ≡ record self.old { trees = all_moved_below Children parent index nodes.now self.old.trees }) }
+        ensures refused { OnErr result (self.new ≡ self.old) }
+    {
+        self.put_below(Part::Children, parent, index, nodes)
+    }
+
+    /// Puts trees of their own below a node, one after the other, as attributes before which `index` others stand.
+    ///
+    /// Where memory is refused, all stays as it was.
+    pub fn put_attributes(
+        &mut self,
+        parent: NodeId,
+        index: usize,
+        nodes: &[NodeId],
+    ) -> Result<(), AllocError>
+        requires { CanAllMoveBelow Attributes parent index nodes.now self.old.trees }
+        ensures put { OnOk result (self.new ≡ record self.old { trees = all_moved_below Attributes parent index nodes.now self.old.trees }) }
+        ensures refused { OnErr result (self.new ≡ self.old) }
+    {
+        self.put_below(Part::Attributes, parent, index, nodes)
+    }
+
+    /// Gives a node another text.
+    pub fn set_text(&mut self, id: NodeId, text: String)
+        requires { IsSome (find id self.old.trees) }
+        ensures { self.new ≡ record self.old { trees = with_content id (λ c. record c { text = string_bytes text }) self.old.trees } }
+    {
+        table::set_text(&mut self.rows, id, text);
+    }
+
+    /// Gives a node another name.
+    pub fn set_name(&mut self, id: NodeId, name: String)
+        requires { IsSome (find id self.old.trees) }
+        ensures { self.new ≡ record self.old { trees = with_content id (λ c. record c { name = string_bytes name }) self.old.trees } }
+    {
+        table::set_name(&mut self.rows, id, name);
+    }
+
+    /// Whether a copy of the tree of a node of this forest or of a lent one can be numbered.
+    fn has_room(&self, lent: &Forest, id: NodeId) -> bool
+        requires has { IsSome (find id (append lent.now.trees self.now.trees)) }
+        requires apart { (i : ℕ) → 0 < count i self.now.trees → lent.now.next ≤ i }
+        ensures { IsTrue result ↔ (self.now.next + size (pick id (append lent.now.trees self.now.trees)) ≤ 2 ^ 62) }
+    {
+        lent.facts();
+        let room = LIMIT - self.next;
+        if lent.has(id) {
+            lent.is_within(id, room)
+        } else {
+            self.is_within(id, room)
+        }
+    }
+
+    /// Makes a copy of the tree of a node of this forest or of a lent one, with no parent, as `copy` does. The identities of this forest's nodes come after all of the lent one's.
+    ///
+    /// It gives the copy's root. Where memory is refused (`Memory`) or the next identity would pass 2^62 (`Limit`), all stays as it was.
+    pub fn copy_from(
+        &mut self,
+        alloc: Global,
+        lent: &Forest,
+        id: NodeId,
+    ) -> Result<NodeId, MakeFault>
+        requires has { IsSome (find id (append lent.now.trees self.old.trees)) }
+        requires later { lent.now.next ≤ self.old.next }
+        requires apart { (i : ℕ) → 0 < count i self.old.trees → lent.now.next ≤ i }
+        ensures made { IfOk result
+            (λ i. (i ≡ self.old.next)
+            × (self.new
+            ≡ record self.old {
+              trees = append self.old.trees (renumbered self.old.next (pick id (append lent.now.trees self.old.trees)));
+              next = self.old.next + size (pick id (append lent.now.trees self.old.trees));
+            })) }
+        ensures limit { IsErrOf result MakeFault.Limit ↔ (2 ^ 62 < self.old.next + size (pick id (append lent.now.trees self.old.trees))) }
+        ensures refused { OnErr result (self.new ≡ self.old) }
+    {
+        if !self.has_room(lent, id) {
+            return Err(MakeFault::Limit);
+        }
+        let first = self.next;
+        let mut next = first;
+        let rows = &mut self.rows;
+        match copy::copy_all(&lent.rows, rows, alloc, &[id], None, first, &mut next) {
+            Ok(_) => {
+                self.nodes += next - first;
+                self.next = next;
+                Ok(NodeId::new(first))
+            }
+            Err(_) => {
+                copy::remove_range(&mut self.rows, first, next);
+                Err(MakeFault::Memory)
+            }
+        }
+    }
+
+    /// Makes a copy of the tree of a node, with no parent. Its nodes take the identities from the next one on, in document order.
+    ///
+    /// It gives the copy's root. Where memory is refused (`Memory`) or the next identity would pass 2^62 (`Limit`), all stays as it was.
+    pub fn copy(&mut self, alloc: Global, id: NodeId) -> Result<NodeId, MakeFault>
+        requires { IsSome (find id self.old.trees) }
+        ensures made { IfOk result
+            (λ i. (i ≡ self.old.next)
+            × (self.new
+            ≡ record self.old {
+              trees = append self.old.trees (renumbered self.old.next (pick id self.old.trees));
+              next = self.old.next + size (pick id self.old.trees);
+            })) }
+        ensures limit { IsErrOf result MakeFault.Limit ↔ (2 ^ 62 < self.old.next + size (pick id self.old.trees)) }
+        ensures refused { OnErr result (self.new ≡ self.old) }
+    {
+        self.copy_from(alloc, &Forest::empty(alloc, NodeId::new(0)), id)
+    }
+
+    /// Makes a tree of its own a tree of the forest, with no parent and with the identities that it has, before the trees of larger ones.
+    ///
+    /// The next identity comes after all of them. Where memory is refused, all stays as it was.
+    pub fn plant(&mut self, alloc: Global, tree: &Tree) -> Result<(), AllocError>
+        requires distinct { (i : ℕ) → count i (append self.old.trees (trees_of_tree tree.now)) ≤ 1 }
+        requires below { (i : ℕ) → 0 < count i (trees_of_tree tree.now) → i < 2 ^ 62 }
+        ensures planted { OnOk result
+            (self.new
+            ≡ record self.old {
+              trees = ranked tree.now.content.identity (trees_of_tree tree.now) self.old.trees;
+              next = max self.old.next (past (trees_of_tree tree.now));
+            }) }
+        ensures refused { OnErr result (self.new ≡ self.old) }
+    {
+        let trees = slice::from_ref(tree);
+        match plant::plant_all(&mut self.rows, alloc, trees, None, 0) {
+            Ok(_) => {
+                self.nodes += data_model::node_count(trees);
+                self.next = self.next.max(data_model::past_identities(trees));
+                Ok(())
+            }
+            Err(_) => {
+                plant::remove_all(&mut self.rows, trees);
+                Err(AllocError)
+            }
+        }
+    }
+
+    /// An equal forest of its own.
+    ///
+    /// It fails where memory is refused.
+    pub fn duplicate(&self) -> Result<Forest, AllocError>
+        ensures { IfOk result (λ f. f ≡ self.now) }
+    {
+        Ok(Forest {
+            rows: self.rows.clone()?,
+            documents: self.documents.clone()?,
+            next: self.next,
+            nodes: self.nodes,
+        })
+    }
+}

@@ -1,6 +1,0 @@
-use Rattle.std.proofs.Common.{◌≡◌, ◌++◌, drop, string_bytes}
-use Rattle.update_tidying.specs.Texts.{texts_of}
-use Rattle.update_tidying.proofs.merging.joined.Given as goal
-
-abbrev pub invariant-loop-id : goal.invariant-loop-id
-invariant-loop-id l = string_bytes l.text ++ texts_of l.draft.draft.after (drop l.id-index l.ids) ≡ texts_of l.draft.draft.after l.ids
