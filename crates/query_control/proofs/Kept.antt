@@ -1,45 +1,26 @@
 -- Tuples that are kept, over what an evaluation does.
 use Rattle.std.proofs.Common.{◌≡◌, ℕ, zero, suc, ◌<◌, List, [], ◌∷◌, ◌++◌, length, map, slice_index_or, Option, Bool, true, false, cond, refl, sym, ap, ◌∙◌, subst, arith, Result, Ok, Err}
-use Rattle.std.specs.Option.{ForSome}
 use Rattle.std.specs.Prelude.{nat_le}
-use Rattle.values.specs.Items.{IsThere}
 use Rattle.values.specs.declared.atom.Atom.{Atom}
 use Rattle.values.specs.declared.atom.Item.{Item}
-use Rattle.values.specs.declared.atom.Item.TheVariants as item
 use Rattle.fault_codes.specs.declared.code.Code.{Code}
 use Rattle.fault_codes.specs.declared.code.Code.TheVariants.{PXQ0002, XPTY0004}
 use Rattle.values.specs.declared.fault.ValueFault.{ValueFault}
 use Rattle.values.specs.declared.fault.ValueFault.TheVariants as fault
 use Rattle.query_grammar.specs.declared.ast.Clause.{Clause}
 use Rattle.query_grammar.specs.declared.ast.SortKey.{SortKey}
-use Rattle.query_meaning.specs.Environment.{Environment, Focus}
-use Rattle.query_meaning.specs.Running.{M, Run, and_then, come_to, ◌>>=◌, trees_of, most_items}
-use Rattle.query_meaning.specs.Sequences.{Meaning, Tuple, tuples, kept_tuple, keys_in, and_tuple, all_comparable, sorted, in_sorted_order, ordered, flwor, returned}
-use Rattle.evaluation.specs.Gives.{Any, Grows, GivesIn, Gives, Says, IsReady, Stand}
+use Rattle.query_meaning.specs.Environment.{Bound, Environment}
+use Rattle.query_meaning.specs.Running.{M, Run, and_then, come_to, ◌>>=◌, most_items}
+use Rattle.query_meaning.specs.Sequences.{Meaning, Tuple, tuples, kept_tuple, keys_in, and_tuple, all_comparable, sorted, in_sorted_order, ordered, flwor, returned, tested, if_so}
+use Rattle.evaluation.specs.Gives.{Any, Fails, GivesIn, Gives, Says, IsReady, Stand}
 use Rattle.sorted_tuples.specs.Keys.{Each, IsWide, AreKept, AreReady}
 use Rattle.sorted_tuples.specs.Keys.{sort_key_of}
-use Rattle.query_control.specs.Parts.{and_tuple_of, in_order, returned_in_order}
+use Rattle.query_control.specs.Parts.{with_variables, and_tuple_of, in_order, returned_in_order}
 use Rattle.evaluation.proofs.Each.{then_gives}
+use Rattle.query_control.specs.Lasting.{ready_on, kept_grows}
 use Rattle.sorted_tuples.proofs.Sorting.{each_of_all, tuples_inserted}
 
--- nodes stand on
-there_on : (x : Item) (old new : Run) → Grows old new → IsThere (trees_of old) x → IsThere (trees_of new) x
-there_on (item.Atomic a) old new g h = tt
-there_on (item.Node i) old new g h = g.kept i h
-
-focus_on : (o : Option Focus) (old new : Run) → Grows old new → ForSome o (λ f. IsThere (trees_of old) f.item) → ForSome o (λ f. IsThere (trees_of new) f.item)
-focus_on o old new g h = λ f is. there_on f.item old new g (h f is)
-
-pub ready_on : (env : Environment) (old new : Run) → Grows old new → IsReady env old → IsReady env new
-ready_on env old new g h = record { focus = focus_on env.focus old new g h.focus; variables = λ k d below. λ j e under. there_on _ old new g (h.variables k d below j e under) }
-
-pub all_ready_on : (ts : List Tuple) (old new : Run) → Grows old new → AreReady ts old → AreReady ts new
-all_ready_on [] old new g h = tt
-all_ready_on (t ∷ ts) old new g h = (ready_on t.environment old new g h.0, all_ready_on ts old new g h.1)
-
-pub kept_grows : (n : ℕ) (ts : List Tuple) (old new : Run) → Grows old new → AreKept n ts old → AreKept n ts new
-kept_grows n ts old new g h = record { widths = h.widths; ready = all_ready_on ts old new g h.ready }
-
+-- no tuples
 pub kept_none : (n : ℕ) (run : Run) → AreKept n [] run
 kept_none n run = record { widths = tt; ready = tt }
 
@@ -82,6 +63,20 @@ tuple_kept f keys env kept given ks old new r ready all g wide same says = by r 
     by (Err fault.Memory) e = tt
     by (Err (fault.Code code)) e = ap (λ o. and_then o (λ ks. come_to (and_tuple env given ks))) g.0 ∙ ap (λ o. come_to o new) e
 
+-- `where`, before the keys
+pub tested_kept : (n : ℕ) (test : Option Meaning) (keys : List (SortKey Meaning)) (env seen : Environment) (given : List Tuple) (old mid new : Run) (b : Bool) (r : Result (List Tuple) ValueFault)
+    → seen ≡ env → b ≡ true → GivesIn Any (tested test seen) old (Ok b) mid → GivesIn (AreKept n) (and_tuple_of keys seen given) mid r new → GivesIn (AreKept n) (kept_tuple test keys env given) old r new
+tested_kept n test keys env seen given old mid new b r same is g h =
+    let T : Bool → Type 0 = λ b. GivesIn Any (tested test seen) old (Ok b) mid in
+    let E : Environment → Type 0 = λ e. GivesIn (AreKept n) (kept_tuple test keys e given) old r new in
+    subst E same (then_gives Any (AreKept n) (tested test seen) (λ b. if_so b (and_tuple_of keys seen given) given) old mid new true r (subst T is g) h)
+
+-- a walk from the start
+pub starts : {S : Type 0} (P : S → Run → Type 0) (cs : List (Clause Meaning)) (k : Environment → S → M S) (env : Environment) (bs : List Bound) (given none : S) (old new : Run) (r : Result S ValueFault)
+    → bs ≡ env.variables → given ≡ none → GivesIn P (tuples cs k (with_variables bs env) given) old r new → GivesIn P (tuples cs k env none) old r new
+starts P cs k env bs given none old new r same empty g =
+    subst (λ s. GivesIn P (tuples cs k env s) old r new) empty (subst (λ bs. GivesIn P (tuples cs k (with_variables bs env) given) old r new) same g)
+
 -- the tuples in their order
 sorted_ready : (keys : List (SortKey Meaning)) (ts us : List Tuple) (run : Run) → AreReady ts run → in_sorted_order keys ts ≡ Ok us → AreReady us run
 sorted_ready keys ts us run h e = by (all_comparable ts) e
@@ -96,18 +91,23 @@ sorted_ready keys ts us run h e = by (all_comparable ts) e
     by true e = same cc
     by false e = cc
 
-pub order_gives : (cs : List (Clause Meaning)) (test : Option Meaning) (keys : List (SortKey Meaning)) (env : Environment) (n : ℕ) (none found : List Tuple) (old new : Run) (r : Result (List Tuple) ValueFault)
-    → none ≡ [] → GivesIn (AreKept n) (tuples cs (kept_tuple test keys) env none) old (Ok found) new → Says (in_sorted_order keys found) r → GivesIn AreReady (in_order cs test keys env) old r new
-order_gives cs test keys env n none found old new r empty g e = by r e
+pub order_gives : (cs : List (Clause Meaning)) (test : Option Meaning) (keys : List (SortKey Meaning)) (env : Environment) (n : ℕ) (bs : List Bound) (none found : List Tuple) (old new : Run) (r : Result (List Tuple) ValueFault)
+    → bs ≡ env.variables → none ≡ [] → GivesIn (AreKept n) (tuples cs (kept_tuple test keys) (with_variables bs env) none) old (Ok found) new → Says (in_sorted_order keys found) r → GivesIn AreReady (in_order cs test keys env) old r new
+order_gives cs test keys env n bs none found old new r same empty given e = by r e
   where
-    come_to_these : tuples cs (kept_tuple test keys) env [] old ≡ Ok (found, new)
-    come_to_these = ap (λ us. tuples cs (kept_tuple test keys) env us old) (sym empty) ∙ g.0
+    g : GivesIn (AreKept n) (tuples cs (kept_tuple test keys) env []) old (Ok found) new
+    g = starts (AreKept n) cs (kept_tuple test keys) env bs none [] old new (Ok found) same empty given
 
     by : (r : Result (List Tuple) ValueFault) → Says (in_sorted_order keys found) r → GivesIn AreReady (in_order cs test keys env) old r new
-    by (Ok ts) e =
-        (ap (λ o. and_then o (λ found. come_to (in_sorted_order keys found))) come_to_these ∙ ap (λ o. come_to o new) e, (g.1.0, sorted_ready keys found ts new g.1.1.ready e))
+    by (Ok ts) e = (ap (λ o. and_then o (λ found. come_to (in_sorted_order keys found))) g.0 ∙ ap (λ o. come_to o new) e, (g.1.0, sorted_ready keys found ts new g.1.1.ready e))
     by (Err fault.Memory) e = tt
-    by (Err (fault.Code code)) e = ap (λ o. and_then o (λ found. come_to (in_sorted_order keys found))) come_to_these ∙ ap (λ o. come_to o new) e
+    by (Err (fault.Code code)) e = ap (λ o. and_then o (λ found. come_to (in_sorted_order keys found))) g.0 ∙ ap (λ o. come_to o new) e
+
+pub order_fails : (cs : List (Clause Meaning)) (test : Option Meaning) (keys : List (SortKey Meaning)) (env : Environment) (n : ℕ) (bs : List Bound) (none : List Tuple) (old new : Run) (found : ValueFault)
+    → bs ≡ env.variables → none ≡ [] → GivesIn (AreKept n) (tuples cs (kept_tuple test keys) (with_variables bs env) none) old (Err found) new → Fails (in_order cs test keys env old) found
+order_fails cs test keys env n bs none old new fault.Memory same empty g = tt
+order_fails cs test keys env n bs none old new (fault.Code code) same empty g =
+    ap (λ o. and_then o (λ found. come_to (in_sorted_order keys found))) (starts (AreKept n) cs (kept_tuple test keys) env bs none [] old new (Err (fault.Code code)) same empty g)
 
 -- and `return` at them
 gives_same : {A : Type 0} (P : A → Run → Type 0) (m q : M A) (old new : Run) (r : Result A ValueFault) → m old ≡ q old → GivesIn P q old r new → GivesIn P m old r new

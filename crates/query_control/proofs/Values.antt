@@ -1,17 +1,21 @@
 -- Values of variables, and nodes among items.
-use Rattle.std.proofs.Common.{◌≡◌, ℕ, zero, suc, List, [], ◌∷◌, Some, Bool, true, false, cond, sym, ap, Result, Ok, ◌∙◌, arith, subst}
+use Rattle.std.proofs.Common.{◌≡◌, ℕ, zero, suc, ◌+◌, pos, List, [], ◌∷◌, Option, None, Some, Bool, true, false, cond, sym, ap, Result, Ok, ◌∙◌, arith, subst}
 use Rattle.std.specs.List.{All}
 use Rattle.std.specs.Str.{bytes_eq}
+use Rattle.values.specs.Items.{IsThere}
 use Rattle.values.specs.declared.atom.Atom.{Atom}
+use Rattle.values.specs.declared.atom.Atom.TheVariants as atom
 use Rattle.values.specs.declared.atom.Item.{Item}
 use Rattle.values.specs.declared.fault.ValueFault.{ValueFault}
 use Rattle.query_meaning.specs.Environment.{Bound, looked_at, value_in}
-use Rattle.query_meaning.specs.Running.{Run, and_then, come_to, counted, work}
-use Rattle.evaluation.specs.Gives.{Any, Stand, GivesIn, IsReady}
-use Rattle.query_meaning.specs.Sequences.{tested, variable}
+use Rattle.query_meaning.specs.Running.{Run, and_then, come_to, counted, trees_of, work}
+use Rattle.evaluation.specs.Gives.{Any, Grows, Stand, GivesIn, IsReady, Turns}
+use Rattle.query_meaning.specs.Sequences.{one, tested, variable}
 use Rattle.query_meaning.specs.Meaning.{mean}
 use Rattle.query_grammar.specs.declared.ast.Expr.{Expr}
 use Rattle.query_grammar.specs.declared.ast.Expr.TheVariants as e
+use Rattle.query_control.specs.Parts.{and_position, with_variables}
+use Rattle.query_control.specs.Lasting.{there_on, ready_on}
 use Rattle.query_control.proofs.Unfolded.{of_variable}
 use Rattle.query_meaning.specs.Environment.{Environment, with_variable}
 use Rattle.evaluation.proofs.Counted.{stand_spent}
@@ -49,7 +53,29 @@ ready_with x items env run ready stand = record { focus = ready.focus; variables
     all zero d below = stand
     all (suc k) d below = ready.variables k d (omega (arith, below))
 
+-- one item
+one_there : (x : Item) (run : Run) → IsThere (trees_of run) x → Stand (x ∷ []) run
+one_there x run there zero d below = there
+one_there x run there (suc k) d below = absurd (omega (arith, below))
+
 -- an atomic value stands anywhere
 pub one_stands : (a : Atom) (run : Run) → Stand (item.Atomic a ∷ []) run
 one_stands a run zero d below = tt
 one_stands a run (suc k) d below = absurd (omega (arith, below))
+
+-- with an item and its position
+ready_at_item : (x : List ℕ) (at : Option (List ℕ)) (i : ℕ) (item : Item) (env : Environment) (run : Run) → IsReady env run → IsThere (trees_of run) item
+    → IsReady (with_variables (and_position at i (record { variable = x; items = item ∷ [] } ∷ env.variables)) env) run
+ready_at_item x None i item env run ready there = ready_with x (item ∷ []) env run ready (one_there item run there)
+ready_at_item x (Some at) i item env run ready there =
+    ready_with at (one (atom.Integer (pos (i + 1)))) (with_variable x (item ∷ []) env) run (ready_with x (item ∷ []) env run ready (one_there item run there)) (one_stands (atom.Integer (pos (i + 1))) run)
+
+-- a turn loses none
+pub grows_turned : (old new : Run) (u : Unit {0}) → Turns (Ok u) old new → Grows old new
+grows_turned old new u turned = subst (λ run. Grows old run) (sym turned.0) (record { kept = λ i there. there })
+
+pub ready_in_turn : (x : List ℕ) (at : Option (List ℕ)) (i : ℕ) (item : Item) (env : Environment) (bs : List Bound) (old new : Run) (u : Unit {0}) → IsReady env old → IsThere (trees_of old) item
+    → Turns (Ok u) old new → bs ≡ and_position at i (record { variable = x; items = item ∷ [] } ∷ env.variables) → IsReady (with_variables bs env) new
+ready_in_turn x at i item env bs old new u ready there turned is =
+    let grown = grows_turned old new u turned in
+    subst (λ bs. IsReady (with_variables bs env) new) (sym is) (ready_at_item x at i item env new (ready_on env old new grown ready) (there_on item old new grown there))

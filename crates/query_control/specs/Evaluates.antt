@@ -4,22 +4,15 @@ use Rattle.std.specs.Option.{ForSome}
 use Rattle.query_grammar.specs.declared.ast.Binding.{Binding}
 use Rattle.query_grammar.specs.declared.ast.Clause.{Clause}
 use Rattle.query_grammar.specs.declared.ast.Expr.{Expr}
-use Rattle.query_grammar.specs.declared.ast.SortKey.{SortKey}
 use Rattle.evaluation.specs.Evaluates.{Pre, Post, Evaluates, EvaluatesEach}
 use Rattle.evaluation.specs.Bindings.{bound_source}
-use Rattle.query_control.specs.Parts.{source_of, key_in}
+use Rattle.query_control.specs.Parts.{source_of}
 
 -- the same of the expressions in a FLWOR expression
 pub record EvaluatesFlwor (pre : Pre) (post : Post) (cs : List (Clause Expr)) (o : Option Expr) (x : Expr) : Type 0 where
   pub clauses : EvaluatesEach pre post source_of cs
   pub condition : ForSome o (λ y. Evaluates pre post (y ∷ []))
   pub body : Evaluates pre post (x ∷ [])
-
--- the same of those that come before `return` where there is `order by`
-pub record EvaluatesKept (pre : Pre) (post : Post) (cs : List (Clause Expr)) (o : Option Expr) (ks : List (SortKey Expr)) : Type 0 where
-  pub clauses : EvaluatesEach pre post source_of cs
-  pub condition : ForSome o (λ y. Evaluates pre post (y ∷ []))
-  pub keys : EvaluatesEach pre post key_in ks
 
 -- the same of those in a quantified expression
 pub record EvaluatesQuantified (pre : Pre) (post : Post) (bs : List (Binding Expr)) (x : Expr) : Type 0 where

@@ -1,5 +1,5 @@
 -- Parts of expressions, by what they mean or with the expressions in them.
-use Rattle.std.specs.Prelude.{Bool, false, ℕ, ◌+◌, List, ◌∷◌, [], pos, Option}
+use Rattle.std.specs.Prelude.{Bool, false, ℕ, ◌+◌, List, ◌∷◌, [], pos, Option, None, Some}
 use Rattle.values.specs.declared.atom.Atom.{Atom}
 use Rattle.values.specs.declared.atom.Atom.TheVariants as atom
 use Rattle.values.specs.declared.atom.Item.{Item}
@@ -9,7 +9,7 @@ use Rattle.query_grammar.specs.declared.ast.Clause.TheVariants as clause
 use Rattle.query_grammar.specs.declared.ast.Quantifier.{Quantifier}
 use Rattle.query_grammar.specs.declared.ast.SortKey.{SortKey}
 use Rattle.query_meaning.specs.Running.{M, ◌>>=◌, come_to, joined, turn, each}
-use Rattle.query_meaning.specs.Environment.{Environment, with_variable}
+use Rattle.query_meaning.specs.Environment.{Bound, Environment, with_variable}
 use Rattle.evaluation.specs.Bindings.{binding_of}
 use Rattle.query_meaning.specs.Sequences.{Meaning, Tuple, one, satisfied, tuples, keys_in, key_in as key_in_order, and_tuple, kept_tuple, in_sorted_order}
 
@@ -28,20 +28,22 @@ source_of (clause.Let b) = b.source
 abbrev pub key_in : {A : Type 0} → SortKey A → A
 key_in k = k.key
 
--- one item of a `for` clause, before the other clauses
-abbrev pub for_one : {S : Type 0} → (variable : List ℕ) → List (Clause Meaning) → (Environment → S → M S) → Environment → S → Item → M S
-for_one x cs k env s item = turn (tuples cs k (with_variable x (item ∷ []) env) s)
+-- what is evaluated with these variables
+abbrev pub with_variables : List Bound → Environment → Environment
+with_variables bs env = record env { variables = bs }
 
--- the same with its position, which follows that index
-abbrev pub for_one_at : {S : Type 0} → (variable at : List ℕ) → List (Clause Meaning) → (Environment → S → M S) → Environment → (index : ℕ) → S → Item → M S
-for_one_at x at cs k env i s item = turn (tuples cs k (with_variable at (one (atom.Integer (pos (i + 1)))) (with_variable x (item ∷ []) env)) s)
+-- one variable more, where there is one for the position that follows that index
+abbrev pub and_position : Option (List ℕ) → (index : ℕ) → List Bound → List Bound
+and_position None i bs = bs
+and_position (Some at) i bs = record { variable = at; items = one (atom.Integer (pos (i + 1))) } ∷ bs
+
+-- one item of a `for` clause with its position, which follows that index, before the other clauses
+abbrev pub for_one : {S : Type 0} → (variable : List ℕ) → (at : Option (List ℕ)) → List (Clause Meaning) → (Environment → S → M S) → Environment → (index : ℕ) → S → Item → M S
+for_one x at cs k env i s item = turn (tuples cs k (with_variables (and_position at i (record { variable = x; items = item ∷ [] } ∷ env.variables)) env) s)
 
 -- each of them
-abbrev pub for_each : {S : Type 0} → (variable : List ℕ) → List (Clause Meaning) → (Environment → S → M S) → Environment → List Item → S → M S
-for_each x cs k env items s = each (λ _ s item. for_one x cs k env s item) 0 items s
-
-abbrev pub for_each_at : {S : Type 0} → (variable at : List ℕ) → List (Clause Meaning) → (Environment → S → M S) → Environment → List Item → S → M S
-for_each_at x at cs k env items s = each (λ i s item. for_one_at x at cs k env i s item) 0 items s
+abbrev pub for_each : {S : Type 0} → (variable : List ℕ) → (at : Option (List ℕ)) → List (Clause Meaning) → (Environment → S → M S) → Environment → List Item → S → M S
+for_each x at cs k env items s = each (λ i s item. for_one x at cs k env i s item) 0 items s
 
 -- one item of a binding of a quantified expression, before the other bindings
 abbrev pub satisfied_by : Quantifier → (variable : List ℕ) → List (Binding Meaning) → Meaning → Environment → Item → M Bool

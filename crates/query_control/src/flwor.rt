@@ -1,20 +1,20 @@
 //! FLWOR expressions, over a function that evaluates their parts (XQuery 1.0, section 3.8).
 
-ghost use Rattle.std.specs.Prelude.{◌≡◌, ◌<◌, ◌≤◌, ◌+◌, ◌∷◌, [], length, map, option_map, pos, IfOk};
+ghost use Rattle.std.specs.Prelude.{◌≡◌, ◌<◌, ◌+◌, ◌∷◌, [], map, option_copied, option_map, pos, IfOk};
 ghost use Rattle.std.specs.Option.{ForSome};
 ghost use Rattle.values.specs.declared.atom.Atom.TheVariants as atom;
-ghost use Rattle.values.specs.Items.{IsThere};
-ghost use Rattle.query_meaning.specs.Environment.{with_variable};
 ghost use Rattle.query_meaning.specs.Meaning.{mean};
-ghost use Rattle.query_meaning.specs.Running.{trees_of, most_items};
+ghost use Rattle.query_meaning.specs.Running.{most_items};
 ghost use Rattle.query_meaning.specs.Sequences as meaning;
 ghost use Rattle.evaluation.specs.Evaluates.{Evaluates, EvaluatesEach};
 ghost use Rattle.query_control.specs.Evaluates.{EvaluatesFlwor};
 ghost use Rattle.evaluation.specs.Gives.{Any, Gives, GivesIn, IsReady, Stand};
 ghost use Rattle.sorted_tuples.specs.Keys.{sort_key_of};
 ghost use Rattle.query_control.specs.Parts as part;
+ghost use Rattle.query_control.specs.Lasting.{stand_on};
 
 use crate::forms::Forms;
+use crate::walk::{AtTuple, Walk};
 use evaluation::{Environment, Evaluation, Sequence, Variables};
 use query_grammar::{Clause, Expr, SortKey};
 use sqlite_items::{Boxed, Items};
@@ -26,6 +26,7 @@ impl<F: Fn(&mut Evaluation, &Expr, &Environment) -> Result<Sequence, ValueFault>
     /// first part that has one; FORG0006 where `where` has no truth value; PXQ0002 where no turn is left, at the tuple that brings the
     /// 10,001st item, with `order by` at the 10,001st tuple, or where a key's string is too long; XPTY0004 where a key is more than one
     /// value, or, before `return`, where two keys at one position are of different types.
+    #[tactic(auto, using(crate::proofs::Calls::each_alone))]
     pub fn flwor(
         &self,
         run: &mut Evaluation,
@@ -42,7 +43,18 @@ impl<F: Fn(&mut Evaluation, &Expr, &Environment) -> Result<Sequence, ValueFault>
     {
         if keys.is_empty() {
             let given = Sequence::new(run.alloc());
-            return self.tuples(run, clauses.as_slice(), condition, body, env, given);
+            let at_tuple = &Returning {
+                forms: self,
+                env,
+                condition,
+                body,
+            };
+            let walk = Walk {
+                at_tuple,
+                clauses: clauses.as_slice(),
+                variables: env.variables(),
+            };
+            return walk.tuples(run, given);
         }
         self.ordered(
             run,
@@ -52,193 +64,6 @@ impl<F: Fn(&mut Evaluation, &Expr, &Environment) -> Result<Sequence, ValueFault>
             body,
             env,
         )
-    }
-
-    #[cycle(tuples)]
-    #[tactic(auto, using(crate::proofs::Calls::flwor_rest, crate::proofs::Values::ready_with))]
-    fn tuples(
-        &self,
-        run: &mut Evaluation,
-        clauses: &[Clause<Expr>],
-        condition: &Option<Boxed<Expr>>,
-        body: &Boxed<Expr>,
-        env: &Environment,
-        given: Sequence,
-    ) -> Result<Sequence, ValueFault>
-        requires flwor { EvaluatesFlwor (F.pre self.now.value_of) (F.post self.now.value_of) clauses.now condition.now body.now }
-        requires ready { IsReady env.now run.old }
-        requires stand { Stand given run.old }
-        ensures { Gives (meaning.tuples (map (part.clause_of mean) clauses.now) (meaning.returned (option_map mean condition.now) (mean body.now)) env.now given) run.old result run.new }
-    {
-        let Some((clause, rest)) = clauses.split_first() else {
-            return self.returned(run, condition, body, env, given);
-        };
-        let items = self.value_of(run, source_of(clause), env)?;
-        match clause {
-            Clause::Let(binding) => self.let_all(
-                run,
-                &binding.variable,
-                items,
-                rest,
-                condition,
-                body,
-                env,
-                given,
-            ),
-            Clause::For(binding) => self.for_each(
-                run,
-                &binding.variable,
-                items.as_slice(),
-                rest,
-                condition,
-                body,
-                env,
-                given,
-            ),
-            Clause::ForAt(binding, at) => self.for_each_at(
-                run,
-                &binding.variable,
-                at,
-                items.as_slice(),
-                rest,
-                condition,
-                body,
-                env,
-                given,
-            ),
-        }
-    }
-
-    #[cycle(tuples)]
-    #[tactic(auto, using(crate::proofs::Calls::flwor_rest, crate::proofs::Values::ready_with))]
-    fn let_all(
-        &self,
-        run: &mut Evaluation,
-        variable: &Text,
-        items: Sequence,
-        clauses: &[Clause<Expr>],
-        condition: &Option<Boxed<Expr>>,
-        body: &Boxed<Expr>,
-        env: &Environment,
-        given: Sequence,
-    ) -> Result<Sequence, ValueFault>
-        requires flwor { EvaluatesFlwor (F.pre self.now.value_of) (F.post self.now.value_of) clauses.now condition.now body.now }
-        requires ready { IsReady env.now run.old }
-        requires items { Stand items run.old }
-        requires stand { Stand given run.old }
-        ensures { Gives (meaning.tuples (map (part.clause_of mean) clauses.now) (meaning.returned (option_map mean condition.now) (mean body.now)) (with_variable variable.now items env.now) given) run.old result run.new }
-    {
-        let variables = Variables::and(run.alloc(), variable, items, env.variables())?;
-        self.tuples(run, clauses, condition, body, &env.with(&variables), given)
-    }
-
-    #[cycle(tuples)]
-    #[tactic(auto, using(crate::proofs::Calls::flwor_rest, crate::proofs::Values::ready_with))]
-    fn for_each(
-        &self,
-        run: &mut Evaluation,
-        variable: &Text,
-        items: &[Item],
-        clauses: &[Clause<Expr>],
-        condition: &Option<Boxed<Expr>>,
-        body: &Boxed<Expr>,
-        env: &Environment,
-        given: Sequence,
-    ) -> Result<Sequence, ValueFault>
-        requires flwor { EvaluatesFlwor (F.pre self.now.value_of) (F.post self.now.value_of) clauses.now condition.now body.now }
-        requires ready { IsReady env.now run.old }
-        requires items { Stand items.now run.old }
-        requires stand { Stand given run.old }
-        ensures { Gives (part.for_each variable.now (map (part.clause_of mean) clauses.now) (meaning.returned (option_map mean condition.now) (mean body.now)) env.now items.now given) run.old result run.new }
-    {
-        let mut found = given;
-        for item in items {
-            found = self.for_one(run, variable, item, clauses, condition, body, env, found)?;
-        }
-        Ok(found)
-    }
-
-    #[cycle(tuples)]
-    #[tactic(auto, using(crate::proofs::Calls::flwor_rest, crate::proofs::Values::ready_with))]
-    fn for_one(
-        &self,
-        run: &mut Evaluation,
-        variable: &Text,
-        item: &Item,
-        clauses: &[Clause<Expr>],
-        condition: &Option<Boxed<Expr>>,
-        body: &Boxed<Expr>,
-        env: &Environment,
-        given: Sequence,
-    ) -> Result<Sequence, ValueFault>
-        requires flwor { EvaluatesFlwor (F.pre self.now.value_of) (F.post self.now.value_of) clauses.now condition.now body.now }
-        requires ready { IsReady env.now run.old }
-        requires item { IsThere (trees_of run.old) item.now }
-        requires stand { Stand given run.old }
-        ensures { Gives (part.for_one variable.now (map (part.clause_of mean) clauses.now) (meaning.returned (option_map mean condition.now) (mean body.now)) env.now given item.now) run.old result run.new }
-    {
-        run.turn()?;
-        let variables = and_item(run, variable, item, env.variables())?;
-        self.tuples(run, clauses, condition, body, &env.with(&variables), given)
-    }
-
-    #[cycle(tuples)]
-    #[tactic(auto, using(crate::proofs::Calls::flwor_rest, crate::proofs::Values::ready_with))]
-    fn for_each_at(
-        &self,
-        run: &mut Evaluation,
-        variable: &Text,
-        at: &Text,
-        items: &[Item],
-        clauses: &[Clause<Expr>],
-        condition: &Option<Boxed<Expr>>,
-        body: &Boxed<Expr>,
-        env: &Environment,
-        given: Sequence,
-    ) -> Result<Sequence, ValueFault>
-        requires flwor { EvaluatesFlwor (F.pre self.now.value_of) (F.post self.now.value_of) clauses.now condition.now body.now }
-        requires most { length items.now ≤ most_items }
-        requires ready { IsReady env.now run.old }
-        requires items { Stand items.now run.old }
-        requires stand { Stand given run.old }
-        ensures { Gives (part.for_each_at variable.now at.now (map (part.clause_of mean) clauses.now) (meaning.returned (option_map mean condition.now) (mean body.now)) env.now items.now given) run.old result run.new }
-    {
-        let mut found = given;
-        let mut index = 0;
-        for item in items {
-            found = self.for_one_at(
-                run, variable, at, index, item, clauses, condition, body, env, found,
-            )?;
-            index += 1;
-        }
-        Ok(found)
-    }
-
-    #[cycle(tuples)]
-    #[tactic(auto, using(crate::proofs::Calls::flwor_rest, crate::proofs::Values::ready_with))]
-    fn for_one_at(
-        &self,
-        run: &mut Evaluation,
-        variable: &Text,
-        at: &Text,
-        index: usize,
-        item: &Item,
-        clauses: &[Clause<Expr>],
-        condition: &Option<Boxed<Expr>>,
-        body: &Boxed<Expr>,
-        env: &Environment,
-        given: Sequence,
-    ) -> Result<Sequence, ValueFault>
-        requires flwor { EvaluatesFlwor (F.pre self.now.value_of) (F.post self.now.value_of) clauses.now condition.now body.now }
-        requires most { index < most_items }
-        requires ready { IsReady env.now run.old }
-        requires item { IsThere (trees_of run.old) item.now }
-        requires stand { Stand given run.old }
-        ensures { Gives (part.for_one_at variable.now at.now (map (part.clause_of mean) clauses.now) (meaning.returned (option_map mean condition.now) (mean body.now)) env.now index given item.now) run.old result run.new }
-    {
-        run.turn()?;
-        let variables = and_item_at(run, variable, at, index, item, env.variables())?;
-        self.tuples(run, clauses, condition, body, &env.with(&variables), given)
     }
 
     /// `where`: the effective boolean value of the test, and true where there is none. Codes: those of `holds`.
@@ -257,28 +82,56 @@ impl<F: Fn(&mut Evaluation, &Expr, &Environment) -> Result<Sequence, ValueFault>
             Some(test) => self.holds(run, test.get(), env),
         }
     }
+}
 
-    /// `where` and `return` at one tuple.
-    fn returned(
+/// `where` and `return` at each tuple: the items of the tuples before it, and its own.
+#[derive_where(Clone, Copy)]
+struct Returning<'w, 'f, F> {
+    forms: &'w Forms<F>,
+    env: &'w Environment<'f, 'w>,
+    condition: &'w Option<Boxed<Expr>>,
+    body: &'w Boxed<Expr>,
+}
+
+impl<'w, 'f, F: Fn(&mut Evaluation, &Expr, &Environment) -> Result<Sequence, ValueFault>> AtTuple
+    for Returning<'w, 'f, F> {
+    type Given = Sequence;
+
+    ghost env = { λ s. s.env.now };
+
+    ghost can_evaluate = { λ s x. Evaluates (F.pre s.forms.now.value_of) (F.post s.forms.now.value_of) (x ∷ []) };
+
+    ghost can_take = { λ s. ForSome s.condition.now (λ x. Evaluates (F.pre s.forms.now.value_of) (F.post s.forms.now.value_of) (x ∷ []))
+        × Evaluates (F.pre s.forms.now.value_of) (F.post s.forms.now.value_of) (s.body.now ∷ []) };
+
+    ghost fits = { λ s. Stand };
+
+    ghost means = { λ s. meaning.returned (option_map mean s.condition.now) (mean s.body.now) };
+
+    fn value_of(
         &self,
         run: &mut Evaluation,
-        condition: &Option<Boxed<Expr>>,
-        body: &Boxed<Expr>,
-        env: &Environment,
+        x: &Expr,
+        variables: &Variables,
+    ) -> Result<Sequence, ValueFault> {
+        self.forms.value_of(run, x, &self.env.with(variables))
+    }
+
+    fn take(
+        &self,
+        run: &mut Evaluation,
+        variables: &Variables,
         given: Sequence,
-    ) -> Result<Sequence, ValueFault>
-        requires condition { ForSome condition.now (λ x. Evaluates (F.pre self.now.value_of) (F.post self.now.value_of) (x ∷ [])) }
-        requires body { Evaluates (F.pre self.now.value_of) (F.post self.now.value_of) (body.now ∷ []) }
-        requires ready { IsReady env.now run.old }
-        requires stand { Stand given run.old }
-        ensures { Gives (meaning.returned (option_map mean condition.now) (mean body.now) env.now given) run.old result run.new }
-    {
-        if self.tested(run, condition, env)? {
-            self.and_items(run, given, body.get(), env)
+    ) -> Result<Sequence, ValueFault> {
+        let env = self.env.with(variables);
+        if self.forms.tested(run, self.condition, &env)? {
+            self.forms.and_items(run, given, self.body.get(), &env)
         } else {
             Ok(given)
         }
     }
+
+    ghost lasts = { λ s items old new g h. stand_on items old new g h };
 }
 
 /// What the variables of a clause are bound to.
@@ -315,18 +168,21 @@ pub(crate) fn and_item(
     Variables::and(run.alloc(), variable, items, others)
 }
 
-/// The same, and one more with the position that follows an index. It fails where memory is refused.
+/// The same, and one more with the position that follows an index, where a variable is there for it. It fails where memory is refused.
 pub(crate) fn and_item_at(
     run: &Evaluation,
     variable: &Text,
-    at: &Text,
+    at: Option<&Text>,
     index: usize,
     item: &Item,
     others: &Variables,
 ) -> Result<Variables, AllocError>
     requires { index < most_items }
-    ensures { IfOk result (λ v. v ≡ record { variable = at.now; items = meaning.one (atom.Integer (pos (index + 1))) } ∷ record { variable = variable.now; items = item.now ∷ [] } ∷ others.now) }
+    ensures { IfOk result (λ v. v ≡ part.and_position (option_copied at.entry) index (record { variable = variable.now; items = item.now ∷ [] } ∷ others.now)) }
 {
     let variables = and_item(run, variable, item, others)?;
-    Variables::and(run.alloc(), at, position(run, index)?, &variables)
+    match at {
+        None => Ok(variables),
+        Some(at) => Variables::and(run.alloc(), at, position(run, index)?, &variables),
+    }
 }

@@ -11,9 +11,10 @@ ghost use Rattle.evaluation.specs.Evaluates.{Evaluates};
 ghost use Rattle.evaluation.specs.Gives.{Any, Fails, Gives, GivesIn, IsReady, Stand};
 
 use evaluation::{Environment, Evaluation, Sequence};
+use fault_codes::Code;
 use query_grammar::{Expr, IntegerLiteral};
 use sqlite_items::{Boxed, Items};
-use values::{Atom, Code, Item, Text, ValueFault, truth};
+use values::{Atom, Item, Text, ValueFault, truth};
 
 /// The forms of expressions, over a function that evaluates their parts.
 #[derive(Clone, Copy)]

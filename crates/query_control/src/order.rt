@@ -1,27 +1,26 @@
 //! `order by`, over a function that evaluates the parts of a FLWOR expression (XQuery 1.0, section 3.8.3).
 
-ghost use Rattle.std.specs.Prelude.{◌≡◌, ◌+◌, ◌<◌, ◌≤◌, ◌∷◌, [], length, map, option_map, IfOk};
+ghost use Rattle.std.specs.Prelude.{◌≡◌, ◌+◌, ◌∷◌, [], length, map, option_map, IfOk};
 ghost use Rattle.std.specs.Option.{ForSome};
 ghost use Rattle.values.specs.Comparisons.{as_string};
-ghost use Rattle.values.specs.Items.{IsThere};
 ghost use Rattle.evaluation.specs.Gives.{Any, Gives, GivesIn, IsReady, Says, Stand};
-ghost use Rattle.query_meaning.specs.Environment.{with_variable};
 ghost use Rattle.query_meaning.specs.Meaning.{mean};
-ghost use Rattle.query_meaning.specs.Running.{trees_of, most_items};
 ghost use Rattle.query_meaning.specs.Sequences as meaning;
 ghost use Rattle.evaluation.specs.Evaluates.{Evaluates, EvaluatesEach};
-ghost use Rattle.query_control.specs.Evaluates.{EvaluatesKept};
+ghost use Rattle.query_control.specs.Evaluates.{EvaluatesFlwor};
 ghost use Rattle.sorted_tuples.specs.Keys.{AreKept, AreReady, sort_key_of};
 ghost use Rattle.query_control.specs.Parts as part;
+ghost use Rattle.query_control.specs.Lasting.{kept_grows};
 
-use crate::flwor::{and_item, and_item_at, source_of};
 use crate::forms::Forms;
+use crate::walk::{AtTuple, Walk};
 use evaluation::{Environment, Evaluation, Sequence, Variables};
+use fault_codes::Code;
 use query_grammar::{Clause, Expr, SortKey};
 use sorted_tuples::{Keys, Tuple, Tuples};
 use sqlite_items::Boxed;
 use std::alloc::AllocError;
-use values::{Atom, Code, Item, Text, ValueFault};
+use values::{Atom, ValueFault};
 
 impl<F: Fn(&mut Evaluation, &Expr, &Environment) -> Result<Sequence, ValueFault>> Forms<F> {
     /// Clauses, `where`, `order by` and `return`: all tuples with their keys, then the sort, then `return` in sorted order. Codes: that of
@@ -37,8 +36,8 @@ impl<F: Fn(&mut Evaluation, &Expr, &Environment) -> Result<Sequence, ValueFault>
         body: &Boxed<Expr>,
         env: &Environment,
     ) -> Result<Sequence, ValueFault>
-        requires parts { EvaluatesKept (F.pre self.now.value_of) (F.post self.now.value_of) clauses.now condition.now keys.now }
-        requires body { Evaluates (F.pre self.now.value_of) (F.post self.now.value_of) (body.now ∷ []) }
+        requires flwor { EvaluatesFlwor (F.pre self.now.value_of) (F.post self.now.value_of) clauses.now condition.now body.now }
+        requires keys { EvaluatesEach (F.pre self.now.value_of) (F.post self.now.value_of) part.key_in keys.now }
         requires ready { IsReady env.now run.old }
         ensures { Gives (meaning.ordered (map (part.clause_of mean) clauses.now) (option_map mean condition.now) (map (sort_key_of mean) keys.now) (mean body.now) env.now) run.old result run.new }
     {
@@ -47,6 +46,7 @@ impl<F: Fn(&mut Evaluation, &Expr, &Environment) -> Result<Sequence, ValueFault>
     }
 
     /// The tuples in their order.
+    #[tactic(auto, using(crate::proofs::Calls::each_alone))]
     fn in_order<'f>(
         &self,
         run: &mut Evaluation,
@@ -55,12 +55,25 @@ impl<F: Fn(&mut Evaluation, &Expr, &Environment) -> Result<Sequence, ValueFault>
         keys: &[SortKey<Expr>],
         env: &Environment<'f, '_>,
     ) -> Result<Tuples<'f>, ValueFault>
-        requires parts { EvaluatesKept (F.pre self.now.value_of) (F.post self.now.value_of) clauses.now condition.now keys.now }
+        requires clauses { EvaluatesEach (F.pre self.now.value_of) (F.post self.now.value_of) part.source_of clauses.now }
+        requires condition { ForSome condition.now (λ x. Evaluates (F.pre self.now.value_of) (F.post self.now.value_of) (x ∷ [])) }
+        requires keys { EvaluatesEach (F.pre self.now.value_of) (F.post self.now.value_of) part.key_in keys.now }
         requires ready { IsReady env.now run.old }
         ensures { GivesIn AreReady (part.in_order (map (part.clause_of mean) clauses.now) (option_map mean condition.now) (map (sort_key_of mean) keys.now) env.now) run.old result run.new }
     {
+        let at_tuple = &Keeping {
+            forms: self,
+            env,
+            condition,
+            keys,
+        };
+        let walk = Walk {
+            at_tuple,
+            clauses,
+            variables: env.variables(),
+        };
         let found = Tuples::new(run.alloc());
-        let found = self.kept_tuples(run, clauses, condition, keys, env, found)?;
+        let found = walk.tuples(run, found)?;
         found.sorted(keys)
     }
 
@@ -95,216 +108,6 @@ impl<F: Fn(&mut Evaluation, &Expr, &Environment) -> Result<Sequence, ValueFault>
         ensures { Gives (part.returned_at (mean body.now) given tuple.now) run.old result run.new }
     {
         self.and_items(run, given, body.get(), &tuple.environment())
-    }
-
-    #[cycle(kept_tuples)]
-    #[tactic(auto, using(crate::proofs::Calls::kept_rest, crate::proofs::Values::ready_with))]
-    fn kept_tuples<'f>(
-        &self,
-        run: &mut Evaluation,
-        clauses: &[Clause<Expr>],
-        condition: &Option<Boxed<Expr>>,
-        keys: &[SortKey<Expr>],
-        env: &Environment<'f, '_>,
-        given: Tuples<'f>,
-    ) -> Result<Tuples<'f>, ValueFault>
-        requires parts { EvaluatesKept (F.pre self.now.value_of) (F.post self.now.value_of) clauses.now condition.now keys.now }
-        requires ready { IsReady env.now run.old }
-        requires kept { AreKept (length keys.now) given run.old }
-        ensures { GivesIn (AreKept (length keys.now)) (meaning.tuples (map (part.clause_of mean) clauses.now) (meaning.kept_tuple (option_map mean condition.now) (map (sort_key_of mean) keys.now)) env.now given.entry) run.old result run.new }
-    {
-        let Some((clause, rest)) = clauses.split_first() else {
-            return self.kept_tuple(run, condition, keys, env, given);
-        };
-        let items = self.value_of(run, source_of(clause), env)?;
-        match clause {
-            Clause::Let(binding) => self.kept_let(
-                run,
-                &binding.variable,
-                items,
-                rest,
-                condition,
-                keys,
-                env,
-                given,
-            ),
-            Clause::For(binding) => self.kept_each(
-                run,
-                &binding.variable,
-                items.as_slice(),
-                rest,
-                condition,
-                keys,
-                env,
-                given,
-            ),
-            Clause::ForAt(binding, at) => self.kept_each_at(
-                run,
-                &binding.variable,
-                at,
-                items.as_slice(),
-                rest,
-                condition,
-                keys,
-                env,
-                given,
-            ),
-        }
-    }
-
-    #[cycle(kept_tuples)]
-    #[tactic(auto, using(crate::proofs::Calls::kept_rest, crate::proofs::Values::ready_with))]
-    fn kept_let<'f>(
-        &self,
-        run: &mut Evaluation,
-        variable: &Text,
-        items: Sequence,
-        clauses: &[Clause<Expr>],
-        condition: &Option<Boxed<Expr>>,
-        keys: &[SortKey<Expr>],
-        env: &Environment<'f, '_>,
-        given: Tuples<'f>,
-    ) -> Result<Tuples<'f>, ValueFault>
-        requires parts { EvaluatesKept (F.pre self.now.value_of) (F.post self.now.value_of) clauses.now condition.now keys.now }
-        requires ready { IsReady env.now run.old }
-        requires items { Stand items run.old }
-        requires kept { AreKept (length keys.now) given run.old }
-        ensures { GivesIn (AreKept (length keys.now)) (meaning.tuples (map (part.clause_of mean) clauses.now) (meaning.kept_tuple (option_map mean condition.now) (map (sort_key_of mean) keys.now)) (with_variable variable.now items env.now) given.entry) run.old result run.new }
-    {
-        let variables = Variables::and(run.alloc(), variable, items, env.variables())?;
-        self.kept_tuples(run, clauses, condition, keys, &env.with(&variables), given)
-    }
-
-    #[cycle(kept_tuples)]
-    #[tactic(auto, using(crate::proofs::Calls::kept_rest, crate::proofs::Values::ready_with))]
-    fn kept_each<'f>(
-        &self,
-        run: &mut Evaluation,
-        variable: &Text,
-        items: &[Item],
-        clauses: &[Clause<Expr>],
-        condition: &Option<Boxed<Expr>>,
-        keys: &[SortKey<Expr>],
-        env: &Environment<'f, '_>,
-        given: Tuples<'f>,
-    ) -> Result<Tuples<'f>, ValueFault>
-        requires parts { EvaluatesKept (F.pre self.now.value_of) (F.post self.now.value_of) clauses.now condition.now keys.now }
-        requires ready { IsReady env.now run.old }
-        requires items { Stand items.now run.old }
-        requires kept { AreKept (length keys.now) given run.old }
-        ensures { GivesIn (AreKept (length keys.now)) (part.for_each variable.now (map (part.clause_of mean) clauses.now) (meaning.kept_tuple (option_map mean condition.now) (map (sort_key_of mean) keys.now)) env.now items.now given.entry) run.old result run.new }
-    {
-        let mut found = given;
-        for item in items {
-            found = self.kept_one(run, variable, item, clauses, condition, keys, env, found)?;
-        }
-        Ok(found)
-    }
-
-    #[cycle(kept_tuples)]
-    #[tactic(auto, using(crate::proofs::Calls::kept_rest, crate::proofs::Values::ready_with))]
-    fn kept_one<'f>(
-        &self,
-        run: &mut Evaluation,
-        variable: &Text,
-        item: &Item,
-        clauses: &[Clause<Expr>],
-        condition: &Option<Boxed<Expr>>,
-        keys: &[SortKey<Expr>],
-        env: &Environment<'f, '_>,
-        given: Tuples<'f>,
-    ) -> Result<Tuples<'f>, ValueFault>
-        requires parts { EvaluatesKept (F.pre self.now.value_of) (F.post self.now.value_of) clauses.now condition.now keys.now }
-        requires ready { IsReady env.now run.old }
-        requires item { IsThere (trees_of run.old) item.now }
-        requires kept { AreKept (length keys.now) given run.old }
-        ensures { GivesIn (AreKept (length keys.now)) (part.for_one variable.now (map (part.clause_of mean) clauses.now) (meaning.kept_tuple (option_map mean condition.now) (map (sort_key_of mean) keys.now)) env.now given.entry item.now) run.old result run.new }
-    {
-        run.turn()?;
-        let variables = and_item(run, variable, item, env.variables())?;
-        self.kept_tuples(run, clauses, condition, keys, &env.with(&variables), given)
-    }
-
-    #[cycle(kept_tuples)]
-    #[tactic(auto, using(crate::proofs::Calls::kept_rest, crate::proofs::Values::ready_with))]
-    fn kept_each_at<'f>(
-        &self,
-        run: &mut Evaluation,
-        variable: &Text,
-        at: &Text,
-        items: &[Item],
-        clauses: &[Clause<Expr>],
-        condition: &Option<Boxed<Expr>>,
-        keys: &[SortKey<Expr>],
-        env: &Environment<'f, '_>,
-        given: Tuples<'f>,
-    ) -> Result<Tuples<'f>, ValueFault>
-        requires parts { EvaluatesKept (F.pre self.now.value_of) (F.post self.now.value_of) clauses.now condition.now keys.now }
-        requires most { length items.now ≤ most_items }
-        requires ready { IsReady env.now run.old }
-        requires items { Stand items.now run.old }
-        requires kept { AreKept (length keys.now) given run.old }
-        ensures { GivesIn (AreKept (length keys.now)) (part.for_each_at variable.now at.now (map (part.clause_of mean) clauses.now) (meaning.kept_tuple (option_map mean condition.now) (map (sort_key_of mean) keys.now)) env.now items.now given.entry) run.old result run.new }
-    {
-        let mut found = given;
-        let mut index = 0;
-        for item in items {
-            found = self.kept_one_at(
-                run, variable, at, index, item, clauses, condition, keys, env, found,
-            )?;
-            index += 1;
-        }
-        Ok(found)
-    }
-
-    #[cycle(kept_tuples)]
-    #[tactic(auto, using(crate::proofs::Calls::kept_rest, crate::proofs::Values::ready_with))]
-    fn kept_one_at<'f>(
-        &self,
-        run: &mut Evaluation,
-        variable: &Text,
-        at: &Text,
-        index: usize,
-        item: &Item,
-        clauses: &[Clause<Expr>],
-        condition: &Option<Boxed<Expr>>,
-        keys: &[SortKey<Expr>],
-        env: &Environment<'f, '_>,
-        given: Tuples<'f>,
-    ) -> Result<Tuples<'f>, ValueFault>
-        requires parts { EvaluatesKept (F.pre self.now.value_of) (F.post self.now.value_of) clauses.now condition.now keys.now }
-        requires most { index < most_items }
-        requires ready { IsReady env.now run.old }
-        requires item { IsThere (trees_of run.old) item.now }
-        requires kept { AreKept (length keys.now) given run.old }
-        ensures { GivesIn (AreKept (length keys.now)) (part.for_one_at variable.now at.now (map (part.clause_of mean) clauses.now) (meaning.kept_tuple (option_map mean condition.now) (map (sort_key_of mean) keys.now)) env.now index given.entry item.now) run.old result run.new }
-    {
-        run.turn()?;
-        let variables = and_item_at(run, variable, at, index, item, env.variables())?;
-        self.kept_tuples(run, clauses, condition, keys, &env.with(&variables), given)
-    }
-
-    /// `where` and the keys at one tuple.
-    #[tactic(auto, using(crate::proofs::Kept::kept_grows))]
-    fn kept_tuple<'f>(
-        &self,
-        run: &mut Evaluation,
-        condition: &Option<Boxed<Expr>>,
-        keys: &[SortKey<Expr>],
-        env: &Environment<'f, '_>,
-        given: Tuples<'f>,
-    ) -> Result<Tuples<'f>, ValueFault>
-        requires condition { ForSome condition.now (λ x. Evaluates (F.pre self.now.value_of) (F.post self.now.value_of) (x ∷ [])) }
-        requires keys { EvaluatesEach (F.pre self.now.value_of) (F.post self.now.value_of) part.key_in keys.now }
-        requires ready { IsReady env.now run.old }
-        requires kept { AreKept (length keys.now) given run.old }
-        ensures { GivesIn (AreKept (length keys.now)) (meaning.kept_tuple (option_map mean condition.now) (map (sort_key_of mean) keys.now) env.now given.entry) run.old result run.new }
-    {
-        if self.tested(run, condition, env)? {
-            self.and_tuple(run, keys, env, given)
-        } else {
-            Ok(given)
-        }
     }
 
     /// One tuple more.
@@ -361,6 +164,57 @@ impl<F: Fn(&mut Evaluation, &Expr, &Environment) -> Result<Sequence, ValueFault>
         let values = run.atoms(&items)?;
         Ok(given.and(key_of(&values)?)?)
     }
+}
+
+/// `where` and the keys at each tuple: the tuples that were kept before it, and this one.
+#[derive_where(Clone, Copy)]
+struct Keeping<'w, 'f, F> {
+    forms: &'w Forms<F>,
+    env: &'w Environment<'f, 'w>,
+    condition: &'w Option<Boxed<Expr>>,
+    keys: &'w [SortKey<Expr>],
+}
+
+impl<'w, 'f, F: Fn(&mut Evaluation, &Expr, &Environment) -> Result<Sequence, ValueFault>> AtTuple
+    for Keeping<'w, 'f, F> {
+    type Given = Tuples<'f>;
+
+    ghost env = { λ s. s.env.now };
+
+    ghost can_evaluate = { λ s x. Evaluates (F.pre s.forms.now.value_of) (F.post s.forms.now.value_of) (x ∷ []) };
+
+    ghost can_take = { λ s. ForSome s.condition.now (λ x. Evaluates (F.pre s.forms.now.value_of) (F.post s.forms.now.value_of) (x ∷ []))
+        × EvaluatesEach (F.pre s.forms.now.value_of) (F.post s.forms.now.value_of) part.key_in s.keys.now };
+
+    ghost fits = { λ s. AreKept (length s.keys.now) };
+
+    ghost means = { λ s. meaning.kept_tuple (option_map mean s.condition.now) (map (sort_key_of mean) s.keys.now) };
+
+    fn value_of(
+        &self,
+        run: &mut Evaluation,
+        x: &Expr,
+        variables: &Variables,
+    ) -> Result<Sequence, ValueFault> {
+        self.forms.value_of(run, x, &self.env.with(variables))
+    }
+
+    #[tactic(auto, using(crate::specs::Lasting::kept_grows))]
+    fn take(
+        &self,
+        run: &mut Evaluation,
+        variables: &Variables,
+        given: Tuples<'f>,
+    ) -> Result<Tuples<'f>, ValueFault> {
+        let env = self.env.with(variables);
+        if self.forms.tested(run, self.condition, &env)? {
+            self.forms.and_tuple(run, self.keys, &env, given)
+        } else {
+            Ok(given)
+        }
+    }
+
+    ghost lasts = { λ s tuples old new g h. kept_grows (length s.keys.now) tuples old new g h };
 }
 
 /// A key: none, or one atomic value, untyped as a string (XQuery 1.0, section 3.8.3). Faults: `Memory`; `Code` with XPTY0004 where there

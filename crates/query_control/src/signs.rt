@@ -9,9 +9,10 @@ ghost use Rattle.evaluation.specs.Gives.{Gives, IsReady};
 
 use crate::forms::Forms;
 use evaluation::{Environment, Evaluation, Sequence};
+use fault_codes::Code;
 use query_grammar::{Expr, Sign};
 use sqlite_items::{Boxed, Items};
-use values::{Atom, Code, Item, ValueFault, integer_operands};
+use values::{Atom, Item, ValueFault, integer_operands};
 
 impl<F: Fn(&mut Evaluation, &Expr, &Environment) -> Result<Sequence, ValueFault>> Forms<F> {
     /// Signs before an expression, the outermost first (XQuery 1.0, section 3.4). Codes: that of the expression; PXQ0002 where a string

@@ -1,5 +1,3 @@
-use Rattle.std.proofs.Common.{subst, sym}
-use Rattle.query_meaning.specs.Running.{M}
 use Rattle.query_control.proofs.Values.{truth_of_name}
 use Rattle.query_control.proofs.forms.Forms.holds.Goals as goal
 
