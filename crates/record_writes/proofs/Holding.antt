@@ -59,6 +59,10 @@ learnt_step o k p v limit mode text db after tally known next most good it h =
     let got = keeps p v limit mode text db after tally known (subst (λ s. Does limit mode (keep_params p v) (record db { schema = s }) text None keep_command (Ok (tally, after))) known h) in
     (got.0, kept_next o k v db.trees after.trees got.2 got.3 (got.1 ∙ ap (λ n. put_row (learnt_row n v) (db.trees 2)) next) (subst (λ n. n ≤ positions) next most) good it)
 
+-- what the tables of an open connection hold
+pub holds_stored : (s : State) (o : Setup) (k : Record) → Holds s o k k → IsTrue s.is_open → StaysAt s → IsStored Second o s.now.trees k
+holds_stored s o k h up stays = subst (λ (d : Database). IsStored Second o d.trees k) (sym (h.settled up)) (⊎_elim (λ it. it) (λ it. it) (h.crash _ (stays up)))
+
 -- it ends no transaction
 abbrev EndsNothing : Command → Type 0
 EndsNothing command = ¬ (command ≡ Commit) × ((name : List ℕ) → ¬ (command ≡ Release name))
@@ -82,12 +86,12 @@ module _ (old new : State) where
   prepared P sql (Ok s) ok err = inl ok.1
   prepared P sql (Err e) ok err = not_run sql [] e (err [])
 
-  module _ (o : Setup) (a b : Record) (h : Holds old o a b) where
-    was_open : Ended old new → IsTrue new.is_open → IsTrue old.is_open
-    was_open (inl u) up = u.0.was_open
-    was_open (inr r) up = r.was_open up
+  pub was_open : Ended old new → IsTrue new.is_open → IsTrue old.is_open
+  was_open (inl u) up = u.0.was_open
+  was_open (inr r) up = r.was_open up
 
-    now_is : Ended old new → IsTrue new.is_open → new.now ≡ old.now
+  module _ (o : Setup) (a b : Record) (h : Holds old o a b) where
+    pub now_is : Ended old new → IsTrue new.is_open → new.now ≡ old.now
     now_is (inl u) up = u.0.now_is
     now_is (inr r) up = (r.undone up).0 ∙ sym (h.settled (r.was_open up))
 
@@ -108,6 +112,9 @@ module _ (old new : State) where
       mode = mode_is end;
     }
 
+    pub schema_is : Ended old new → IsTrue new.is_open → new.now.schema ≡ schema
+    schema_is end up = ap (λ (x : Database). x.schema) (now_is end up) ∙ h.known (was_open end up)
+
     pub quiet : Ended old new → HasCleanDisk new → Survives old new (λ _. ⊥) → Holds new o a b
     quiet end clean s = ended a b end (λ db left. ⊎_elim (h.crash db) (λ none. absurd none) (s.crash clean db left))
 
@@ -120,7 +127,7 @@ module _ (old new : State) where
       (makes : (limit : Option ℕ) (text : List ℕ) (db after : Database) (tally : Tally) → db.schema ≡ schema → IsStored Second o db.trees last → Does limit (mode_of old) params db text None command (Ok (tally, after)) → (after.schema ≡ schema) × IsStored Second o after.trees next)
       (h : Holds old o last last) (up : IsTrue old.is_open) (stays : StaysAt old) where
     stored : IsStored Second o old.now.trees last
-    stored = subst (λ (d : Database). IsStored Second o d.trees last) (sym (h.settled up)) (same o last _ (h.crash _ (stays up)))
+    stored = holds_stored old o last h up stays
 
     does : (text : List ℕ) (tally : Tally) (after : Database) → Does old.step_limit (mode_of old) params old.now text None command (Ok (tally, after)) → (after.schema ≡ schema) × IsStored Second o after.trees next
     does text tally after did = makes old.step_limit text old.now after tally (h.known up) stored did

@@ -41,14 +41,16 @@ has_more [] v x (inr none) = absurd none
 has_more (y ∷ vs) v x (inl is) = inl (inl is)
 has_more (y ∷ vs) v x (inr h) = elim (has_more vs v x h) [ inl k ↦ inl (inr k) | inr is ↦ inr is ]
 
+-- each row that is kept is at a position up to the number of the values
+pub rows_below : (table : List Row) (vs : List Value) → AreKept table vs → (r : Row) → Has table r → (q : ℕ) × (w : Value) × (r ≡ learnt_row q w) × (q < suc (length vs))
+rows_below table vs it r has = let row = has_row 1 vs r (has_moved table (learnt_rows 1 vs) r (IsPermutation-sym _ _ it.rows) has) in (row.0, row.1, row.3, let low = row.4 in omega (arith, low))
+
 -- the row of the next value is put into the table
 pub keeps_next : (table : List Row) (vs : List Value) (v : Value) → AreKept table vs → suc (length vs) ≤ positions → IsValue v → AreKept (put_row (learnt_row (suc (length vs)) v) table) (vs ++ v ∷ [])
 keeps_next table vs v it most good =
-    let below : (r : Row) → Has table r → (q : ℕ) × (w : Value) × (r ≡ learnt_row q w) × (q < suc (length vs)) =
-    λ r has. let row = has_row 1 vs r (has_moved table (learnt_rows 1 vs) r (IsPermutation-sym _ _ it.rows) has) in (row.0, row.1, row.3, let low = row.4 in omega (arith, low)) in
     let one : learnt_rows 1 (vs ++ v ∷ []) ≡ learnt_rows 1 vs ++ learnt_row (suc (length vs)) v ∷ [] = rows_more 1 vs v ∙ (let same : 1 + length vs ≡ suc (length vs) = omega arith in ap (λ n. learnt_rows 1 vs ++ learnt_row n v ∷ []) same) in
     record {
-      rows = rw (one, put_last (suc (length vs)) v table below) (IsPermutation-append_left (learnt_row (suc (length vs)) v ∷ []) (learnt_rows 1 vs) table it.rows);
+      rows = rw (one, put_last (suc (length vs)) v table (rows_below table vs it)) (IsPermutation-append_left (learnt_row (suc (length vs)) v ∷ []) (learnt_rows 1 vs) table it.rows);
       few = let more = length-append vs (v ∷ []) in omega (arith, more, most);
       values = λ x has. elim (has_more vs v x has) [ inl k ↦ it.values x k | inr is ↦ subst IsValue (sym is) good ];
     }

@@ -1,11 +1,17 @@
 pub mod Means
 pub mod Lists
 pub mod Update
+pub mod Failing
+pub mod UpdateFaults
 pub mod LearntRows
 pub mod Inserted
 pub mod Upsert
 pub mod Upserted
 pub mod Stores
 pub mod Holding
+pub mod Faulty
+pub mod KeepFaults
+pub mod VoteFaults
+pub mod Ending
 pub mod Both
 pub mod Several

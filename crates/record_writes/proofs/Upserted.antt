@@ -43,14 +43,14 @@ module _ (p : ℕ) (v : Vote) where
   abbrev pub params : Row
   params = Int (pos p) ∷ Int (pos v.ballot.round) ∷ Int (pos v.ballot.member) ∷ Blob (value_spelling v.value) ∷ []
 
-  casts : cast_row votes (vote_row (entry p v)) ≡ vote_row (entry p v)
+  pub casts : cast_row votes (vote_row (entry p v)) ≡ vote_row (entry p v)
   casts = rw (cast_int p, cast_null, cast_int v.ballot.round, cast_int v.ballot.member) refl
 
   module _ (limit : Option ℕ) (keys : Keys) (db : Trees) where
-    abbrev task : Task
+    abbrev pub task : Task
     task = record { limit = limit; keys = keys; schema = schema; table = votes; params = params }
 
-    abbrev clause : Upsert
+    abbrev pub clause : Upsert
     clause = record { target = Some (0 ∷ []); update = Some (record { lets = []; body = upsert_query }) }
 
     -- the one row is tried
@@ -153,7 +153,7 @@ one_at p (f ∷ fs) e once (inr has) same = by (λ few. one_at p fs e few has sa
     by rest false k = rest (omega (arith, k))
 
 module _ (p : ℕ) (v : Vote) (es : List Entry) (once : times p es ≤ 1) where
-  abbrev new : Row
+  abbrev pub new : Row
   new = vote_row (entry p v)
 
   conflict_test : (e : Entry) → conflicts (Some (0 ∷ [])) [] votes new (vote_row e) ≡ (((e.position == p) && true) || false)
@@ -161,7 +161,7 @@ module _ (p : ℕ) (v : Vote) (es : List Entry) (once : times p es ≤ 1) where
   conflict_test e = ap (λ b. (b && true) || false) (sql_test e.position p)
 
   -- a row that conflicts has the position
-  meets : (db : Trees) (there : Row) (more : List Row) → db 1 ≡ map vote_row es → AreConflicts (Some (0 ∷ [])) [] votes (db 1) new (there ∷ more) → (e : Entry) × Has es e × (e.position ≡ p) × (there ≡ Int (pos p) ∷ [])
+  pub meets : (db : Trees) (there : Row) (more : List Row) → db 1 ≡ map vote_row es → AreConflicts (Some (0 ∷ [])) [] votes (db 1) new (there ∷ more) → (e : Entry) × Has es e × (e.position ≡ p) × (there ≡ Int (pos p) ∷ [])
   meets db there more is h =
       let s = h.sound there (inl refl) in
       let it = has_map es s.0 (subst (λ rs. Has rs s.0) is s.1) in
@@ -169,7 +169,7 @@ module _ (p : ℕ) (v : Vote) (es : List Entry) (once : times p es ≤ 1) where
       let same : it.0.position ≡ p = same_number it.0.position p (yes_eq _ (sym (conflict_test it.0) ∙ test)) in
       (it.0, it.1, same, s.3 ∙ ap (λ (r : Row). rowid r ∷ []) it.2 ∙ ap (λ n. Int (pos n) ∷ []) same)
 
-  abbrev g : Row
+  abbrev pub g : Row
   g = params p v ++ Int (pos p) ∷ shown votes new
 
   pick : {X Y : Type 0} (f : X → Y) (b : Bool) (x : X) (rest : List Y) (tail : List X) → rest ≡ map f tail → cond (b && true) (f x ∷ []) [] ++ rest ≡ map f (cond b (x ∷ tail) tail)
@@ -182,10 +182,10 @@ module _ (p : ℕ) (v : Vote) (es : List Entry) (once : times p es ≤ 1) where
   matched db (e ∷ fs) = rw (sql_test e.position p) (pick (λ (e : Entry). g ∷ vote_row e ∷ []) (e.position == p) e _ (at_place p fs) (matched db fs))
 
   -- the query of the update shows the one row
-  abbrev changed : Row
+  abbrev pub changed : Row
   changed = Int (pos p) ∷ new
 
-  answers : (db : Trees) (e : Entry) (rows : List Row) → db 1 ≡ map vote_row es → Has es e → e.position ≡ p → IsAnswer upsert_query (overlay db []) g rows → rows ≡ changed ∷ []
+  pub answers : (db : Trees) (e : Entry) (rows : List Row) → db 1 ≡ map vote_row es → Has es e → e.position ≡ p → IsAnswer upsert_query (overlay db []) g rows → rows ≡ changed ∷ []
   answers db e rows is has same a =
       let staged : a.staged ≡ (g ∷ vote_row e ∷ []) ∷ [] =
       a.grouped ∙ ap (λ rs. flat_map (λ r. matches (overlay db []) upsert_query.filter end (g ∷ r ∷ [])) rs) is ∙ matched db es ∙ ap (map (λ (e : Entry). g ∷ vote_row e ∷ [])) (one_at p es e once has same) in
@@ -207,7 +207,7 @@ module _ (p : ℕ) (v : Vote) (es : List Entry) (once : times p es ≤ 1) where
     cleared none (x ∷ more) w h = put none w h
 
     -- no row conflicts
-    nothing_there : AreConflicts (Some (0 ∷ [])) [] votes (db 1) new [] → (x : Entry) → Has es x → x.position ≢ p
+    pub nothing_there : AreConflicts (Some (0 ∷ [])) [] votes (db 1) new [] → (x : Entry) → Has es x → x.position ≢ p
     nothing_there h x has same =
         let clash : conflicts (Some (0 ∷ [])) [] votes new (vote_row x) ≡ true = conflict_test x ∙ ap (λ b. (b && true) || false) (equal x.position p same) in
         absurd (h.complete (vote_row x) (subst (λ rs. Has rs (vote_row x)) (sym is) (in_map es x has)) clash)

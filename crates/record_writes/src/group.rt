@@ -1,7 +1,8 @@
 //! Several writes in one transaction.
 
-ghost use Rattle.std.specs.Prelude.{◌≡◌, ◌≤◌, suc, length, false, IfErr, IfOk, IfSome, IsTrue, OnOk};
-ghost use Rattle.sqlite.specs.State.{HasCleanDisk};
+ghost use Rattle.std.specs.Prelude.{◌≡◌, ◌≢◌, ◌≤◌, suc, length, false, IfErr, IfOk, IfSome, IsErrOf, IsTrue, OnOk};
+ghost use Rattle.sqlite.specs.State.{HasCleanDisk, Survives};
+ghost use Rattle.sqlite.specs.declared.error.ErrorCode.TheVariants.{OutOfMemory};
 ghost use Rattle.sqlite_trees.specs.View.{doubt};
 ghost use Rattle.sqlite.specs.Held.{state};
 ghost use Rattle.ballots.specs.Ballot.{IsBallot, below};
@@ -11,20 +12,22 @@ ghost use Rattle.ballots.specs.Spelling.{IsValue, value_spelling};
 ghost use Rattle.ballots.specs.declared.value.Value.{Value as ValueTerm};
 ghost use Rattle.paxos.specs.Records.{Record, NewLearnt, NewPromise, written};
 ghost use Rattle.records.specs.Group.{AreWrites, IsDue, IsWrite, MayBeWritten, after, write_of};
-ghost use Rattle.records.specs.Law.{Puts};
+ghost use Rattle.record_writes.specs.Faults.{FitsRow, Leaves, StoreFailed};
 ghost use Rattle.record_writes.specs.Holds.{Holds, Under, Sees, Written};
 ghost use Rattle.record_writes.specs.Members.{HasMember, HasMembers};
 
+use super::fault::WriteFault;
 use super::promise::{PROMISE, is_memory, judge, look};
 use super::vote::{first, second};
 use ballots::{Ballot, Value, put_value};
-use records::{RecordsFault, Write};
+use records::Write;
 use sqlite::{Alter, Connection, Error, ErrorCode, Transaction, params};
 use std::alloc::Global;
 
 /// A value as its bytes.
 fn spelled(alloc: Global, value: &Value) -> Result<Vec<u8>, Error>
-    ensures { IfOk result (λ bytes. (bytes.items ≡ value_spelling value.now) × IsValue value.now) }
+    ensures spelt { IfOk result (λ bytes. (bytes.items ≡ value_spelling value.now) × IsValue value.now) }
+    ensures memory { IfErr result (λ e. e ≡ Error.SqliteFailure OutOfMemory) }
 {
     let mut bytes = Vec::new(alloc);
     if put_value(value, &mut bytes).is_err() {
@@ -39,6 +42,9 @@ fn third<S: Alter>(tx: &mut Transaction<'_, S>, position: u32, value: &[u8]) -> 
     ensures same_reference { tx.new.conn.ghost_name ≡ tx.old.conn.ghost_name }
     ensures law { HasCleanDisk (state S.Store tx.new.conn.now) → (o : Setup) (last now : Record) → (v : ValueTerm) → value.now ≡ value_spelling v → IsValue v → position ≡ suc (length now.learnt) → Under (state S.Store tx.old.conn.now) o last → Sees (state S.Store tx.old.conn.now) o now
         → Under (state S.Store tx.new.conn.now) o last × OnOk result (Sees (state S.Store tx.new.conn.now) o (written (NewLearnt v) now)) }
+    ensures store { HasCleanDisk (state S.Store tx.new.conn.now) → (o : Setup) (now : Record) → (v : ValueTerm) → value.now ≡ value_spelling v → IsValue v → position ≡ suc (length now.learnt) → Sees (state S.Store tx.old.conn.now) o now
+        → IfErr result (λ e. e ≢ Error.SqliteFailure OutOfMemory → StoreFailed (state S.Store tx.old.conn.now) (state S.Store tx.new.conn.now)) }
+    ensures survives { Survives (state S.Store tx.old.conn.now) (state S.Store tx.new.conn.now) (λ _. ⊥) }
     ensures clean { doubt (state S.Store tx.old.conn.now).is_clean ≤ doubt (state S.Store tx.new.conn.now).is_clean }
 {
     tx.execute(
@@ -57,6 +63,9 @@ fn promise_unless<S: Alter>(
     ensures same_reference { tx.new.conn.ghost_name ≡ tx.old.conn.ghost_name }
     ensures law { HasCleanDisk (state S.Store tx.new.conn.now) → (o : Setup) (last now : Record) → IfSome promised (λ b. now.promise ≡ b) → ballot.member ≤ o.members → below ballot now.promise ≡ false → Under (state S.Store tx.old.conn.now) o last → Sees (state S.Store tx.old.conn.now) o now
         → Under (state S.Store tx.new.conn.now) o last × OnOk result (Sees (state S.Store tx.new.conn.now) o (written (NewPromise ballot) now)) }
+    ensures store { HasCleanDisk (state S.Store tx.new.conn.now) → (o : Setup) (now : Record) → FitsRow o → Sees (state S.Store tx.old.conn.now) o now
+        → IfErr result (λ e. e ≢ Error.SqliteFailure OutOfMemory → StoreFailed (state S.Store tx.old.conn.now) (state S.Store tx.new.conn.now)) }
+    ensures survives { Survives (state S.Store tx.old.conn.now) (state S.Store tx.new.conn.now) (λ _. ⊥) }
     ensures clean { doubt (state S.Store tx.old.conn.now).is_clean ≤ doubt (state S.Store tx.new.conn.now).is_clean }
 {
     if promised == Some(ballot) {
@@ -77,6 +86,9 @@ fn write_one<S: Alter>(
     ensures same_reference { tx.new.conn.ghost_name ≡ tx.old.conn.ghost_name }
     ensures law { HasCleanDisk (state S.Store tx.new.conn.now) → (o : Setup) (last now : Record) → IfSome promised (λ b. now.promise ≡ b) → HasMember o.members write.now → IsDue write.now now → Under (state S.Store tx.old.conn.now) o last → Sees (state S.Store tx.old.conn.now) o now
         → Under (state S.Store tx.new.conn.now) o last × OnOk result (Sees (state S.Store tx.new.conn.now) o (written (write_of write.now) now)) }
+    ensures store { HasCleanDisk (state S.Store tx.new.conn.now) → (o : Setup) (last now : Record) → FitsRow o → IfSome promised (λ b. now.promise ≡ b) → HasMember o.members write.now → IsDue write.now now → Under (state S.Store tx.old.conn.now) o last → Sees (state S.Store tx.old.conn.now) o now
+        → IfErr result (λ e. e ≢ Error.SqliteFailure OutOfMemory → StoreFailed (state S.Store tx.old.conn.now) (state S.Store tx.new.conn.now)) }
+    ensures survives { Survives (state S.Store tx.old.conn.now) (state S.Store tx.new.conn.now) (λ _. ⊥) }
     ensures clean { doubt (state S.Store tx.old.conn.now).is_clean ≤ doubt (state S.Store tx.new.conn.now).is_clean }
 {
     match write {
@@ -116,6 +128,9 @@ fn write_all<S: Alter>(
     ensures same_reference { tx.new.conn.ghost_name ≡ tx.old.conn.ghost_name }
     ensures law { HasCleanDisk (state S.Store tx.new.conn.now) → (o : Setup) (last now : Record) → HasMembers o.members writes.now → MayBeWritten writes.now now → Under (state S.Store tx.old.conn.now) o last → Sees (state S.Store tx.old.conn.now) o now
         → Under (state S.Store tx.new.conn.now) o last × OnOk result (Sees (state S.Store tx.new.conn.now) o (after writes.now now)) }
+    ensures store { HasCleanDisk (state S.Store tx.new.conn.now) → (o : Setup) (last now : Record) → FitsRow o → HasMembers o.members writes.now → MayBeWritten writes.now now → Under (state S.Store tx.old.conn.now) o last → Sees (state S.Store tx.old.conn.now) o now
+        → IfErr result (λ e. e ≢ Error.SqliteFailure OutOfMemory → StoreFailed (state S.Store tx.old.conn.now) (state S.Store tx.new.conn.now)) }
+    ensures survives { Survives (state S.Store tx.old.conn.now) (state S.Store tx.new.conn.now) (λ _. ⊥) }
     ensures clean { doubt (state S.Store tx.old.conn.now).is_clean ≤ doubt (state S.Store tx.new.conn.now).is_clean }
 {
     let mut promised = None;
@@ -136,6 +151,9 @@ fn run<S: Alter>(
     requires mode { connection.old.in_transaction ≡ false }
     ensures law { HasCleanDisk (state S.Store connection.new) → (o : Setup) (last : Record) → HasMembers o.members writes.now → IsTrue (state S.Store connection.old).is_open → MayBeWritten writes.now last → Holds (state S.Store connection.old) o last last
         → Written (state S.Store connection.new) o last (after writes.now last) result }
+    ensures store { HasCleanDisk (state S.Store connection.new) → (o : Setup) (last : Record) → FitsRow o → HasMembers o.members writes.now → IsTrue (state S.Store connection.old).is_open → MayBeWritten writes.now last → Holds (state S.Store connection.old) o last last
+        → IfErr result (λ e. e ≢ Error.SqliteFailure OutOfMemory → StoreFailed (state S.Store connection.old) (state S.Store connection.new)) }
+    ensures survives { Survives (state S.Store connection.old) (state S.Store connection.new) (λ _. Unit {0}) }
     ensures clean { doubt (state S.Store connection.old).is_clean ≤ doubt (state S.Store connection.new).is_clean }
 {
     let mut tx = connection.transaction();
@@ -153,25 +171,26 @@ fn run<S: Alter>(
 /// of them, where the disk is clean, no transaction was under way, their ballots are of the members, and each may be written over the record
 /// after those before it.
 ///
-/// Faults: `Memory` where memory was refused, and then the old record stands; `Store` where the store failed or refused, and then the old one
-/// or the new one does, and the connection may be shut; `Store` too, with nothing written, where a transaction was under way.
+/// Faults: as of `put_promise`; `Store` too, with nothing written, where a transaction was under way.
 pub fn put_all<S: Alter>(
     alloc: Global,
     connection: &mut Connection<S>,
     writes: &[Write],
-) -> Result<(), RecordsFault>
+) -> Result<(), WriteFault>
     requires { AreWrites writes.now }
     ensures law { HasCleanDisk (state S.Store connection.new) → (o : Setup) (last : Record) → HasMembers o.members writes.now → (IsTrue (state S.Store connection.old).is_open → MayBeWritten writes.now last) → Holds (state S.Store connection.old) o last last
-        → Puts (Holds (state S.Store connection.new) o) last (after writes.now last) result }
+        → Leaves (state S.Store connection.new) o last (after writes.now last) result }
+    ensures store { HasCleanDisk (state S.Store connection.new) → (o : Setup) (last : Record) → FitsRow o → HasMembers o.members writes.now → (IsTrue (state S.Store connection.old).is_open → MayBeWritten writes.now last) → Holds (state S.Store connection.old) o last last
+        → IsErrOf result WriteFault.Store → StoreFailed (state S.Store connection.old) (state S.Store connection.new) }
     ensures clean { doubt (state S.Store connection.old).is_clean ≤ doubt (state S.Store connection.new).is_clean }
 {
     match look(connection, PROMISE) {
         Ok(_) => {}
-        Err(error) if is_memory(&error) => return Err(RecordsFault::Memory),
-        Err(_) => return Err(RecordsFault::Store),
+        Err(error) if is_memory(&error) => return Err(WriteFault::Memory),
+        Err(_) => return Err(WriteFault::Store),
     }
     if !connection.is_autocommit() {
-        return Err(RecordsFault::Store);
+        return Err(WriteFault::Store);
     }
     match run(alloc, connection, writes) {
         Ok(()) => Ok(()),

@@ -1,7 +1,8 @@
 //! The write of a vote.
 
-ghost use Rattle.std.specs.Prelude.{◌≡◌, ◌≤◌, IsTrue, IfOk, OnOk, false};
-ghost use Rattle.sqlite.specs.State.{HasCleanDisk};
+ghost use Rattle.std.specs.Prelude.{◌≡◌, ◌≢◌, ◌≤◌, IfErr, IsErrOf, IsTrue, IfOk, OnOk, false};
+ghost use Rattle.sqlite.specs.State.{HasCleanDisk, Survives};
+ghost use Rattle.sqlite.specs.declared.error.ErrorCode.TheVariants.{OutOfMemory};
 ghost use Rattle.sqlite_trees.specs.View.{doubt};
 ghost use Rattle.sqlite.specs.Held.{state};
 ghost use Rattle.ballots.specs.Ballot.{IsBallot, below};
@@ -10,12 +11,12 @@ ghost use Rattle.ballots.specs.Terms.{Setup};
 ghost use Rattle.ballots.specs.Spelling.{IsValue, value_spelling};
 ghost use Rattle.ballots.specs.declared.value.Value.{Value};
 ghost use Rattle.paxos.specs.Records.{Record, NewPromise, NewVote, written};
-ghost use Rattle.records.specs.Law.{Puts};
+ghost use Rattle.record_writes.specs.Faults.{FitsRow, Leaves, StoreFailed};
 ghost use Rattle.record_writes.specs.Holds.{Holds, Under, Sees, Written};
 
+use super::fault::WriteFault;
 use super::promise::{PROMISE, is_memory, judge, look, round_of};
 use ballots::Ballot;
-use records::RecordsFault;
 use sqlite::{Alter, Connection, Error, Transaction, params};
 
 /// Writes the ballot as the promise, in the transaction.
@@ -24,6 +25,9 @@ pub(super) fn first<S: Alter>(tx: &mut Transaction<'_, S>, ballot: Ballot) -> Re
     ensures same_reference { tx.new.conn.ghost_name ≡ tx.old.conn.ghost_name }
     ensures law { HasCleanDisk (state S.Store tx.new.conn.now) → (o : Setup) (last now : Record) → ballot.member ≤ o.members → below ballot now.promise ≡ false → Under (state S.Store tx.old.conn.now) o last → Sees (state S.Store tx.old.conn.now) o now
         → Under (state S.Store tx.new.conn.now) o last × OnOk result (Sees (state S.Store tx.new.conn.now) o (written (NewPromise ballot) now)) }
+    ensures store { HasCleanDisk (state S.Store tx.new.conn.now) → (o : Setup) (now : Record) → FitsRow o → Sees (state S.Store tx.old.conn.now) o now
+        → IfErr result (λ e. e ≢ Error.SqliteFailure OutOfMemory → StoreFailed (state S.Store tx.old.conn.now) (state S.Store tx.new.conn.now)) }
+    ensures survives { Survives (state S.Store tx.old.conn.now) (state S.Store tx.new.conn.now) (λ _. ⊥) }
     ensures clean { doubt (state S.Store tx.old.conn.now).is_clean ≤ doubt (state S.Store tx.new.conn.now).is_clean }
 {
     let round = round_of(ballot);
@@ -47,6 +51,9 @@ pub(super) fn second<S: Alter>(
     ensures same_reference { tx.new.conn.ghost_name ≡ tx.old.conn.ghost_name }
     ensures law { HasCleanDisk (state S.Store tx.new.conn.now) → (o : Setup) (last now : Record) → ballot.member ≤ o.members → (v : Value) → value.now ≡ value_spelling v → IsValue v → Under (state S.Store tx.old.conn.now) o last → Sees (state S.Store tx.old.conn.now) o (written (NewPromise ballot) now)
         → Under (state S.Store tx.new.conn.now) o last × OnOk result (Sees (state S.Store tx.new.conn.now) o (written (NewVote position (record { ballot = ballot; value = v })) now)) }
+    ensures store { HasCleanDisk (state S.Store tx.new.conn.now) → (o : Setup) (now : Record) (v : Value) → value.now ≡ value_spelling v → IsValue v → Sees (state S.Store tx.old.conn.now) o now
+        → IfErr result (λ e. e ≢ Error.SqliteFailure OutOfMemory → StoreFailed (state S.Store tx.old.conn.now) (state S.Store tx.new.conn.now)) }
+    ensures survives { Survives (state S.Store tx.old.conn.now) (state S.Store tx.new.conn.now) (λ _. ⊥) }
     ensures clean { doubt (state S.Store tx.old.conn.now).is_clean ≤ doubt (state S.Store tx.new.conn.now).is_clean }
 {
     let round = round_of(ballot);
@@ -70,6 +77,9 @@ fn run<S: Alter>(
     requires mode { connection.old.in_transaction ≡ false }
     ensures law { HasCleanDisk (state S.Store connection.new) → (o : Setup) (last : Record) → ballot.member ≤ o.members → (v : Value) → value.now ≡ value_spelling v → IsValue v → IsTrue (state S.Store connection.old).is_open → below ballot last.promise ≡ false → Holds (state S.Store connection.old) o last last
         → Written (state S.Store connection.new) o last (written (NewVote position (record { ballot = ballot; value = v })) last) result }
+    ensures store { HasCleanDisk (state S.Store connection.new) → (o : Setup) (last : Record) → FitsRow o → ballot.member ≤ o.members → (v : Value) → value.now ≡ value_spelling v → IsValue v → IsTrue (state S.Store connection.old).is_open → below ballot last.promise ≡ false → Holds (state S.Store connection.old) o last last
+        → IfErr result (λ e. e ≢ Error.SqliteFailure OutOfMemory → StoreFailed (state S.Store connection.old) (state S.Store connection.new)) }
+    ensures survives { Survives (state S.Store connection.old) (state S.Store connection.new) (λ _. Unit {0}) }
     ensures clean { doubt (state S.Store connection.old).is_clean ≤ doubt (state S.Store connection.new).is_clean }
 {
     let mut tx = connection.transaction();
@@ -94,29 +104,31 @@ fn run<S: Alter>(
 /// value. Whatever a crash leaves then is the record with both, where the disk is clean, no transaction was under way, and the ballot is of one
 /// of the members and not below the promise that stood.
 ///
-/// Faults: `Memory` where memory was refused, and then the old record stands; `Store` where the store failed or refused, and then the old one
-/// or the new one does, and the connection may be shut; `Store` too, with nothing written, where a transaction was under way.
+/// Faults: as of `put_promise`; `Store` too, with nothing written, where a transaction was under way.
 pub fn put_vote<S: Alter>(
     connection: &mut Connection<S>,
     ballot: Ballot,
     position: u32,
     value: &[u8],
-) -> Result<(), RecordsFault>
+) -> Result<(), WriteFault>
     requires ballot { IsBallot ballot }
     requires least { 1 ≤ position }
     requires most { position ≤ positions }
     ensures law { HasCleanDisk (state S.Store connection.new) → (o : Setup) (last : Record) → ballot.member ≤ o.members → (v : Value) → value.now ≡ value_spelling v → IsValue v
         → (IsTrue (state S.Store connection.old).is_open → below ballot last.promise ≡ false) → Holds (state S.Store connection.old) o last last
-        → Puts (Holds (state S.Store connection.new) o) last (written (NewVote position (record { ballot = ballot; value = v })) last) result }
+        → Leaves (state S.Store connection.new) o last (written (NewVote position (record { ballot = ballot; value = v })) last) result }
+    ensures store { HasCleanDisk (state S.Store connection.new) → (o : Setup) (last : Record) → FitsRow o → ballot.member ≤ o.members → (v : Value) → value.now ≡ value_spelling v → IsValue v
+        → (IsTrue (state S.Store connection.old).is_open → below ballot last.promise ≡ false) → Holds (state S.Store connection.old) o last last
+        → IsErrOf result WriteFault.Store → StoreFailed (state S.Store connection.old) (state S.Store connection.new) }
     ensures clean { doubt (state S.Store connection.old).is_clean ≤ doubt (state S.Store connection.new).is_clean }
 {
     match look(connection, PROMISE) {
         Ok(_) => {}
-        Err(error) if is_memory(&error) => return Err(RecordsFault::Memory),
-        Err(_) => return Err(RecordsFault::Store),
+        Err(error) if is_memory(&error) => return Err(WriteFault::Memory),
+        Err(_) => return Err(WriteFault::Store),
     }
     if !connection.is_autocommit() {
-        return Err(RecordsFault::Store);
+        return Err(WriteFault::Store);
     }
     match run(connection, ballot, position, value) {
         Ok(()) => Ok(()),

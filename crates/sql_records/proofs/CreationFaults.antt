@@ -1,5 +1,5 @@
 -- Why the statements of a new record fail.
-use Rattle.std.proofs.Common.{◌≡◌, ◌≢◌, ◌⊎◌, inl, inr, ℕ, ◌+◌, ◌*◌, ◌^◌, ◌<◌, ◌≤◌, List, [], length, append-nil, true, false, ◌||◌, ◌==◌, Option, None, Some, Ok, Err, Result, IsSome, IsUtf8, codes, refl, sym, ap, subst, subst₂, ◌∙◌, arith}
+use Rattle.std.proofs.Common.{◌≡◌, ◌≢◌, ◌⊎◌, inl, inr, ℕ, ◌+◌, ◌*◌, ◌^◌, ◌<◌, ◌≤◌, List, [], length, true, false, ◌==◌, Option, None, Some, Ok, Err, Result, IsUtf8, codes, refl, sym, ap, subst, ◌∙◌, arith}
 use Rattle.std.specs.Prelude.{IfErr}
 use Rattle.std.proofs.lemmas.Bool.{both_ways}
 use Rattle.sqlite.specs.declared.error.ErrorCode.TheVariants as code
@@ -7,9 +7,7 @@ use Rattle.sqlite.specs.declared.error.Error.{Error}
 use Rattle.sqlite.specs.declared.error.Error.TheVariants.{SqliteFailure}
 use Rattle.sqlite_schema.specs.declared.schema.Schema.{Schema}
 use Rattle.sqlite_schema.specs.declared.schema.Table.{Table}
-use Rattle.sqlite_schema.specs.declared.command.Command.{Command}
 use Rattle.sqlite_schema.specs.declared.command.Command.TheVariants.{CreateTable}
-use Rattle.sqlite_resolve.specs.declared.compiled.Compiled.{Compiled}
 use Rattle.sqlite_catalog.specs.declared.error.Refusal.{Refusal}
 use Rattle.sqlite_catalog.specs.declared.error.Refusal.TheVariants.{Invalid, NameTaken, BadName, TooBig, BadKey, BadText, Violates}
 use Rattle.sqlite_catalog.specs.Calls.{IsBadName, RefusesTable}
@@ -22,90 +20,19 @@ use Rattle.sqlite_trees.specs.Sound.{begins, fits_kind, is_free_name, same_name}
 use Rattle.sqlite_value.specs.Order.{value_cmp}
 use Rattle.sqlite.specs.declared.types.Value.TheVariants.{Text}
 use Rattle.sqlite.specs.declared.run.Mode.{Mode}
-use Rattle.sqlite.specs.Calls.{IsWrite}
-use Rattle.sqlite.specs.Clock.{timed}
 use Rattle.sqlite.specs.Compile.{table_defined_by}
 use Rattle.sqlite.specs.Does.{Does, MakesTable, lacks_sequence}
-use Rattle.sqlite.specs.Effect.{is_query}
 use Rattle.sqlite.specs.Listing.{understood}
 use Rattle.sqlite.specs.Order.{Row}
 use Rattle.sqlite.specs.Tree.{Trees}
-use Rattle.sqlite.specs.State.{State, Escapes, EndsScope, ExecutesIn, ExecutesInside, IsMisplaced, IsStatement, RunsAlone, RunsCommand, is_pragma, mode_of, shows_rows, text_of}
-use Rattle.sqlite.proofs.Callers.{IsPlain, command_of, statement_of}
+use Rattle.sqlite.specs.State.{State, ExecutesInside, mode_of}
+use Rattle.sqlite.proofs.Callers.{IsPlain}
 use Rattle.sql_records.specs.Created.{FirstIsEmpty, HaveRows, Makes, half_schema}
-use Rattle.sql_records.specs.Faults.{StoreFailed}
+use Rattle.record_writes.specs.Faults.{StoreFailed}
 use Rattle.record_tables.specs.Texts.{meta, votes, learnt, no_schema, schema_1, meta_text, votes_text, learnt_text}
 use Rattle.sql_records.proofs.Means.{meta_is, votes_is, learnt_is}
 use Rattle.sql_records.proofs.Creating.{Compiles, meta_creates, meta_plain, votes_creates, votes_plain, learnt_creates, learnt_plain}
-use Rattle.sql_records.proofs.StoreFaults.{IsWhole, fails_by, not_run}
-
--- a part that stopped did so by itself, or by what follows it
-pub halted : {B E R : Type 0} {stop : E} {Stops : E → Type 0} → ((at : E) × Stops at × (◌≡◌ {A = Result B E} (Err stop) (Err at))) ⊎ R → Stops stop ⊎ R
-halted {Stops} (inl h) = inl (subst Stops (sym (let e = h.2 in cc)) h.1)
-halted (inr on) = inr on
-
-module _ (old new : State) (sql : List ℕ) (params : Row) (before : Schema) (has : old.now.schema ≡ before) (plain : IsPlain (understood before sql)) (whole : IsWhole (length sql) (length params) (understood before sql))
-    (command : Command) (is : command_of (understood before sql) ≡ command) (write : IsWrite command) (silent : (is_query command || (is_pragma command || false)) ≡ false)
-    (limited : (stop : Option Error) → Does old.step_limit (mode_of old) params (record old.now { schema = before }) (statement_of sql (understood before sql)) None command (Err stop) → IsSome old.step_limit) where
-  -- a write is no command of transactions
-  ends_nothing : (k : Command) → k ≡ command → ¬ Escapes 0 old k
-  ends_nothing k same (inl (inl end)) = subst IsWrite (sym same ∙ end) write
-  ends_nothing k same (inl (inr end)) = subst IsWrite (sym same ∙ end) write
-  ends_nothing k same (inr h) = elim h.1 [
-    | inl end ↦ subst IsWrite (sym same ∙ end) write
-    | inr end ↦ subst IsWrite (sym same ∙ end) write
-  ]
-
-  is_placed : (k : Command) (e : Error) → k ≡ command → ¬ IsMisplaced old k e
-  is_placed k e same (inl h) = elim h.1 [
-    | inl begins ↦ subst IsWrite (sym same ∙ begins.0) write
-    | inr ends ↦ elim ends.0 [ inl end ↦ subst IsWrite (sym same ∙ end) write | inr end ↦ subst IsWrite (sym same ∙ end) write ]
-  ]
-  is_placed k e same (inr h) = elim h.2 [
-    | inl end ↦ subst IsWrite (sym same ∙ end) write
-    | inr end ↦ subst IsWrite (sym same ∙ end) write
-  ]
-
-  module _ (c : Compiled) (it : IsStatement old sql params c) where
-    known : Ok c ≡ understood before sql
-    known = sym it.is ∙ ap (λ s. understood s sql) has
-
-    bare : IsPlain (Ok c)
-    bare = subst IsPlain (sym known) plain
-
-    same : c.command ≡ command
-    same = ap command_of known ∙ is
-
-    does : (stop : Option Error) → Does old.step_limit (mode_of old) (timed params c.formats it.now) old.now (text_of sql c) c.returning c.command (Err stop) → IsSome old.step_limit
-    does stop h =
-        let plainly : Does old.step_limit (mode_of old) params old.now (text_of sql c) None c.command (Err stop) = rw (bare.0, bare.1, append-nil params) at h in
-        let so : Does old.step_limit (mode_of old) params old.now (statement_of sql (understood before sql)) None command (Err stop) =
-        subst₂ (λ k t. Does old.step_limit (mode_of old) params old.now t None k (Err stop)) same (ap (statement_of sql) known) plainly in
-        limited stop (subst (λ s. Does old.step_limit (mode_of old) params (record old.now { schema = s }) (statement_of sql (understood before sql)) None command (Err stop)) has so)
-
-    quiet : shows_rows false c ≡ false
-    quiet = rw (bare.0, same) silent
-
-    ran : (e : Error) → RunsAlone false old new sql c (timed params c.formats it.now) (Err e) → e ≢ SqliteFailure code.OutOfMemory → StoreFailed old new
-    ran e h other =
-        let commanded : RunsCommand old new sql c (timed params c.formats it.now) (Err e) = rw quiet at h in
-        elim commanded [
-          | inl refused ↦ elim refused.0 [ inl misplaced ↦ absurd (is_placed c.command e same misplaced) | inr did ↦ inr (inr (does (Some e) did.1)) ]
-          | inr failed ↦ fails_by old new (λ big. inr (inr (does None big))) e failed other
-        ]
-
-  failed : (e : Error) → ExecutesInside 0 sql params old new (Err e) → e ≢ SqliteFailure code.OutOfMemory → StoreFailed old new
-  unfolding ExecutesIn EndsScope
-  failed e (inl h) other = elim h.0 [
-    | inl refused ↦ not_run old new sql params before has plain whole e refused other
-    | inr runs ↦ ran runs.0 runs.1 e runs.2 other
-  ]
-  failed e (inr h) other = absurd (ends_nothing h.0.0.command (same h.0.0 h.0.1) h.0.2)
-
-  -- It fails for want of memory, since the store failed, or by the limit of its steps.
-  pub inside_failed : (r : Result ℕ Error) → ExecutesInside 0 sql params old new r → IfErr r (λ e. e ≢ SqliteFailure code.OutOfMemory → StoreFailed old new)
-  inside_failed (Ok count) h = tt
-  inside_failed (Err e) h = failed e h
+use Rattle.record_writes.proofs.Failing.{IsWhole, halted, inside_failed}
 
 -- What there is to say of a table so that nothing refuses to make it.
 record CanBeMade (before : Schema) (text : List ℕ) (table : Table) : Type 0 where

@@ -1,20 +1,16 @@
 -- Why the row of a member is not put in.
-use Rattle.std.proofs.Common.{◌≡◌, ◌≢◌, inl, inr, ℕ, zero, suc, ◌*◌, ◌≤◌, List, [], ◌∷◌, length, length-append, flat_map, Bool, true, false, ◌&&◌, nat_le, Option, None, Some, Err, Result, IsSome, All, refl, sym, ap, subst, ◌∙◌, arith}
+use Rattle.std.proofs.Common.{◌≡◌, ◌≢◌, inl, inr, ℕ, ◌*◌, ◌≤◌, List, [], ◌∷◌, length, length-append, flat_map, Bool, true, false, ◌&&◌, nat_le, Option, None, Some, Err, Result, IsSome, refl, ap, subst, ◌∙◌, arith}
 use Rattle.std.specs.Prelude.{IfErr}
-use Rattle.std.specs.Float.{NotNan}
-use Rattle.std.specs.List.{AllByRecursion, list_all}
+use Rattle.std.specs.List.{list_all}
 use Rattle.std.proofs.lemmas.Bool.{both_ways}
 use Rattle.std.proofs.lemmas.Bool.Decides.{nat_tests}
-use Rattle.std.proofs.lemmas.Nat.Bits.{bit_at-zero}
-use Rattle.sqlite_value.specs.Order.{number, value_cmp}
-use Rattle.sqlite_trees.specs.View.{IsStorableRow}
+use Rattle.sqlite_value.specs.Order.{value_cmp}
 use Rattle.sqlite_sql.specs.Ops.{binary}
 use Rattle.sqlite_schema.specs.declared.schema.Constraint.TheVariants.{Datatype, NotNull, Check, PrimaryKey, Unique, ForeignKey}
 use Rattle.sqlite_schema.specs.declared.schema.Keys.TheVariants.{Enforced}
-use Rattle.sqlite_schema.specs.Rules.{table_reals}
 use Rattle.sqlite_rules.specs.declared.error.Refusal.{Refusal}
 use Rattle.sqlite_rules.specs.declared.error.Refusal.TheVariants.{Violates, Mismatch, NoRowid, BadReference, TooDeep}
-use Rattle.sqlite_rules.specs.Action.{Leads, Writes}
+use Rattle.sqlite_rules.specs.Action.{Writes}
 use Rattle.sqlite_rules.specs.Edit.{IsRefused}
 use Rattle.sqlite_tied.specs.Compute.{everything}
 use Rattle.sqlite.specs.declared.error.ErrorCode.TheVariants as code
@@ -26,7 +22,6 @@ use Rattle.sqlite.specs.Does.{Does}
 use Rattle.sqlite.specs.Edit.{Edit, edit_of, edited}
 use Rattle.sqlite.specs.Rows.{Sourced}
 use Rattle.sqlite.specs.Listing.{understood}
-use Rattle.sqlite.specs.Order.{Row}
 use Rattle.sqlite.specs.Rowids.TheVariants.{Chosen}
 use Rattle.sqlite.specs.Tree.{Trees}
 use Rattle.sqlite.specs.State.{State, ExecutesInside, mode_of}
@@ -34,12 +29,12 @@ use Rattle.sqlite.proofs.Callers.{statement_of}
 use Rattle.ballots.specs.Terms.{Setup}
 use Rattle.document_names.specs.Names.{is_document_name, is_document_name_byte, are_distinct, are_document_names}
 use Rattle.sql_records.specs.Created.{HaveNoneLearnt, Makes}
-use Rattle.sql_records.specs.Faults.{StoreFailed}
+use Rattle.record_writes.specs.Faults.{FitsRow, StoreFailed}
 use Rattle.record_writes.specs.Stored.{joined, meta_row}
 use Rattle.record_tables.specs.Texts.{meta, schema, member_text}
 use Rattle.sql_records.proofs.Creating.{member_inserts, member_plain, member_params, member_shown, member_terms}
-use Rattle.sql_records.proofs.CreationFaults.{halted, inside_failed}
-use Rattle.sql_records.proofs.StoreFaults.{IsWhole}
+use Rattle.record_writes.proofs.Failing.{IsWhole, edit_made, halted, inside_failed, no_keys}
+use Rattle.record_writes.proofs.UpdateFaults.{fits_table}
 use Rattle.record_writes.proofs.Update.{cast_int, cast_null}
 
 -- ---- the text of the names is short
@@ -78,29 +73,11 @@ joined_short (name ∷ names) h =
 
 -- ---- the row can be stored, and no rule refuses it
 
--- no row refers to another, and no index asks for anything
-pub no_keys : (rows : List Row) → AllByRecursion (λ row. true ≡ true) rows
-no_keys [] = tt
-no_keys (row ∷ rows) = (refl, no_keys rows)
-
-each_at : {X : Type 0} (P : X → Type 0) (xs : List X) → AllByRecursion P xs → All P xs
-each_at P [] h k d low = absurd (omega arith)
-each_at P (x ∷ xs) h zero d low = h.0
-each_at P (x ∷ xs) h (suc k) d low = each_at P xs h.1 k d (omega arith)
+-- the names of documents fit into the member's row
+pub names_fit : (o : Setup) → are_document_names o.names ≡ true → FitsRow o
+names_fit o good = let short = joined_short o.names good in omega arith
 
 module _ (o : Setup) (good : are_document_names o.names ≡ true) where
-  pub storable : (round leader : ℕ) → IsStorableRow (table_reals meta) (meta_row 2 o round leader)
-  unfolding lib.Ieee.is_nan
-  storable round leader = (
-    record {
-      typed = λ c is. absurd (let none = bit_at-zero c in omega arith);
-      columns = (omega arith, omega arith);
-      numbers = each_at (λ v. NotNan (number v)) (meta_row 2 o round leader) (tt, (tt, (tt, (tt, (tt, (tt, (tt, (tt, (tt, tt)))))))));
-      short = let short = joined_short o.names good in omega arith;
-    },
-    omega arith,
-  )
-
   module _ (db : Trees) (none : db 0 ≡ []) where
     abbrev edit : Edit
     edit = record { table = meta; gone = []; news = meta_row 2 o 0 0 ∷ [] }
@@ -118,17 +95,8 @@ module _ (o : Setup) (good : are_document_names o.names ≡ true) where
     not_refused BadReference h = both_ways _ h refl
     not_refused TooDeep h = h
 
-    no_more : (n : ℕ) (next : Trees) (why : Option Refusal) → ¬ Leads schema Enforced n next [] (Err why)
-    no_more zero next why h = absurd (let e = h.1 in cc)
-    no_more (suc n) next why h = absurd (omega (arith, ap length h.2, length-append h.0 (h.1 ∷ [])))
-
     not_edited : (why : Option Refusal) → ¬ Writes schema Enforced db edit (Err why)
-    not_edited why (inl refused) = not_refused refused.0 refused.1
-    not_edited why (inr (inl big)) = elim big.2 [
-      | inl row ↦ elim big.1 [ inl same ↦ row (subst (IsStorableRow (table_reals meta)) (sym same) (storable 0 0)) | inr other ↦ other ]
-      | inr index ↦ index.1
-    ]
-    not_edited why (inr (inr went)) = no_more went.2.0 went.0 why went.2.1
+    not_edited why h = edit_made schema Enforced db edit refl not_refused (fits_table o (names_fit o good) 2 0 0) why h
 
 -- ---- the statement
 

@@ -1,12 +1,8 @@
 -- A transaction that makes version 2 of a record of version 1.
-use Rattle.std.proofs.Common.{◌≡◌, ◌≢◌, inl, inr, true, false, refl, sym, subst, ◌∙◌, ⊎_elim}
+use Rattle.std.proofs.Common.{◌≡◌, inl, inr, true, false, refl, sym, subst, ⊎_elim}
 use Rattle.sqlite.specs.Store.{Ghosts}
 use Rattle.sqlite.specs.Held.{Held, state}
 use Rattle.sqlite.specs.Tree.{Trees}
-use Rattle.sqlite.specs.Steps.{FailsToCommit}
-use Rattle.sqlite.specs.declared.error.ErrorCode.TheVariants as code
-use Rattle.sqlite.specs.declared.error.Error.{Error}
-use Rattle.sqlite.specs.declared.error.Error.TheVariants.{SqliteFailure}
 use Rattle.sqlite.specs.State.{State, HasCleanDisk, Survives, Shows}
 use Rattle.sqlite.proofs.Callers.{survives_begin}
 use Rattle.ballots.specs.Terms.{Setup}
@@ -14,12 +10,11 @@ use Rattle.paxos.specs.Records.{Record}
 use Rattle.record_tables.specs.Texts.{schema, schema_1}
 use Rattle.record_tables.specs.declared.version.Version.TheVariants.{First, Second}
 use Rattle.sql_records.specs.Created.{HaveRows, Makes, MigratesOnly}
-use Rattle.sql_records.specs.Faults.{StoreFailed}
+use Rattle.record_writes.specs.Faults.{StoreFailed}
 use Rattle.record_writes.specs.Holds.{Holds}
 use Rattle.record_writes.specs.Stored.{IsStored}
 use Rattle.record_writes.proofs.Both.{committed}
 use Rattle.record_writes.proofs.Holding.{SettledAt}
-use Rattle.sql_records.proofs.StoreFaults.{fails_by}
 
 module _ {S : Type 0} (g : Ghosts S) (h b : Held S) (begun : b ≡ record h { in_transaction = true }) where
   pub begins : (state g h).now.schema ≡ schema_1 → Makes (state g b) schema_1 (HaveRows ((state g h).now.trees 0) ((state g h).now.trees 1))
@@ -34,10 +29,6 @@ module _ {S : Type 0} (g : Ghosts S) (h b : Held S) (begun : b ≡ record h { in
 module _ (old mid end : State) (o : Setup) where
   pub made_now : (k : Record) → Makes mid schema (λ t. IsStored Second o t k) → Shows mid end mid.now mid.now false → SettledAt end → Holds end o k k
   made_now k m w settled = committed mid end o k k (record { is_open = w.was_open; known = m.known; stored = m.rows; mode = m.mode }) w settled
-
-  pub commit_failed : mid.in_transaction ≡ true → (e : Error) → FailsToCommit mid end e → e ≢ SqliteFailure code.OutOfMemory → StoreFailed mid end
-  commit_failed mode e (inl f) other = fails_by mid end (λ none. absurd none) e f other
-  commit_failed mode e (inr f) other = absurd (let both : true ≡ false = sym mode ∙ f.1 in cc)
 
   pub migrates : old.now.schema ≡ schema_1 → HasCleanDisk mid → Survives old mid (λ _. ⊥) → Survives mid end (λ db. db ≡ mid.now.trees) → ((k : Record) → IsStored First o old.now.trees k → Makes mid schema (λ t. IsStored Second o t k)) → MigratesOnly o old end
   migrates has mid_clean first second made clean db left = elim (second.crash clean db left) [

@@ -1,35 +1,26 @@
 -- Why a statement on the tables of a record fails.
-use Rattle.std.proofs.Common.{◌≡◌, ◌≢◌, inl, inr, ℕ, ◌≤◌, List, [], length, Option, Bool, true, false, Ok, Err, Result, IsSome, refl, sym, ap, subst, ◌∙◌, arith}
+use Rattle.std.proofs.Common.{◌≡◌, ◌≢◌, inl, inr, ℕ, List, [], length, Option, false, Ok, Err, Result, IsSome, refl, sym, ap, subst, ◌∙◌, arith}
 use Rattle.std.specs.Prelude.{IfErr}
-use Rattle.sqlite_disk.specs.Disk.{MoreFaults}
-use Rattle.sqlite_trees.specs.declared.error.StoreError.{StoreError}
-use Rattle.sqlite_trees.specs.declared.error.StoreError.TheVariants.{OutOfMemory, Io, Corrupt, Full, Broken, Unstorable}
+use Rattle.sqlite_trees.specs.declared.error.StoreError.TheVariants.{OutOfMemory}
 use Rattle.sqlite.specs.declared.error.ErrorCode.TheVariants as code
 use Rattle.sqlite.specs.declared.error.Error.{Error}
 use Rattle.sqlite.specs.declared.error.Error.TheVariants.{SqliteFailure}
 use Rattle.sqlite_schema.specs.declared.schema.Schema.{Schema}
-use Rattle.sqlite.specs.Order.{Row}
-use Rattle.sqlite_resolve.specs.declared.compiled.Compiled.{Compiled}
-use Rattle.sqlite_resolve.specs.declared.error.CompileError.{CompileError}
 use Rattle.sqlite_tied.specs.Compute.{everything}
 use Rattle.sqlite.specs.Tree.{Trees}
 use Rattle.sqlite.specs.Command.TheVariants.{Select}
 use Rattle.sqlite.specs.Effect.{Database, RefusesQuery, RefusesToRead}
 use Rattle.sqlite.specs.Listing.{understood, reads_listing, IsSourceOf}
 use Rattle.sqlite.specs.Query.{Query}
-use Rattle.sqlite.specs.State.{State, HasCleanDisk, Fails, FailsToQuery, HasCause, IsNoStatement, IsNotRun, IsUnchanged, Survives, store_error}
+use Rattle.sqlite.specs.State.{State, FailsToQuery}
 use Rattle.sqlite.proofs.Callers.{IsPlain, command_of}
-use Rattle.sql_records.specs.Faults.{StoreFailed}
+use Rattle.record_writes.specs.Faults.{StoreFailed}
 use Rattle.record_tables.specs.Texts.{schema, load_text, votes_load_text, learnt_load_text}
 use Rattle.record_tables.specs.declared.version.Version.{Version}
 use Rattle.record_tables.specs.declared.version.Version.TheVariants.{First, Second}
 use Rattle.record_tables.specs.Versions.{AreTables, tables_of}
+use Rattle.record_writes.proofs.Failing.{IsWhole, not_run}
 use Rattle.sql_records.proofs.Means.{load_query, load_is, load_plain, votes_query, votes_query_is, votes_plain, learnt_query, learnt_query_is, learnt_plain}
-
--- it is the whole text, and has so many parameters
-abbrev pub IsWhole : (bytes parameters : ℕ) → Result Compiled CompileError → Type 0
-IsWhole n count (Ok c) = (n ≤ c.tail) × (count ≡ length c.names)
-IsWhole n count (Err e) = ⊥
 
 load_whole : (v : Version) → IsWhole (length load_text) 0 (understood (tables_of v) load_text)
 unfolding understood everything
@@ -76,36 +67,6 @@ learnt_limited limit db e (inr (inl (is, inr h))) = absurd h.4
 learnt_limited limit db e (inr (inr h)) = h.1
 
 module _ (old new : State) where
-  -- a failure for want of memory is told as that
-  pub cause_of : {TooBig : Type 0} (big : TooBig → StoreFailed old new) (cause : StoreError) (e : Error) → e ≡ store_error cause → HasCause old new TooBig cause → e ≢ SqliteFailure code.OutOfMemory → StoreFailed old new
-  cause_of big OutOfMemory e is h other = absurd (other is)
-  cause_of big Io e is h other = inl h
-  cause_of big Corrupt e is h other = inl h
-  cause_of big Full e is h other = inl h
-  cause_of big Broken e is h other = inr (inl h)
-  cause_of big Unstorable e is h other = big h
-
-  pub fails_by : {TooBig : Type 0} (big : TooBig → StoreFailed old new) (e : Error) → Fails old new TooBig e → e ≢ SqliteFailure code.OutOfMemory → StoreFailed old new
-  fails_by big e h other = cause_of big h.0 e h.1 h.2 other
-
-  module _ (sql : List ℕ) (params : Row) (before : Schema) (has : old.now.schema ≡ before) (plain : IsPlain (understood before sql)) (whole : IsWhole (length sql) (length params) (understood before sql)) where
-    no_statement : (e : Error) → ¬ IsNoStatement old sql params e
-    no_statement e (inl h) = subst IsPlain (sym (ap (λ s. understood s sql) has) ∙ h.1) plain
-    no_statement e (inr h) =
-        let known = sym (ap (λ s. understood s sql) has) ∙ h.1 in
-        let p = subst IsPlain known plain in
-        let w = subst (IsWhole (length sql) (length params)) known whole in
-        elim h.2 [
-          | inl k ↦ k.0 w.0
-          | inr (inl k) ↦ k.0 w.1
-          | inr (inr k) ↦ k.0 p.1
-        ]
-
-    pub not_run : (e : Error) → IsNotRun old new sql params e → e ≢ SqliteFailure code.OutOfMemory → StoreFailed old new
-    unfolding IsNotRun
-    not_run e (inl h) other = absurd (no_statement e h.0)
-    not_run e (inr h) other = fails_by (λ none. absurd none) e h other
-
   module _ (sql : List ℕ) (tables : Schema) (has : old.now.schema ≡ tables) (plain : IsPlain (understood tables sql)) (whole : IsWhole (length sql) 0 (understood tables sql)) where
     module _ (q : Query) (names : List (List ℕ)) (is : command_of (understood tables sql) ≡ Select (record { lets = []; body = q }) names) (unlisted : reads_listing tables sql ≡ false)
         (limited : IsRefusedByLimit tables old.step_limit q) where
@@ -114,7 +75,7 @@ module _ (old new : State) where
 
       pub store_failed : (e : Error) → FailsToQuery sql [] old new e → e ≢ SqliteFailure code.OutOfMemory → StoreFailed old new
       unfolding FailsToQuery
-      store_failed e (inl h) other = not_run sql [] tables has plain whole e h other
+      store_failed e (inl h) other = not_run old new sql [] tables has plain whole e h other
       store_failed e (inr h) other =
           let known = sym h.1.is ∙ ap (λ s. understood s sql) has in
           let p = subst IsPlain (sym known) plain in
@@ -133,38 +94,6 @@ votes_failed old new t e h other =
 pub learnt_failed : (old new : State) → old.now.schema ≡ schema → (e : Error) → FailsToQuery learnt_load_text [] old new e → e ≢ SqliteFailure code.OutOfMemory → StoreFailed old new
 learnt_failed old new has e h other =
     store_failed old new learnt_load_text schema has learnt_plain learnt_whole learnt_query _ learnt_query_is.0 learnt_query_is.1 (learnt_limited old.step_limit) e h other
-
-more_since : (a b c : ℕ) → a ≤ b → MoreFaults b c → MoreFaults a c
-more_since a b c low more = grind (arith, low, more)
-
--- what fails later fails as well from where nothing had changed
-pub since : (old mid new : State) (P : Trees → Type 0) → IsUnchanged old mid → Survives old mid P → StoreFailed mid new → StoreFailed old new
-since old mid new P same kept (inl more) = inl (more_since old.faults mid.faults new.faults kept.counts more)
-since old mid new P same kept (inr (inl shut)) = absurd (let up = same.0.is_open in cc)
-since old mid new P same kept (inr (inr limit)) = inr (inr (subst IsSome kept.limit limit))
-
-still_more : (a b c : ℕ) → MoreFaults a b → b ≤ c → MoreFaults a c
-still_more a b c more low = grind (arith, more, low)
-
--- what fails later fails as well from before a call that survives
-pub later : (old mid new : State) (P : Trees → Type 0) → HasCleanDisk mid → Survives old mid P → mid.faults ≤ new.faults → StoreFailed mid new → StoreFailed old new
-later old mid new P clean kept grows (inl more) = inl (more_since old.faults mid.faults new.faults kept.counts more)
-later old mid new P clean kept grows (inr (inl shut)) = by old.is_open refl
-  where
-    by : (b : Bool) → old.is_open ≡ b → StoreFailed old new
-    by false closed = inr (inl closed)
-    by true up = elim (kept.closes clean up) [ inl still ↦ absurd (let both : true ≡ false = sym still ∙ shut in cc) | inr more ↦ inl (still_more old.faults mid.faults new.faults more grows) ]
-later old mid new P clean kept grows (inr (inr limit)) = inr (inr (subst IsSome kept.limit limit))
-
-pub err_later : {V : Type 0} (old mid new : State) (P : Trees → Type 0) → HasCleanDisk mid → Survives old mid P → mid.faults ≤ new.faults → (r : Result V Error) → IfErr r (λ e. e ≢ SqliteFailure code.OutOfMemory → StoreFailed mid new)
-    → IfErr r (λ e. e ≢ SqliteFailure code.OutOfMemory → StoreFailed old new)
-err_later old mid new P clean kept grows (Ok v) h = tt
-err_later old mid new P clean kept grows (Err e) h = λ other. later old mid new P clean kept grows (h other)
-
--- what has failed has still failed after another call
-pub store_still : (old mid new : State) → mid.faults ≤ new.faults → StoreFailed old mid → StoreFailed old new
-store_still old mid new grows (inl more) = inl (still_more old.faults mid.faults new.faults more grows)
-store_still old mid new grows (inr rest) = inr rest
 
 pub load_fails : {V : Type 0} (old new : State) → AreTables old.now.schema → (r : Result V Error) → IfErr r (FailsToQuery load_text [] old new) → IfErr r (λ e. e ≢ SqliteFailure code.OutOfMemory → StoreFailed old new)
 load_fails old new t (Ok v) h = tt

@@ -1,7 +1,5 @@
 -- Which fault a database is.
-use Rattle.std.specs.Prelude.{◌≡◌, ◌≢◌, ◌⊎◌, ℕ, [], ◌∷◌, false, IsSome}
-use Rattle.sqlite_disk.specs.Disk.{MoreFaults}
-use Rattle.sqlite.specs.State.{State}
+use Rattle.std.specs.Prelude.{◌≡◌, ◌≢◌, ℕ, [], ◌∷◌, Result, Ok, Err}
 use Rattle.sqlite.specs.Effect.{Database}
 use Rattle.ballots.specs.Terms.{Setup}
 use Rattle.ballots.specs.declared.ballot.Ballot.{Ballot}
@@ -9,6 +7,10 @@ use Rattle.paxos.specs.Records.{Record}
 use Rattle.record_tables.specs.Texts.{no_schema}
 use Rattle.record_tables.specs.declared.version.Version.{Version}
 use Rattle.record_tables.specs.Versions.{tables_of}
+use Rattle.records.specs.declared.records.RecordsFault.{RecordsFault}
+use Rattle.records.specs.declared.records.RecordsFault.TheVariants.{Memory, Store}
+use Rattle.record_writes.specs.declared.fault.WriteFault.{WriteFault}
+use Rattle.record_writes.specs.declared.fault.WriteFault.TheVariants as write
 use Rattle.record_writes.specs.Stored.{IsPromise, IsStored, meta_row}
 use Rattle.sql_records.specs.Reading.{IsSetup, IsVersion}
 
@@ -38,7 +40,9 @@ pub record HoldsNone (version : Version) (o : Setup) (db : Database) : Type 0 wh
 abbrev pub IsDamaged : Setup → Database → Type 0
 IsDamaged o db = (db.schema ≢ no_schema) × ((version : Version) → HoldsNone version o db)
 
--- Why a store is said to have failed: the disk failed or refused in the call, or the connection was shut, or its statements may take only
--- so many steps.
-abbrev pub StoreFailed : State → State → Type 0
-StoreFailed old new = MoreFaults old.faults new.faults ⊎ ((old.is_open ≡ false) ⊎ IsSome old.step_limit)
+-- What a fault of a write is to records: where it was not seen whether the connection is still open, the store is said to have failed.
+abbrev pub told : {T : Type 0} → Result T WriteFault → Result T RecordsFault
+told (Ok t) = Ok t
+told (Err write.Memory) = Err Memory
+told (Err write.Store) = Err Store
+told (Err write.Unseen) = Err Store

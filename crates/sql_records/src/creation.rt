@@ -9,7 +9,7 @@ ghost use Rattle.sqlite_trees.specs.View.{doubt};
 ghost use Rattle.sqlite.specs.declared.error.ErrorCode.TheVariants.{OutOfMemory};
 ghost use Rattle.document_names.specs.Names.{are_document_names};
 ghost use Rattle.sql_records.specs.Created.{FirstIsEmpty, HaveNoneLearnt, HaveRows, Makes, MakesOnly, half_schema};
-ghost use Rattle.sql_records.specs.Faults.{StoreFailed};
+ghost use Rattle.record_writes.specs.Faults.{StoreFailed};
 ghost use Rattle.sql_records.specs.Opened.{IsAsBefore};
 ghost use Rattle.record_writes.specs.Holds.{Holds};
 ghost use Rattle.record_writes.specs.Stored.{IsStored, joined};

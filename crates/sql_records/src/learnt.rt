@@ -8,7 +8,7 @@ ghost use Rattle.ballots.specs.Values.{positions};
 ghost use Rattle.ballots.specs.declared.value.Value.{Value as ValueTerm};
 ghost use Rattle.record_tables.specs.Texts.{schema};
 ghost use Rattle.record_tables.specs.Versions.{tables_of};
-ghost use Rattle.sql_records.specs.Faults.{StoreFailed};
+ghost use Rattle.record_writes.specs.Faults.{StoreFailed};
 ghost use Rattle.record_writes.specs.Holds.{Ended};
 ghost use Rattle.record_writes.specs.Stored.{AreKept, KeepsLearnt};
 

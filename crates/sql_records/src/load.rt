@@ -1,7 +1,8 @@
 //! Reading a record, and judging that it is one.
 
 ghost use Rattle.std.specs.Prelude.{◌≡◌, ◌⊎◌, ◌≤◌, ◌≢◌, false, IfOk, IsErrOf, OnOk, IsTrue};
-ghost use Rattle.sql_records.specs.Faults.{HoldsNone, IsAnothersIn, StoreFailed};
+ghost use Rattle.record_writes.specs.Faults.{StoreFailed};
+ghost use Rattle.sql_records.specs.Faults.{HoldsNone, IsAnothersIn};
 ghost use Rattle.sql_records.specs.Opened.{IsAsBefore};
 ghost use Rattle.sqlite.specs.Tree.{Trees};
 ghost use Rattle.sqlite_trees.specs.View.{doubt};

@@ -9,7 +9,7 @@ ghost use Rattle.sqlite.specs.declared.error.ErrorCode.TheVariants.{OutOfMemory}
 ghost use Rattle.paxos.specs.Records.{Record};
 ghost use Rattle.record_tables.specs.Texts.{schema, schema_1};
 ghost use Rattle.sql_records.specs.Created.{HaveNoneLearnt, HaveRows, Makes, MigratesOnly};
-ghost use Rattle.sql_records.specs.Faults.{StoreFailed};
+ghost use Rattle.record_writes.specs.Faults.{StoreFailed};
 ghost use Rattle.sql_records.specs.Opened.{IsAsBefore};
 ghost use Rattle.record_writes.specs.Holds.{Holds};
 ghost use Rattle.record_writes.specs.Stored.{IsStored};

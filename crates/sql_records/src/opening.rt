@@ -1,7 +1,8 @@
 //! Opening a database as a member's records.
 
 ghost use Rattle.std.specs.Prelude.{◌≡◌, ◌≢◌, ◌⊎◌, ◌≤◌, false, IfErr, IfOk, IsErrOf, OnErr, OnOk, IsTrue};
-ghost use Rattle.sql_records.specs.Faults.{IsAnothers, IsDamaged, StoreFailed};
+ghost use Rattle.record_writes.specs.Faults.{StoreFailed};
+ghost use Rattle.sql_records.specs.Faults.{IsAnothers, IsDamaged};
 ghost use Rattle.sqlite_trees.specs.View.{doubt};
 ghost use Rattle.sqlite.specs.State.{HasCleanDisk};
 ghost use Rattle.sqlite.specs.Held.{state};

@@ -4,13 +4,14 @@ ghost use Rattle.std.specs.Prelude.{◌≡◌, ◌≤◌, ◌↔◌, None, Some,
 ghost use Rattle.paxos.specs.WellFormed.{IsRecord};
 ghost use Rattle.records.specs.Law.{Counts, Grew};
 ghost use Rattle.record_writes.specs.Members.{HasMember, HasMembers};
+ghost use Rattle.sql_records.specs.Faults.{told};
 ghost use Rattle.sql_records.specs.Opened.{IsCurrent, connection_of};
 
 use super::load::load;
 use super::reading::OpenFault;
 use ballots::laws::spellings;
 use ballots::{Ballot, Setup, Value, put_value};
-use record_writes::{put_all, put_learnt, put_promise, put_vote};
+use record_writes::{WriteFault, put_all, put_learnt, put_promise, put_vote};
 use records::{GroupRecords, PlannedRecords, Record, Records, RecordsFault, Write};
 use sqlite::{Alter, Connection};
 use std::alloc::Global;
@@ -84,13 +85,14 @@ fn count(failures: &mut u64) -> RecordsFault
 }
 
 /// Answers a write, and counts its failure.
-fn answer(failures: &mut u64, done: Result<(), RecordsFault>) -> Result<(), RecordsFault>
+fn answer(failures: &mut u64, done: Result<(), WriteFault>) -> Result<(), RecordsFault>
     ensures counts { Counts failures.old failures.new result }
-    ensures result { result ≡ done }
+    ensures result { result ≡ told done }
 {
     match done {
-        Err(RecordsFault::Store) => Err(count(failures)),
-        done => done,
+        Ok(()) => Ok(()),
+        Err(WriteFault::Memory) => Err(RecordsFault::Memory),
+        Err(WriteFault::Store | WriteFault::Unseen) => Err(count(failures)),
     }
 }
 

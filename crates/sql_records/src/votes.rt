@@ -8,7 +8,7 @@ ghost use Rattle.ballots.specs.Values.{positions};
 ghost use Rattle.ballots.specs.declared.value.Entry.{Entry as EntryTerm};
 ghost use Rattle.paxos.specs.WellFormed.{AreVotes as MayBeVotes};
 ghost use Rattle.records.specs.Kept.{IsRising};
-ghost use Rattle.sql_records.specs.Faults.{StoreFailed};
+ghost use Rattle.record_writes.specs.Faults.{StoreFailed};
 ghost use Rattle.record_writes.specs.Holds.{Ended};
 ghost use Rattle.sql_records.specs.Reading.{AreShown, AreVotes, vote_shown};
 ghost use Rattle.record_tables.specs.Versions.{AreTables};

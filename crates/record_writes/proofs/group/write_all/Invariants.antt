@@ -1,5 +1,5 @@
 use Rattle.std.proofs.Common.{◌≡◌, ◌≤◌, drop}
-use Rattle.sqlite.specs.State.{HasCleanDisk}
+use Rattle.sqlite.specs.State.{HasCleanDisk, Survives}
 use Rattle.sqlite.specs.Held.{state}
 use Rattle.sqlite_trees.specs.View.{doubt}
 use Rattle.ballots.specs.Terms.{Setup}
@@ -17,3 +17,4 @@ invariant-loop-write g l =
     let rest = drop l.write-index l.writes in
     (l.tx.conn.ghost_name ≡ l.initial.tx.conn.ghost_name) × (doubt old.is_clean ≤ doubt now.is_clean) × AreWrites rest
     × (HasCleanDisk now → (o : Setup) (last first : Record) → HasMembers o.members l.writes → MayBeWritten l.writes first → Under old o last → Sees old o first → IsWriting now o last first l.writes rest l.promised)
+    × Survives old now (λ _. ⊥)

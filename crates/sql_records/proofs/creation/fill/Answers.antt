@@ -5,9 +5,9 @@ use Rattle.sqlite.specs.State.{HasCleanDisk}
 use Rattle.sqlite.specs.Held.{state}
 use Rattle.sqlite.specs.declared.error.ErrorCode.TheVariants.{OutOfMemory}
 use Rattle.sqlite.specs.declared.error.Error.TheVariants.{SqliteFailure}
-use Rattle.sql_records.specs.Faults.{StoreFailed}
+use Rattle.record_writes.specs.Faults.{StoreFailed}
 use Rattle.sql_records.proofs.Queried.{was_clean}
-use Rattle.sql_records.proofs.StoreFaults.{err_later}
+use Rattle.record_writes.proofs.Failing.{err_later}
 use Rattle.sql_records.proofs.Undone.{keeps_both}
 use Rattle.sql_records.proofs.creation.fill.Goals as goal
 

@@ -13,8 +13,9 @@ use Rattle.record_writes.specs.Stored.{AreKept}
 use Rattle.sql_records.specs.Reading.{AreLearnt, ShowsLearnt, ShowsNotNext, learnt_shown}
 use Rattle.record_tables.specs.Texts.{schema, learnt_load_text}
 use Rattle.sql_records.proofs.Means.{learnt_plain}
-use Rattle.sql_records.specs.Faults.{StoreFailed}
-use Rattle.sql_records.proofs.StoreFaults.{since, learnt_failed}
+use Rattle.record_writes.specs.Faults.{StoreFailed}
+use Rattle.record_writes.proofs.Failing.{since}
+use Rattle.sql_records.proofs.StoreFaults.{learnt_failed}
 use Rattle.sql_records.proofs.Queried.{fails_ended, query_commits_nothing, was_clean, learnt_queried}
 use Rattle.sql_records.proofs.Read.{learnt_more, too_many}
 use Rattle.sql_records.proofs.Loaded.{kept_loaded}

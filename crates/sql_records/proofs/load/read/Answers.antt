@@ -15,7 +15,7 @@ use Rattle.sql_records.proofs.Loaded.{member_row}
 use Rattle.sql_records.proofs.Refused.{no_member, no_values, no_votes}
 use Rattle.sql_records.proofs.Owned.{anothers}
 use Rattle.sql_records.proofs.Judged.{sound, sound_record, stored}
-use Rattle.sql_records.proofs.StoreFaults.{since}
+use Rattle.record_writes.proofs.Failing.{since}
 use Rattle.sql_records.proofs.Queried.{was_clean}
 use Rattle.record_writes.proofs.Holding.{quiet}
 use Rattle.ballots.specs.declared.value.Entry.{Entry}

@@ -2,11 +2,11 @@ use Rattle.std.proofs.Common.{◌≡◌, arith, rules, sym, subst}
 use Rattle.sqlite.specs.State.{HasCleanDisk}
 use Rattle.sqlite.specs.Held.{state}
 use Rattle.sql_records.specs.Created.{MigratesOnly}
-use Rattle.sql_records.specs.Faults.{StoreFailed}
+use Rattle.record_writes.specs.Faults.{StoreFailed}
 use Rattle.record_writes.specs.Holds.{Holds}
-use Rattle.sql_records.proofs.Migrating.{begins, commit_failed, failed_since, made_now, migrates, survived}
+use Rattle.sql_records.proofs.Migrating.{begins, failed_since, made_now, migrates, survived}
 use Rattle.sql_records.proofs.Queried.{was_clean}
-use Rattle.sql_records.proofs.StoreFaults.{later, store_still}
+use Rattle.record_writes.proofs.Failing.{commit_failed, later, store_still}
 use Rattle.sql_records.specs.Opened.{IsAsBefore}
 use Rattle.sql_records.proofs.Undone.{back_failed, back_rolled}
 use Rattle.sql_records.proofs.migration.migrate.Goals as goal
@@ -56,7 +56,7 @@ returns-in-Err-commit-clause-store g c clean is =
     let kept = survived g.S.Store h b begun (state g.S.Store mid) _ c.rewrite.ensures.survives in
     let it = c.requires.held (was_clean (state g.S.Store h) (state g.S.Store mid) _ kept mid_clean) in
     let made = c.in_default.ensures.made mid_clean (state g.S.Store h).now.trees it.0 it.1 (begins g.S.Store h b begun c.requires.first) in
-    let failed = commit_failed (state g.S.Store h) (state g.S.Store mid) (state g.S.Store end) c.args.setup.now made.mode c.in-Err-commit.error (c.in-Err-commit.ensures.err late) other in
+    let failed = commit_failed (state g.S.Store mid) (state g.S.Store end) made.mode c.in-Err-commit.error (c.in-Err-commit.ensures.err late) other in
     subst (λ x. StoreFailed (state g.S.Store h) (state g.S.Store x)) same (later (state g.S.Store h) (state g.S.Store mid) (state g.S.Store end) _ mid_clean kept c.commit.ensures.survives.counts failed)
 
 pub returns-in-Err-commit-clause-migrates : goal.returns-in-Err-commit-clause-migrates

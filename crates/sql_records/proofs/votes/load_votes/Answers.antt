@@ -14,8 +14,9 @@ use Rattle.record_tables.specs.Texts.{votes_load_text}
 use Rattle.record_tables.specs.Versions.{AreTables}
 use Rattle.paxos.specs.WellFormed.{AreVotes as MayBeVotes}
 use Rattle.sql_records.proofs.Means.{votes_plain}
-use Rattle.sql_records.specs.Faults.{StoreFailed}
-use Rattle.sql_records.proofs.StoreFaults.{since, votes_failed}
+use Rattle.record_writes.specs.Faults.{StoreFailed}
+use Rattle.record_writes.proofs.Failing.{since}
+use Rattle.sql_records.proofs.StoreFaults.{votes_failed}
 use Rattle.sql_records.proofs.Queried.{votes_bare, fails_ended, query_commits_nothing, was_clean, votes_queried}
 use Rattle.sql_records.proofs.Read.{UpTo, last_is, last_of, read_more, still_up_to, still_votes, too_many}
 use Rattle.sql_records.proofs.Ordered.{refuses}
