@@ -17,8 +17,8 @@ use Rattle.ballots.specs.declared.value.Value.{Value}
 use Rattle.ballots.specs.declared.value.Value.TheVariants.{NoOp, Request}
 use Rattle.ballots.specs.Replies.{fault}
 use Rattle.ballots.specs.Terms.{Request as RequestTerm}
-use Rattle.requests.specs.Requests as requests
-use Rattle.requests.specs.Requests.{Ran, run, of_evaluated}
+use Rattle.sessions.specs.Requests as requests
+use Rattle.sessions.specs.Requests.{Ran, run, of_evaluated}
 use Rattle.questions.specs.Answers as questions
 use Rattle.questions.specs.Answers.{answer, of_outcome}
 use Rattle.sessions.specs.Meaning.{all_run, kept_reply, new_requests, once, once_after, reply_after, reply_for, store_of, value_ran}

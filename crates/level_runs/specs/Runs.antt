@@ -13,9 +13,9 @@ use Rattle.ballots.specs.declared.value.Value.{Value}
 use Rattle.ballots.specs.declared.value.Value.TheVariants.{NoOp, Request}
 use Rattle.ballots.specs.Replies.{Answered, fault}
 use Rattle.ballots.specs.Terms.{Request as RequestTerm}
-use Rattle.requests.specs.Requests.{Ran, failed, of_evaluated}
+use Rattle.sessions.specs.Requests.{Ran, failed, of_evaluated}
 use Rattle.questions.specs.Answers.{of_outcome}
-use Rattle.requests.specs.declared.running.Ending.TheVariants.{Done}
+use Rattle.sessions.specs.declared.running.Ending.TheVariants.{Done}
 use Rattle.sessions.specs.Meaning.{once, reply_for}
 use Rattle.sessions.specs.Terms.{is_of}
 use Rattle.level_laws.specs.Levels.{Copying, evaluated_with}

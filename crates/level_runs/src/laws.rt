@@ -5,7 +5,7 @@ ghost use Rattle.std.specs.List.{All};
 ghost use Rattle.trees.specs.Forest.{ForestTerm};
 ghost use Rattle.ballots.specs.declared.request.RequestId.{RequestId};
 ghost use Rattle.ballots.specs.declared.value.Value.{Value};
-ghost use Rattle.requests.specs.Requests.{run};
+ghost use Rattle.sessions.specs.Requests.{run};
 ghost use Rattle.questions.specs.Answers.{answer};
 ghost use Rattle.sessions.specs.Meaning.{kept_reply, store_of};
 ghost use Rattle.level_laws.specs.Levels.{Copying};

@@ -1,3 +1,4 @@
+pub mod Expressions
 pub mod Meanings
 pub mod Opening
 pub mod Within

@@ -1,3 +1,4 @@
+pub mod Requests
 pub mod Terms
 pub mod Meaning
 pub mod Session

@@ -8,9 +8,9 @@ use Rattle.ballots.specs.declared.request.RequestId.{RequestId}
 use Rattle.ballots.specs.declared.reply.Reply.{Reply}
 use Rattle.ballots.specs.declared.reply.Reply.TheVariants as reply
 use Rattle.ballots.specs.Terms.{Request as RequestTerm}
-use Rattle.requests.specs.Requests.{Ran, run}
-use Rattle.requests.specs.declared.running.Ending.{Ending}
-use Rattle.requests.specs.declared.running.Ending.TheVariants as ending
+use Rattle.sessions.specs.Requests.{Ran, run}
+use Rattle.sessions.specs.declared.running.Ending.{Ending}
+use Rattle.sessions.specs.declared.running.Ending.TheVariants as ending
 use Rattle.sessions.specs.Terms.{id_of, is_of}
 
 -- the requests of a value that comes after others: its own where it is the first occurrence of that, none where it is a later one or no request

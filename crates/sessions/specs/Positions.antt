@@ -3,8 +3,8 @@ use Rattle.std.proofs.Common.{◌≡◌, ℕ, suc, ◌+◌, ◌≤◌, Bool, tru
 use Rattle.ballots.specs.declared.value.Value.{Value}
 use Rattle.ballots.specs.declared.request.RequestId.{RequestId}
 use Rattle.ballots.specs.declared.reply.Reply.{Reply}
-use Rattle.requests.specs.declared.running.Ending.{Ending}
-use Rattle.requests.specs.declared.running.Ending.TheVariants as ending
+use Rattle.sessions.specs.declared.running.Ending.{Ending}
+use Rattle.sessions.specs.declared.running.Ending.TheVariants as ending
 use Rattle.applications.specs.Limits.{applied_at}
 use Rattle.sessions.specs.Terms.{is_of}
 use Rattle.sessions.specs.Meaning.{reply_for, value_ran, store_of, reply_after, kept_reply}

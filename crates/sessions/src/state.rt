@@ -9,10 +9,11 @@ ghost use Rattle.questions.specs.Answers.{answer};
 ghost use Rattle.sessions.specs.Meaning.{kept_reply, store_of, reply_for};
 ghost use Rattle.ballots.specs.declared.reply.Reply.{Reply as ReplyTerm};
 
+use super::running;
+use super::running::Ending;
 use ballots::{Answer, Reply, Request, RequestId, Value};
 use document_names::Names;
 use indexmap::IndexMap;
-use requests::Ending;
 use std::alloc::Global;
 use std::marker::Model;
 use trees::Forest;
@@ -111,7 +112,7 @@ impl State {
             return Err(NoMemory);
         }
         let level = request.level();
-        let Ok(ending) = requests::run(alloc, &mut self.forest, level, request.text()) else {
+        let Ok(ending) = running::run(alloc, &mut self.forest, level, request.text()) else {
             return Err(NoMemory);
         };
         self.applied += 1;

@@ -2,7 +2,7 @@ use Rattle.std.proofs.Common.{◌≡◌, Bool, ◌+◌, ◌++◌, ◌∷◌, [],
 use Rattle.ballots.specs.declared.request.RequestId.{RequestId}
 use Rattle.ballots.specs.contracts.request.RequestIdPartialEq as ids
 use Rattle.query_meaning.specs.Running.{most_nodes}
-use Rattle.requests.specs.Requests.{Ran, run}
+use Rattle.sessions.specs.Requests.{Ran, run}
 use Rattle.sessions.specs.Terms.{id_of}
 use Rattle.sessions.specs.Meaning.{request_ran, reply_for}
 use Rattle.sessions.specs.Session.{SessionTerm, reply_to_new}

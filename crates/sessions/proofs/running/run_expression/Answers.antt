@@ -2,8 +2,8 @@ use Rattle.std.proofs.Common.{rules, ◌≤◌, ◌<◌, List, sym, subst, arith
 use Rattle.data_model.specs.Trees.{append, count}
 use Rattle.pending.specs.Primitives.{PrimitiveTerm}
 use Rattle.update_meaning.specs.Brought.{new_trees}
-use Rattle.requests.proofs.Expressions.{fails, beside_stored, among_new}
-use Rattle.requests.proofs.running.run_expression.Goals as goal
+use Rattle.sessions.proofs.Expressions.{fails, beside_stored, among_new}
+use Rattle.sessions.proofs.running.run_expression.Goals as goal
 
 pub returns-in-Err-Code-clause-ran : goal.returns-in-Err-Code-clause-ran
 returns-in-Err-Code-clause-ran c =

@@ -10,7 +10,7 @@ use Rattle.query_meaning.specs.Environment.{no_environment}
 use Rattle.query_meaning.specs.Meaning.{evaluated, mean, outcome, start}
 use Rattle.meaning_laws.proofs.Sound.{both_counted}
 use Rattle.evaluator.specs.Outcomes.{evaluated_over, given}
-use Rattle.requests.specs.Requests.{of_evaluated, failed}
+use Rattle.sessions.specs.Requests.{of_evaluated, failed}
 
 no_value : (r : Result (List Item × Run) Code) (code : Code) → given r ≡ Err code → outcome r ≡ Err code
 no_value (Ok p) code h = absurd cc

@@ -6,7 +6,7 @@ ghost use Rattle.pending.specs.Compatible.{conflict};
 ghost use Rattle.pending.specs.Primitives.{primitive_term};
 ghost use Rattle.query_meaning.specs.Meaning.{evaluated};
 ghost use Rattle.query_meaning.specs.Running.{most_nodes};
-ghost use Rattle.requests.specs.Requests.{run, of_evaluated, of_checked};
+ghost use Rattle.sessions.specs.Requests.{run, of_evaluated, of_checked};
 ghost use Rattle.update_meaning.specs.Brought.{new_trees};
 ghost use Rattle.update_meaning.specs.Results.{IsStored};
 

@@ -9,8 +9,8 @@ use Rattle.pending.specs.Primitives.{PrimitiveTerm}
 use Rattle.pending.specs.Compatible.{conflict}
 use Rattle.query_meaning.specs.Meaning.{Outcome, evaluated}
 use Rattle.update_meaning.specs.Results.{applied}
-use Rattle.requests.specs.declared.running.Ending.{Ending}
-use Rattle.requests.specs.declared.running.Ending.TheVariants.{Done, Fault}
+use Rattle.sessions.specs.declared.running.Ending.{Ending}
+use Rattle.sessions.specs.declared.running.Ending.TheVariants.{Done, Fault}
 
 -- the store that a request leaves, and how it ends
 pub record Ran : Type 0 where
