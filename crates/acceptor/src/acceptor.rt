@@ -248,6 +248,7 @@ impl<R: Records + Drop> Acceptor<R> {
         let Ok(window) = self.kept.window(alloc, ballot, from) else {
             return Err(RecordsFault::Memory);
         };
+        // A Prepare that comes again is answered again, since the first answer may be lost; the record says it already.
         let write = if promise.is_below(ballot) {
             Some(Write::Promise(ballot))
         } else {
@@ -287,6 +288,7 @@ impl<R: Records + Drop> Acceptor<R> {
                 write: None,
             });
         }
+        // The vote is told again, since that may have been lost; the record has it already.
         if self.kept.has_vote(position, vote) {
             return Ok(Draft {
                 answer: true,

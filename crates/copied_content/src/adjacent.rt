@@ -11,9 +11,10 @@ ghost use Rattle.copied_content.specs.Merging.{and_merged, within_bytes};
 
 use crate::copied::CopiedContent;
 use data_model::limits::MOST_BYTES;
+use fault_codes::Code;
 use std::alloc::{AllocError, Global};
 use trees::Tree;
-use values::{Code, ValueFault};
+use values::ValueFault;
 
 impl CopiedContent {
     /// The same, but adjacent texts are merged, and empty ones are gone: a text takes in those after it, and keeps its identity. Each

@@ -11,10 +11,11 @@ ghost use Rattle.copied_content.specs.Copying.{IsPlain, copied_as_new, numbered}
 use crate::copied::CopiedContent;
 use data_model::{node_count, renumber};
 use evaluation::Evaluation;
+use fault_codes::Code;
 use shelves::Shelf;
 use std::alloc::AllocError;
 use trees::{Kind, NodeId};
-use values::{Code, ValueFault};
+use values::ValueFault;
 
 /// A copy of the tree of a node, or of a document's children, whose nodes take the next identities in document order. It takes the work of
 /// the node's texts. Codes: PXQ0002 where too little work is left, and then nothing is copied; PXQ0003 where the evaluation would have made

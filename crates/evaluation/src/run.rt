@@ -18,13 +18,14 @@ ghost use Rattle.evaluation.specs.Gives.{Any, Fails, GivesIn, Judged, Says, Stan
 
 use crate::environment::Variables;
 use crate::sequence::Sequence;
+use fault_codes::Code;
 use pending::{ListFault, PendingList, Primitive};
 use shelves::Shelf;
 use std::alloc::{AllocError, Global};
 use std::marker::Model;
 use std::mem;
 use trees::{Forest, NodeId, Tree};
-use values::{Atom, Code, Comparison, Item, ValueFault, atom_work, atomize_item, compare_general};
+use values::{Atom, Comparison, Item, ValueFault, atom_work, atomize_item, compare_general};
 
 /// The most turns in an evaluation (our own limit).
 const MOST_TURNS: u64 = 1_000_000;

@@ -10,9 +10,10 @@ ghost use Rattle.values.specs.declared.fault.ValueFault.{ValueFault};
 ghost use Rattle.query_meaning.specs.Running.{most_items, within};
 ghost use Rattle.evaluation.specs.Gives.{Judged, Says};
 
+use fault_codes::Code;
 use std::alloc::{AllocError, Global};
 use std::marker::Model;
-use values::{Atom, Code, Item, ValueFault};
+use values::{Atom, Item, ValueFault};
 
 /// The most items in a sequence (our own limit).
 pub const MOST_ITEMS: usize = 10_000;

@@ -180,6 +180,7 @@ impl Learner {
         ensures same { IsAsWas self.old self.new }
     {
         self.forget_rooms();
+        // What is chosen stays chosen, so a vote more tells nothing, and is not counted.
         if self.chosen.get(position).is_some() {
             return Ok(Draft {
                 change: Change::Nothing,

@@ -101,6 +101,7 @@ impl<R: Records + Drop> Member<R> {
     {
         let from = learnt + 1;
         let known = positions_from(alloc, &self.learner, from)?;
+        // The next round after its own promise, which is no lower than any ballot that it began: so no ballot begins twice, after a restart either.
         let promise = self.promised();
         let ballot = Ballot {
             round: promise.round + 1,

@@ -48,6 +48,7 @@ fn split_header(bytes: &[u8]) -> Result<(Header, &[u8]), WireFault>
     ensures value { IfOk result (λ p. header_read bytes.now ≡ Gives (p.0.group, (p.0.sender, p.0.kind)) p.1.now) }
     ensures fault { IfErr result (λ f. header_read bytes.now ≡ Fails f) }
 {
+    // Faults from the left: the first that counts is that of the first wrong field, however the rest reads.
     let (mark, rest) = split_u32(bytes)?;
     if mark != MARK {
         return Err(WireFault::Mark);

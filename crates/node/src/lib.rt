@@ -8,6 +8,7 @@ mod fault;
 mod node;
 mod outbox;
 mod spelling;
+mod steps;
 
 pub use ballots::Setup;
 pub use draft::Draft;

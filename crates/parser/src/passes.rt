@@ -5,6 +5,7 @@ ghost use Rattle.std.specs.Str.{chars};
 ghost use Rattle.parser.specs.Passes.{IsChecked};
 ghost use Rattle.static_checks.specs.Static.{IsAnswer, IsExpression, checked, of_tokens, parsed};
 
+use fault_codes::Code;
 use query_grammar::Expr;
 use query_rules::read_query;
 use query_tokens::{ParseFault, Tokens, read_tokens};
@@ -12,7 +13,6 @@ use static_checks::{
     binds_a_name_twice, category_fault, has_fault, has_unbound, has_unknown_call, nests_too_deep,
 };
 use std::alloc::Global;
-use values::Code;
 
 /// The passes over an expression, one after another.
 fn check_in_turn(alloc: Global, x: &Expr) -> Result<(), ParseFault>

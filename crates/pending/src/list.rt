@@ -7,9 +7,9 @@ ghost use Rattle.pending.specs.Primitives.{primitive_term};
 
 use super::primitive::Primitive;
 use super::targets::{Once, has_two};
+use fault_codes::Code;
 use std::alloc::{AllocError, Global};
 use std::marker::Model;
-use values::Code;
 
 /// The most primitives in a list (our own choice).
 pub const MOST_PRIMITIVES: usize = 10_000;

@@ -1,10 +1,11 @@
 -- What trees say but for identities, and what it decides.
 use Rattle.std.proofs.Common.{◌≡◌, ℕ, suc, ◌+◌, ◌/◌, Bool, true, false, ◌&&◌, nat_le, if◌then◌else◌, List, length, refl, ap, ap₂, sym, ◌∙◌}
 use Rattle.data_model.specs.Changes.{renumbered}
+use Rattle.data_model.specs.Limits.{most_listed, most_height}
 use Rattle.data_model.specs.Tidy.{lacks_name, has_distinct_names, begins_with_text}
 use Rattle.data_model.specs.Trees.{Trees, no_trees, tree, append, bytes_in, roots, size, height}
 use Rattle.data_model.specs.declared.node.Kind.{Kind}
-use Rattle.query_meaning.specs.Content.{those, are_all, is_attribute, is_other, has_attributes_first, has_room, most_below, most_height}
+use Rattle.query_meaning.specs.Content.{those, are_all, is_attribute, is_other, has_attributes_first, has_room}
 use Rattle.printed_meaning.specs.Made.{anonymous, copy_work}
 
 pub anonymous_append : (ts us : Trees) → anonymous (append ts us) ≡ append (anonymous ts) (anonymous us)
@@ -68,7 +69,7 @@ same_first no_trees = refl
 same_first (tree c bs cs rest) = ap₂ (λ a b. if is_attribute c.kind then a else b) (same_first rest) (same_all is_other rest)
 
 pub same_room : (ts : Trees) → has_room (anonymous ts) ≡ has_room ts
-same_room ts = ap₂ (λ n m. nat_le n most_below && nat_le (m + 1) most_height) (same_length ts) (same_height ts)
+same_room ts = ap₂ (λ n m. nat_le n most_listed && nat_le (m + 1) most_height) (same_length ts) (same_height ts)
 
 -- such a number or test is the same for trees that say the same
 pub carried : {A : Type 0} (f : Trees → A) → ((ts : Trees) → f (anonymous ts) ≡ f ts) → (ts us : Trees) → anonymous ts ≡ anonymous us → f ts ≡ f us

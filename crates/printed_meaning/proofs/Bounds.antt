@@ -2,7 +2,7 @@
 use Rattle.std.proofs.Common.{◌≡◌, ℕ, zero, suc, ◌+◌, ◌*◌, ◌≤◌, Bool, true, false, if◌then◌else◌, nat_le, length, arith}
 use Rattle.std.proofs.lemmas.Bool.{and_parts, leb-true}
 use Rattle.data_model.specs.Trees.{Trees, no_trees, tree, Content, append, bytes_in, height, is_inner, roots, size}
-use Rattle.query_meaning.specs.Content.{most_below, most_height}
+use Rattle.data_model.specs.Limits.{most_listed, most_height}
 use Rattle.query_meaning.specs.Running.{most_nodes, most_work}
 use Rattle.values.specs.Work.{text_work}
 use Rattle.printed_meaning.specs.Made.{comma_work, content_work, copy_work, depths, have_room, work_of}
@@ -52,11 +52,10 @@ work_few (suc h) (tree c bs cs rest) low =
     omega (arith, b, d, r, own, roots_append bs cs, bytes_append bs cs)
 
 low_trees : (ts : Trees) → have_room ts ≡ true → height ts ≤ 60
-unfolding most_height
 low_trees no_trees h = omega arith
 low_trees (tree c bs cs rest) h =
     let at = room_at c bs cs rest h in
-    let low = leb-true (height (append bs cs) + 1) most_height (and_parts (nat_le (length (roots (append bs cs))) most_below) (nat_le (height (append bs cs) + 1) most_height) at.here).1 in
+    let low = leb-true (height (append bs cs) + 1) most_height (and_parts (nat_le (length (roots (append bs cs))) most_listed) (nat_le (height (append bs cs) + 1) most_height) at.here).1 in
     let inner = height_append bs cs in
     omega (arith, low, inner.0, inner.1, low_trees rest at.others)
 

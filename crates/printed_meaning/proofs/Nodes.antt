@@ -24,7 +24,8 @@ use Rattle.query_grammar.specs.declared.ast.Expr.TheVariants as e
 use Rattle.query_grammar.specs.declared.ast.Name.TheVariants.{Written}
 use Rattle.query_meaning.specs.Constructors as constructors
 use Rattle.query_meaning.specs.Constructors.{assembled, with_text}
-use Rattle.query_meaning.specs.Content.{are_all, is_attribute, is_other, attributes, others, has_room, most_below, element_fault, document_fault}
+use Rattle.query_meaning.specs.Content.{are_all, is_attribute, is_other, attributes, others, has_room, element_fault, document_fault}
+use Rattle.data_model.specs.Limits.{most_listed}
 use Rattle.query_meaning.specs.Environment.{Environment}
 use Rattle.query_meaning.specs.Meaning.{mean}
 use Rattle.query_meaning.specs.Running.{Run, trees_of, and_then, ◌>>=◌, most_items}
@@ -135,8 +136,8 @@ parts_come (x ∷ y ∷ xs) (tree c bs cs (tree d es ds rest)) few h =
     subst (λ m. AllCome m ts) (sym (mean_sequence (x ∷ y ∷ xs))) (sequence_comes (map mean (x ∷ y ∷ xs)) ts few h)
 
 few_parts : (ts : Trees) → has_room ts ≡ true → length (roots ts) ≤ most_items
-unfolding most_items most_below
-few_parts ts h = leb-true (length (roots ts)) most_below (and_parts _ _ h).0
+unfolding most_items
+few_parts ts h = leb-true (length (roots ts)) most_listed (and_parts _ _ h).0
 
 -- A node with parts.
 

@@ -183,6 +183,7 @@ impl Lead {
         ensures gone { IfOk result (λ n. HasGone members (view_of self.new n) (left_open self.new n) self.new.next n.made) }
         ensures ready { IfOk result (λ n. CanTake self.new n) }
     {
+        // Room comes first, so that taking the news cannot be refused any more.
         self.make_room(&entries, &learnt)?;
         let waiting = self.left_open(&learnt);
         let from = self.next;

@@ -306,6 +306,8 @@ impl Proposer {
         ensures ready { IfOk result (λ d. IsReady self.new d.change) }
     {
         if let Some(lead) = &mut self.lead {
+            // What does not join is of another ballot, tells nothing new, or leaves a gap behind what its member has told: in the gap it may have
+            // voted, so it is asked for that again.
             if lead.joins(sender, window) {
                 let entries = copy_entries(&window.entries)?;
                 let news = lead.news(

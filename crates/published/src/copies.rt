@@ -231,6 +231,7 @@ impl<A: Application + Drop, J: Naming + Opening> Copies<A, J> {
             roll,
             mut sight,
         } = self;
+        // The list gets the entry before any copy has applied it: a copy never shows what is not in the list.
         let Some(entry) = Entry::next(&roll, &mut sight, value) else {
             return Err(AllocError);
         };

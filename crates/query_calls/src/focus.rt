@@ -8,8 +8,9 @@ ghost use Rattle.query_calls.specs.Parts.{context, of_context};
 use crate::nodes::{name, root, string};
 use crate::sequences::integer_of;
 use evaluation::{Environment, Evaluation, Sequence};
+use fault_codes::Code;
 use std::alloc::{AllocError, Global};
-use values::{Code, ValueFault};
+use values::ValueFault;
 
 /// `position`: the position of the context item (Functions and Operators, section 16.1). Code: XPDY0002 where there is none.
 pub fn position(run: &mut Evaluation, env: &Environment) -> Result<Sequence, ValueFault>

@@ -11,10 +11,11 @@ ghost use Rattle.query_calls.specs.Parts.{name_of};
 
 use crate::sequences::string_of;
 use evaluation::{Evaluation, Sequence};
+use fault_codes::Code;
 use query_strings::{one_text, printed};
 use shelves::Shelf;
 use trees::NodeId;
-use values::{Atom, Code, Item, Text, ValueFault};
+use values::{Atom, Item, Text, ValueFault};
 
 /// `doc`: the document of that name (Functions and Operators, section 15.5.4). Codes: PXQ0002 where a string value is too long or too
 /// little work is left; XPTY0004 where there is more than one value, or an integer or a boolean; FODC0002 where no document has that name.

@@ -14,9 +14,10 @@ ghost use Rattle.query_strings.specs.Texts.{text_at};
 
 use crate::sequences::{boolean_of, integer_of, string_of};
 use evaluation::{Evaluation, Sequence};
+use fault_codes::Code;
 use query_strings::{all_printed, holds, one_text, separated, text_in};
 use std::alloc::Global;
-use values::{Atom, Code, ValueFault};
+use values::{Atom, ValueFault};
 
 /// The text of a string argument, empty where there is no value. Code: XPTY0004 where there is more than one value, or an integer or a
 /// boolean.

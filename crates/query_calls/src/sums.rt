@@ -8,7 +8,8 @@ ghost use Rattle.query_calls.specs.Parts.{sum_of};
 
 use crate::sequences::integer_of;
 use evaluation::{Evaluation, Sequence};
-use values::{Atom, Code, ValueFault, read_integer};
+use fault_codes::Code;
+use values::{Atom, ValueFault, read_integer};
 
 /// `sum`: the sum of integers from the left, 0 where there are none; an untyped value is read as one (Functions and Operators, section
 /// 15.4.5). Codes: PXQ0002 where a string value is too long or too little work is left; FORG0006 at a string or a boolean; FORG0001 where

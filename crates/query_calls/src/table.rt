@@ -15,8 +15,9 @@ use crate::strings::{concat, contains, ends_with, starts_with, string_join, stri
 use crate::sums::sum;
 use crate::truths::{boolean, not, truth_value};
 use evaluation::{Environment, Evaluation, Sequence};
+use fault_codes::Code;
 use query_grammar::Function;
-use values::{Code, ValueFault};
+use values::ValueFault;
 
 /// What a function makes of the values of its arguments. Codes: XPST0017 where there is none, or it takes another number of them; those of
 /// the function.

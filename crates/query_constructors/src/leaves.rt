@@ -9,11 +9,12 @@ ghost use Rattle.query_constructors.specs.Names.{expression_in, named_by};
 
 use crate::roots::with_text;
 use evaluation::{Environment, Evaluation, Sequence};
+use fault_codes::Code;
 use query_grammar::{Expr, Name};
 use query_strings::{LimitedString, after_spaces, ends_in_hyphen, holds, spaced};
 use sqlite_items::Boxed;
 use trees::Kind;
-use values::{Atom, Code, ValueFault};
+use values::{Atom, ValueFault};
 
 /// Computed constructors, over a function value that evaluates their parts.
 #[derive(Clone, Copy)]

@@ -12,12 +12,13 @@ ghost use Rattle.query_constructors.specs.Names.{expression_in, name_in, named_b
 
 use crate::leaves::Constructors;
 use evaluation::{Environment, Evaluation, Sequence};
+use fault_codes::Code;
 use query_grammar::{Expr, Name};
 use query_strings::one_text;
 use sqlite_items::Boxed;
 use std::alloc::Global;
 use trees::Kind;
-use values::{Atom, Code, Text, ValueFault};
+use values::{Atom, Text, ValueFault};
 
 impl<F: Fn(&mut Evaluation, &Expr, &Environment) -> Result<Sequence, ValueFault>> Constructors<F> {
     /// The name of a new node of that kind. Codes: that of the expression which gives it; PXQ0002 where a string value is too long or too

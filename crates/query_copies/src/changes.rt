@@ -18,11 +18,12 @@ use crate::roots::CopyRoots;
 use crate::targets::are_in_copies;
 use apply::{ApplyFault, apply_copies};
 use evaluation::{Environment, Evaluation, Sequence};
+use fault_codes::Code;
 use meaning_laws::laws::own_lists_bring_new_nodes;
 use pending::{CheckFault, PendingList};
 use query_grammar::Expr;
 use std::alloc::Global;
-use values::{Code, ValueFault};
+use values::ValueFault;
 
 impl<F: Fn(&mut Evaluation, &Expr, &Environment) -> Result<Sequence, ValueFault>> Copies<F> {
     /// Changes the copies with these roots by the primitives that an expression gives. Codes: those of the expression; XUDY0014 where a target is no node of a

@@ -15,9 +15,10 @@ ghost use Rattle.query_copies.specs.Steps.{copied};
 use crate::copies::Copies;
 use crate::made::MadeCopies;
 use evaluation::{Environment, Evaluation, Sequence};
+use fault_codes::Code;
 use query_grammar::{Binding, Expr};
 use trees::NodeId;
-use values::{Code, Item, ValueFault};
+use values::{Item, ValueFault};
 
 impl<F: Fn(&mut Evaluation, &Expr, &Environment) -> Result<Sequence, ValueFault>> Copies<F> {
     /// Copies of the nodes that sources give, each made as soon as its source is evaluated. Codes: those of the sources; XUTY0013 where one gives anything

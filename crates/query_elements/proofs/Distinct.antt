@@ -8,7 +8,7 @@ use Rattle.std.proofs.lemmas.Slice.Eq.{bytes_eq-Decides}
 use Rattle.data_model.specs.Tidy.{lacks_name, has_distinct_names}
 use Rattle.data_model.specs.Tree.{TreeTerm, all_of}
 use Rattle.data_model.specs.Trees.{Trees, no_trees, tree, roots, height}
-use Rattle.query_meaning.specs.Content.{attributes, is_attribute, has_room, most_below, most_height}
+use Rattle.query_meaning.specs.Content.{attributes, is_attribute, has_room}
 use Rattle.name_sets.specs.NameSets.{is_among}
 
 -- none of the trees has one of the names
@@ -128,7 +128,6 @@ width (t ∷ ts) = ap suc (width ts)
 
 -- room below a node
 pub room : (ts : List TreeTerm) → has_room (all_of ts) ≡ nat_le (length ts) 10000 && nat_le (height (all_of ts)) 59
-unfolding most_below most_height
 room ts = ap (λ n. nat_le n 10000 && nat_le (height (all_of ts) + 1) 60) (width ts) ∙ ap (λ b. nat_le (length ts) 10000 && b) (of (height (all_of ts)))
   where
     of : (n : ℕ) → nat_le (n + 1) 60 ≡ nat_le n 59

@@ -10,13 +10,12 @@ ghost use Rattle.evaluation.specs.Gives.{Says};
 
 use copied_content::CopiedContent;
 use data_model::are_within_levels;
+use data_model::limits::MOST_LISTED;
+use fault_codes::Code;
 use name_sets::NameSet;
 use std::alloc::{AllocError, Global};
 use trees::{Kind, Tree};
-use values::{Code, ValueFault};
-
-/// The most attributes and children of a node (our own limit).
-const MOST_BELOW: usize = 10_000;
+use values::ValueFault;
 
 /// The most levels below a node (our own limit).
 const MOST_LEVELS_BELOW: u64 = 59;
@@ -97,9 +96,8 @@ fn add_attribute<'a>(names: &mut NameSet<'a>, tree: &'a Tree) -> Result<bool, Al
 }
 
 /// Whether a node may have so many trees, with so many levels, below it.
-#[tactic(auto, unfolding(query_meaning::specs::Content::most_below, query_meaning::specs::Content::most_height))]
 fn has_room(trees: &[Tree]) -> bool
     ensures { result ≡ meaning.has_room (all_of trees.now) }
 {
-    trees.len() <= MOST_BELOW && are_within_levels(trees, MOST_LEVELS_BELOW)
+    trees.len() <= MOST_LISTED && are_within_levels(trees, MOST_LEVELS_BELOW)
 }

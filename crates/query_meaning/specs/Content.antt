@@ -11,7 +11,7 @@ use Rattle.fault_codes.specs.declared.code.Code.TheVariants.{XPTY0004, XQTY0024,
 use Rattle.values.specs.declared.atom.Atom.{Atom}
 use Rattle.values.specs.declared.atom.Item.{Item}
 use Rattle.values.specs.declared.atom.Item.TheVariants as item
-use Rattle.data_model.specs.Limits.{most_bytes}
+use Rattle.data_model.specs.Limits.{most_bytes, most_listed, most_height}
 use Rattle.values.specs.Work.{text_work}
 use Rattle.query_meaning.specs.Running.{M, pure, ◌>>=◌, come_to, copying, seen, each, new_nodes, work}
 use Rattle.query_meaning.specs.Strings.{spaced}
@@ -93,15 +93,9 @@ has_attributes_first (tree c bs cs rest) = if is_attribute c.kind then has_attri
 abbrev pub without_adjacent_texts : Trees → Result Trees Code
 without_adjacent_texts ts = if texts_within most_bytes (merged ts) then Ok (without_empty_texts (merged ts)) else Err PXQ0002
 
--- the most attributes and children of a node together, and the most nodes from a root to the deepest one (our own limits)
-unfoldable pub most_below : ℕ
-most_below = 10000
-
-unfoldable pub most_height : ℕ
-most_height = 60
-
+-- a node with that content is within our own limits
 abbrev pub has_room : Trees → Bool
-has_room ts = nat_le (length (roots ts)) most_below && nat_le (height ts + 1) most_height
+has_room ts = nat_le (length (roots ts)) most_listed && nat_le (height ts + 1) most_height
 
 -- the code of an element's content, where there is one
 abbrev pub element_fault : Trees → Option Code

@@ -7,8 +7,9 @@ ghost use Rattle.evaluation.specs.Gives.{Gives, Judged, Stand};
 
 use crate::operators::boolean;
 use evaluation::{Evaluation, Sequence};
+use fault_codes::Code;
 use trees::NodeId;
-use values::{Code, Item, ValueFault};
+use values::{Item, ValueFault};
 
 /// `is`: whether both sides are the same node (XQuery 1.0, section 3.5.3); nothing where a side is empty. It takes the work of
 /// putting two nodes in order. Codes: XPTY0004 where a side has more than one item, or an atomic value; PXQ0002 where too little work is left.

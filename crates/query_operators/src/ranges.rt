@@ -5,8 +5,9 @@ ghost use Rattle.query_meaning.specs.Operators as meaning;
 ghost use Rattle.evaluation.specs.Gives.{Gives, Judged, Says, Stand};
 
 use evaluation::{Evaluation, MOST_ITEMS, Sequence};
+use fault_codes::Code;
 use std::alloc::Global;
-use values::{Atom, Code, ValueFault, integer_operands};
+use values::{Atom, ValueFault, integer_operands};
 
 /// `to`: the integers from the one to the other, none where the first is greater (XQuery 1.0, section 3.3.1). It takes no memory for
 /// more than 10,000. Codes: PXQ0002 where a string value is too long or there are more than 10,000 integers; XPTY0004 where there is

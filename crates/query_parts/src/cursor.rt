@@ -12,10 +12,11 @@ ghost use Rattle.query_grammar.specs.Words as table;
 
 use crate::looseness::Looseness;
 use crate::words::{axis_of, is_function, kind_test_of, looseness, sign_of};
+use fault_codes::Code;
 use query_grammar::{KindTest, Sign};
 use query_tokens::{Kind, ParseFault, Token, Tokens};
 use trees::Axis;
-use values::{Code, Text};
+use values::Text;
 
 /// The fault of tokens that the grammar hasn't.
 pub const REFUSED: ParseFault = ParseFault::Static(Code::XPST0003);

@@ -12,9 +12,10 @@ ghost use Rattle.query_paths.specs.Predicates.{selected, selected_by_number};
 
 use crate::kept::Kept;
 use evaluation::{Environment, Evaluation, Sequence};
+use fault_codes::Code;
 use query_grammar::{Expr, IntegerLiteral};
 use sqlite_items::{Boxed, Items};
-use values::{Atom, Code, Item, ValueFault, truth};
+use values::{Atom, Item, ValueFault, truth};
 
 /// The work of a number that is written: a unit, and one for the item that it gives.
 const NUMBER_WORK: u64 = 2;

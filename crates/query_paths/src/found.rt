@@ -10,10 +10,11 @@ ghost use Rattle.query_paths.specs.Gathered.{IsFew, IsFewIn, listed};
 use crate::distinct::Distinct;
 use crate::kept::Kept;
 use evaluation::{Evaluation, MOST_ITEMS, Sequence};
+use fault_codes::Code;
 use std::alloc::{AllocError, Global};
 use std::marker::Model;
 use trees::NodeId;
-use values::{Atom, Code, Item, ValueFault};
+use values::{Atom, Item, ValueFault};
 
 /// Nodes, each once, and atomic values, in the order in which they were found.
 #[derive(Drop)]

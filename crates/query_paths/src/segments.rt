@@ -14,9 +14,10 @@ ghost use Rattle.query_paths.specs.Gathered.{IsFew, IsFewIn, followed, found_in,
 use crate::filters::Paths;
 use crate::found::Found;
 use evaluation::{Environment, Evaluation, Sequence};
+use fault_codes::Code;
 use query_grammar::Expr;
 use sqlite_items::{Boxed, Items};
-use values::{Code, Item, ValueFault};
+use values::{Item, ValueFault};
 
 impl<F: Fn(&mut Evaluation, &Expr, &Environment) -> Result<Sequence, ValueFault>> Paths<F> {
     /// `a/b/c`: what each part gives for each of the nodes that the parts before it give, which are its context items: nodes in document

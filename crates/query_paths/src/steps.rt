@@ -13,12 +13,13 @@ ghost use Rattle.query_paths.specs.Steps.{chosen_from, context_node, step_at};
 use crate::filters::Paths;
 use crate::kept::Kept;
 use evaluation::{Environment, Evaluation, Sequence};
+use fault_codes::Code;
 use query_grammar::{Expr, NodeTest};
 use query_steps::nodes_of_step;
 use sqlite_items::Items;
 use std::alloc::{AllocError, Global};
 use trees::{Axis, NodeId};
-use values::{Code, Item, ValueFault};
+use values::{Item, ValueFault};
 
 impl<F: Fn(&mut Evaluation, &Expr, &Environment) -> Result<Sequence, ValueFault>> Paths<F> {
     /// `axis::test[a][b]`: the nodes on the axis from the context item that pass the test and that each predicate keeps, in document

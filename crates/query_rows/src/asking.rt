@@ -9,12 +9,13 @@ use super::growing::{grown, kind_of};
 use super::lists::list_text;
 use evaluation::{Environment, Evaluation, Sequence, Variables};
 use evaluator::{evaluate, value_of};
+use fault_codes::Code;
 use parser::{ParseFault, parse};
 use query_grammar::Expr;
 use rows::{RowFault, Words};
 use std::alloc::{AllocError, Global};
 use trees::{Forest, Kind, MakeFault, NodeId};
-use values::{Code, Item, LimitedText, ValueFault, push_item as push_text};
+use values::{Item, LimitedText, ValueFault, push_item as push_text};
 
 /// The level of the language.
 const LEVEL: u8 = 1;

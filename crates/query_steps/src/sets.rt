@@ -9,9 +9,10 @@ ghost use Rattle.query_steps.specs.Sets.{in_order, is_as_wanted};
 
 use crate::identities::{Identities, set_of};
 use evaluation::{Evaluation, MOST_ITEMS, Sequence};
+use fault_codes::Code;
 use std::alloc::{AllocError, Global};
 use trees::NodeId;
-use values::{Code, Item, ValueFault};
+use values::{Item, ValueFault};
 
 /// `union`, `|`: the nodes on either side, each once, in document order (XQuery 1.0, section 3.3.3). It takes the work of putting the nodes of
 /// both sides in order. Codes: XPTY0004 where a side has an atomic value; PXQ0002 where too little work is left, or where there would be more

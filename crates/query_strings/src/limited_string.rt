@@ -5,9 +5,10 @@ ghost use Rattle.query_meaning.specs.Strings.{limited};
 ghost use Rattle.evaluation.specs.Gives.{Fails, Judged};
 
 use data_model::limits::MOST_BYTES;
+use fault_codes::Code;
 use std::alloc::{AllocError, Global};
 use std::marker::Model;
-use values::{Code, Text, ValueFault};
+use values::{Text, ValueFault};
 
 /// A text of at most 65,536 bytes, to which others are added at its end. Contracts see it as its bytes.
 #[derive(Drop)]

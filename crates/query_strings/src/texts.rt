@@ -7,8 +7,9 @@ ghost use Rattle.evaluation.specs.Gives.{Fails, Says};
 ghost use Rattle.query_strings.specs.Texts.{text_at};
 
 use crate::limited_string::LimitedString;
+use fault_codes::Code;
 use std::alloc::{AllocError, Global};
-use values::{Atom, Code, Text, ValueFault};
+use values::{Atom, Text, ValueFault};
 
 /// An atomic value as a string (Functions and Operators, section 17.1.2). It fails where memory is refused.
 pub fn printed(alloc: Global, value: &Atom) -> Result<Text, AllocError>

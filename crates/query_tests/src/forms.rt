@@ -1,9 +1,9 @@
 //! Which texts are queries, by the code.
 
+use fault_codes::Code;
 use query_rules::read_query;
 use query_tokens::{ParseFault, read_tokens};
 use std::alloc::Global;
-use values::Code;
 
 /// The fault of a text at a level of the language, if it has one.
 fn fault_of(alloc: Global, level: u8, text: &str) -> Option<ParseFault> {

@@ -1,10 +1,10 @@
 //! Long chains of forms that stand within one another without brackets, up to 64 KB, and brackets within one another.
 
 use crate::texts::{fault_of, has_code};
+use fault_codes::Code;
 use parser::ParseFault;
 use std::alloc::{AllocError, Global};
 use std::thread;
-use values::Code;
 
 const LENGTH: usize = 65536;
 

@@ -1,10 +1,10 @@
 //! What texts are parsed as: expressions with their categories, or their first static fault.
 
+use fault_codes::Code;
 use parser::{Category, Expr, NodeTest, ParseFault, category, parse};
 use sqlite_items::Boxed;
 use std::alloc::{AllocError, Global};
 use trees::Axis;
-use values::Code;
 
 /// The fault of a text at a level of the language, if it has one.
 pub(crate) fn fault_of(alloc: Global, level: u8, text: &str) -> Option<ParseFault> {

@@ -1,9 +1,9 @@
 //! What texts are read as: their tokens, or their first fault.
 
+use fault_codes::Code;
 use query_tokens::{Kind, ParseFault, Tokens, read_tokens};
 use std::alloc::{AllocError, Global};
 use std::test::Fail;
-use values::Code;
 
 /// A token's kind, its text, and its number.
 type Row = (Kind, &'static str, i64);

@@ -2,8 +2,8 @@
 
 ghost use Rattle.std.specs.Prelude.{◌≡◌};
 
+use fault_codes::Code;
 use std::alloc::{AllocError, AllocFailed};
-use values::Code;
 
 /// Why a text is no query.
 #[derive(Clone, Copy, PartialEq, Eq, Debug)]

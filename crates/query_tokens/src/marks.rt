@@ -11,8 +11,9 @@ use crate::fault::ParseFault;
 use crate::kind::Kind;
 use crate::literal::IntegerLiteral;
 use crate::token::Token;
+use fault_codes::Code;
 use std::alloc::Global;
-use values::{Code, Text};
+use values::Text;
 
 #[tactic(auto, unfolding(crate::specs::Words::pairs))]
 fn pair_kind(first: char, second: char) -> Option<Kind>

@@ -12,8 +12,9 @@ use crate::kind::Kind;
 use crate::literal::{IntegerLiteral, MAX_INTEGER};
 use crate::token::Token;
 use crate::words::kind_of;
+use fault_codes::Code;
 use std::alloc::{AllocError, Global};
-use values::{Code, Text};
+use values::Text;
 
 // The name characters that the text begins with, and the rest.
 fn name_characters(text: &[char]) -> (&[char], &[char])

@@ -9,7 +9,7 @@ ghost use Rattle.query_tokens.specs.Outcome.{IsNext};
 use crate::characters::{is_digit, is_hex_digit, is_xml_character};
 use crate::fault::ParseFault;
 use crate::names::digits;
-use values::Code;
+use fault_codes::Code;
 
 // The hexadecimal digits that the text begins with, and the rest.
 fn hex_digits(text: &[char]) -> (&[char], &[char])

@@ -7,7 +7,7 @@ ghost use Rattle.query_tokens.specs.Outcome.{IsNext};
 
 use crate::characters::{is_space, is_xml_character, past_one};
 use crate::fault::ParseFault;
-use values::Code;
+use fault_codes::Code;
 
 // The next part of a comment: a deeper one begins, one ends, or a character. One that isn't a character of XML 1.0 is XPST0003.
 fn comment_part(depth: usize, text: &[char]) -> Result<(usize, &[char]), ParseFault>

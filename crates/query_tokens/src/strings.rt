@@ -11,8 +11,9 @@ use crate::literal::IntegerLiteral;
 use crate::references::reference;
 use crate::token::Token;
 use data_model::limits::MOST_BYTES;
+use fault_codes::Code;
 use std::alloc::Global;
-use values::{Code, Text};
+use values::Text;
 
 // A quote that is doubled, a reference, or a character that stands for itself. One that isn't a character of XML 1.0 is XPST0003, as is
 // none; a reference has faults of its own (`reference`).

@@ -9,12 +9,13 @@ ghost use Rattle.query_updates.specs.Parts.{all_deleted, items_deleted};
 
 use crate::updates::Updates;
 use evaluation::{Environment, Evaluation, Sequence};
+use fault_codes::Code;
 use pending::Primitive;
 use query_grammar::Expr;
 use query_steps::all_nodes;
 use sqlite_items::Boxed;
 use trees::NodeId;
-use values::{Code, ValueFault};
+use values::ValueFault;
 
 impl<F: Fn(&mut Evaluation, &Expr, &Environment) -> Result<Sequence, ValueFault>> Updates<F> {
     /// `delete node a`: each of its nodes is to go, in their order (XQuery Update Facility 1.0, section 2.4.2). Codes: those of the

@@ -17,11 +17,12 @@ use crate::targets::{Role, Target};
 use crate::updates::Updates;
 use copied_content::{CopiedContent, SplitContent, content};
 use evaluation::{Environment, Evaluation, Sequence};
+use fault_codes::Code;
 use pending::Primitive;
 use query_grammar::{Expr, Place};
 use sqlite_items::Boxed;
 use trees::{Kind, NodeId, Tree};
-use values::{Code, ValueFault};
+use values::ValueFault;
 
 impl<F: Fn(&mut Evaluation, &Expr, &Environment) -> Result<Sequence, ValueFault>> Updates<F> {
     /// `insert node a into b`, or beside `b`: copies of what `a` gives are to stand there, attributes in the list of the element that they

@@ -12,13 +12,14 @@ use crate::targets::{Role, Target};
 use crate::updates::Updates;
 use copied_content::{CopiedContent, content, new_text};
 use evaluation::{Environment, Evaluation, Sequence};
+use fault_codes::Code;
 use pending::Primitive;
 use query_constructors::{check_comment, instruction_text};
 use query_grammar::Expr;
 use query_strings::spaced;
 use sqlite_items::Boxed;
 use trees::Kind;
-use values::{Atom, Code, ValueFault, text_work};
+use values::{Atom, ValueFault, text_work};
 
 impl<F: Fn(&mut Evaluation, &Expr, &Environment) -> Result<Sequence, ValueFault>> Updates<F> {
     /// `replace node a with b`: copies of what `b` gives are to stand in the place of `a` (XQuery Update Facility 1.0, section 2.4.3.1).

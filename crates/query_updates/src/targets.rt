@@ -7,9 +7,10 @@ ghost use Rattle.shelves.specs.Shelf.{shelf_trees};
 ghost use Rattle.query_updates.specs.Targets.{allows, refusal, target_at, target_in};
 
 use evaluation::{Evaluation, Sequence};
+use fault_codes::Code;
 use shelves::Shelf;
 use trees::{Kind, NodeId};
-use values::{Code, Item};
+use values::Item;
 
 /// What a target is there for, which says of what kinds it may be.
 #[derive(Clone, Copy)]

@@ -125,6 +125,7 @@ impl<R: GroupRecords + Drop> Staged<R> {
         ensures for_good { self.old.has_failed ≡ true → IsErrOf result RecordsFault.Store × (self.new.store ≡ self.old.store) }
         ensures idle { self.old.pending ≡ [] → self.old.has_failed ≡ false → (self.new ≡ self.old) × IsOk result }
     {
+        // Which record a failed write left is not known, so nothing is written over it.
         if self.has_failed {
             return Err(count(&mut self.failures));
         }

@@ -34,6 +34,7 @@ impl Word {
             Word::Unsaid => (Word::Unsaid, false),
             Word::Said => (Word::CatchingUp(prefix), false),
             Word::CatchingUp(before) => {
+                // Nothing has come since the last tick: what the others tell is learnt, and no ballot need propose it once more.
                 if prefix == before {
                     (Word::Begun(FIRST_PAUSE, FIRST_PAUSE), true)
                 } else {
@@ -41,6 +42,7 @@ impl Word {
                 }
             }
             Word::Begun(left, pause) => {
+                // Once it was followed the word has done what it was for. Where it leads no more, another does, and two would hold each other up.
                 if leads && !is_followed {
                     in_pause(left, pause)
                 } else {

@@ -187,6 +187,7 @@ impl<E, J: Naming> Roll<E, J> {
         let found = self
             .length
             .compare_exchange::<Adds, Nothing>(count, count + 1, &mut seen, &mut offer, &mut pen);
+        // Somebody else was first. The entry has no place then: its place is the one after what this sight has seen, and that is taken.
         if found != count {
             return false;
         }

@@ -10,11 +10,12 @@ ghost use Rattle.sorted_tuples.specs.Keys.{Each, IsWide, column, comes_first, ha
 ghost use Rattle.sorted_tuples.specs.Keys.{sort_key_of};
 
 use evaluation::{Environment, KeptEnvironment, MOST_ITEMS};
+use fault_codes::Code;
 use query_grammar::{Expr, SortKey};
 use std::alloc::{AllocError, Global};
 use std::cmp::Ordering;
 use std::marker::Model;
-use values::{Atom, Code, ValueFault};
+use values::{Atom, ValueFault};
 
 /// The keys of a tuple, each one atomic value or empty.
 #[derive(Drop)]

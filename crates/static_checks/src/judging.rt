@@ -8,8 +8,8 @@ ghost use Rattle.static_checks.specs.Inside.{IsInner, between, children, conclud
 
 use crate::categories::{Category, Own};
 use crate::parts::part;
+use fault_codes::Code;
 use query_grammar::Expr;
-use values::Code;
 
 /// What the category of an expression comes from, and which of its parts are the inner ones, where an updating expression may stand.
 #[derive(Clone, Copy)]

@@ -1,6 +1,7 @@
 -- Tests of nodes in their places, and trees that pass them but for some nodes.
 use Rattle.std.specs.Prelude.{◌≡◌, ℕ, Bool, true, not, ◌&&◌, ◌||◌, ◌==◌, nat_lt, List, length, take}
 use Prim.Native.Nat.{suc}
+use Rattle.data_model.specs.Limits.{most_height}
 use Rattle.data_model.specs.Trees.{Trees, no_trees, tree, Content, is_text}
 use Rattle.data_model.specs.Tidy.{begins_with_text, has_distinct_names}
 use Rattle.pending.specs.Compatible.{is_among}
@@ -34,7 +35,7 @@ is_limited n c bs cs is_followed = is_small c bs cs
 
 -- the tree is within the limit of its height
 abbrev pub is_within : NodeTest
-is_within n c bs cs is_followed = nat_lt n 60
+is_within n c bs cs is_followed = nat_lt n most_height
 
 -- trees of which each node but those of some identities is as an update leaves it
 pub record IsStoredBut (is : List ℕ) (ts : Trees) : Type 0 where

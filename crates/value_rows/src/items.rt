@@ -1,10 +1,11 @@
 //! Items: `"string"`, `untyped"text"`, `true`, `false`, an integer, `()` for none, and `node` for a node where it does not matter which.
 
+use fault_codes::Code;
 use rows::{RowFault, Word, Words};
 use shelves::Shelf;
 use std::alloc::{AllocError, Global};
 use trees::{Forest, NodeId};
-use values::{Atom, Code, Item, LimitedText, Text, push_item, truth};
+use values::{Atom, Item, LimitedText, Text, push_item, truth};
 
 /// How many items a sequence has at most.
 const MOST_ITEMS: u32 = 1_000;

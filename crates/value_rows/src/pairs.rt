@@ -1,10 +1,11 @@
 //! Two sequences of atomic values with an operator between them.
 
 use super::items::{atoms, shown};
+use fault_codes::Code;
 use rows::{RowFault, Words};
 use std::alloc::{AllocError, Global};
 use values::{
-    Atom, Code, Comparison, Operator, ValueFault, arithmetic, compare_general, compare_value,
+    Atom, Comparison, Operator, ValueFault, arithmetic, compare_general, compare_value,
     integer_operands,
 };
 

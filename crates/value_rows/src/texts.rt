@@ -1,8 +1,9 @@
 //! How texts read as integers and as booleans, and the codes of all faults.
 
+use fault_codes::Code;
 use rows::{RowFault, Words};
 use std::alloc::Global;
-use values::{Code, read_boolean, read_integer};
+use values::{read_boolean, read_integer};
 
 /// `integer TEXT`: the integer that a text reads as.
 pub(super) fn integer(alloc: Global, words: &mut Words<'_>) -> Result<String, RowFault> {

@@ -16,7 +16,6 @@ mod work;
 pub use atom::{Atom, Item, atomize, atomize_item, truth};
 pub use compare::{Comparison, compare_general, compare_value};
 pub use fault::ValueFault;
-pub use fault_codes::Code;
 pub use laws::examples;
 pub use limited_text::LimitedText;
 pub use operators::{Operator, arithmetic, integer_operands};

@@ -100,6 +100,7 @@ impl<C: Clock + Drop> UdpWire<C> {
         ensures fits { IfOk result (λ came. IfSome came (λ a. a.length ≤ length buffer.new)) }
         ensures room { length buffer.new ≡ length buffer.old }
     {
+        // It goes on where it left off, so that no end waits for good behind one to which much is sent.
         for _look in 1..self.sockets.len() {
             let end = self.next;
             self.next = self.after(end);

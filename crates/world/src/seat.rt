@@ -143,6 +143,7 @@ impl<R: Records + Drop, A: Application + Drop> Seat<R, A> {
                 self.left = Some((setup, records));
                 match fault {
                     OpenFault::Memory => Err(AllocError),
+                    // That is an event as any other: the member stays stopped.
                     OpenFault::Store => Ok(()),
                 }
             }

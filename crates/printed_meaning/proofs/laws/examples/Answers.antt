@@ -6,7 +6,6 @@ use Rattle.values.specs.declared.atom.Item.TheVariants as item
 use Rattle.query_grammar.specs.declared.ast.Expr.TheVariants as e
 use Rattle.query_grammar.specs.declared.ast.Name.TheVariants.{Written}
 use Rattle.query_meaning.specs.Constructors.{element, attribute, text}
-use Rattle.query_meaning.specs.Content.{most_below, most_height}
 use Rattle.query_meaning.specs.Environment.{no_environment}
 use Rattle.query_meaning.specs.Examples.{with_work}
 use Rattle.query_meaning.specs.Meaning.{mean, evaluated, start, outcome, Outcome}
@@ -17,15 +16,12 @@ use Rattle.printed_meaning.proofs.Forms.{mean_sequence, mean_element, mean_attri
 use Rattle.printed_meaning.proofs.laws.examples.Goals as goal
 
 pub returns-clause-room : goal.returns-clause-room
-unfolding most_below most_height
 returns-clause-room c = refl
 
 pub returns-clause-high : goal.returns-clause-high
-unfolding most_below most_height
 returns-clause-high c = refl
 
 pub returns-clause-too_high : goal.returns-clause-too_high
-unfolding most_below most_height
 returns-clause-too_high c = refl
 
 -- the attribute's text
