@@ -9,7 +9,8 @@
 //! `loop N STEP ..` does the same N times over, each time from the store as it was described, for benchmarks: it prints what the last time gave,
 //! and makes no second store to compare with.
 //!
-//! `copies TARGET .. do PRIMITIVE ..` updates copies of nodes of that store (`copies.rt`).
+//! `copies TARGET .. do PRIMITIVE ..` updates copies of nodes of that store (`copies.rt`). `undo PRIMITIVE ..` makes an update that it takes back, and then one
+//! that it keeps (`undo.rt`).
 //!
 //! - A primitive (`primitives.rt` there) is added to the list, and after the word `other` to the other list; it prints nothing, or `PXQ0002`. The nodes of
 //!   its trees take the identities after those of all primitives before it, and `next N` lets them take later ones.
@@ -29,6 +30,7 @@
 
 mod copies;
 mod steps;
+mod undo;
 
 use rows::{Answers, RowFault, Words, run_table};
 use std::alloc::Global;
@@ -69,6 +71,7 @@ impl Answers for UpdateRows {
         match words.plain()? {
             "tree" => self.work_on(alloc, words.rest()),
             "copies" => copies::copied(alloc, &self.described, words),
+            "undo" => undo::undone(alloc, &self.described, words),
             "list" => steps::taken(alloc, &self.described, words, true),
             "loop" => {
                 let times = words.number()?;
