@@ -12,18 +12,18 @@ help:
 	@echo 'make test      the gate: proves everything from nothing, runs every test, tries wrong bodies; last line "N passed, M failed"'
 	@echo 'make edits     tries every wrong body of CRATES (all, if none is named), also those that the gate leaves out for time'
 	@echo 'make refusals  runs the tests of CRATES (all that have any, if none is named) with each allocation refused in turn'
-	@echo 'make paxq      proves paxq and paxq_member and what they stand on, and leaves the programs in bin/'
+	@echo 'make paxq      proves paxq and what it stands on, and leaves the program in bin/'
 	@echo 'make examples  runs bin/paxq on the examples, on those of docs/LANGUAGE.md and on input that it refuses'
 	@echo 'make measure   proves measure, which runs parts for the benchmarks, and leaves it at bin/measure'
 	@echo 'make expressions  proves query_rows, which evaluates expressions for the benchmarks, and leaves it at bin/query_rows'
 	@echo 'make updates   proves update_rows, which applies lists of update primitives for the benchmarks, and leaves it at bin/update_rows'
 	@echo 'make readers   proves reader_rows, whose readers answer while a site takes requests, for the benchmarks, and leaves it at bin/reader_rows'
 	@echo 'make record_file  proves record_file, an acceptor'"'"'s record in a SQLite file, and leaves it at bin/record_file'
-	@echo 'make bench     measures bin/paxq, bin/paxq_member, bin/measure, bin/query_rows, bin/update_rows, bin/reader_rows and bin/record_file (figures for docs/BENCHMARKS.md);'
+	@echo 'make bench     measures bin/paxq, bin/measure, bin/query_rows, bin/update_rows, bin/reader_rows and bin/record_file (figures for docs/BENCHMARKS.md);'
 	@echo '               groups of processes beside etcd, where that is installed'
 	@echo 'make kills     ends bin/record_file in the middle of its writes, again and again: each acknowledged write has to be there;'
 	@echo '               and opens files with it that the program sqlite3 made (needs sqlite3)'
-	@echo 'make cluster   runs groups of bin/paxq_member processes on this machine: members that are ended by SIGKILL and started again, lost and mutated datagrams;'
+	@echo 'make cluster   runs groups of bin/paxq processes on this machine: members that are ended by SIGKILL and started again, lost and mutated datagrams;'
 	@echo '               CLUSTER_ENDS=1000 ends so many members, CLUSTER_DATAGRAMS=1000000 sends so many datagrams. Last line "N passed, M failed"'
 	@echo 'make sweep     runs bin/paxq with each allocation refused in turn (needs a C compiler)'
 	@echo 'make clean     removes what builds made'
@@ -45,10 +45,9 @@ refusals: bin/refuse.so
 	.ci/refusals bin/refuse.so $(CRATES)
 
 paxq:
-	.ci/prove paxq paxq_member
+	.ci/prove paxq
 	cd crates/paxq && rt run -- run "$(CURDIR)/examples/first.pxq"
-	cd crates/paxq_member && rm -f out/paxq_member && { rt run > /dev/null || true; }
-	mkdir -p bin && cp crates/paxq/out/paxq crates/paxq_member/out/paxq_member bin
+	mkdir -p bin && cp crates/paxq/out/paxq bin
 
 examples: paxq
 	examples/check bin/paxq
@@ -91,7 +90,7 @@ bench: paxq measure expressions updates readers record_file
 	bench/updates bin/update_rows
 	bench/readers bin/reader_rows
 	bench/records bin/record_file
-	bench/starts bin/paxq_member bin/record_file
+	bench/starts bin/paxq bin/record_file
 	bench/random bin/paxq
 	bench/worst bin/paxq
 	bench/cluster bin/paxq

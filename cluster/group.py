@@ -1,4 +1,4 @@
-"""Groups of `paxq_member` processes on 127.0.0.1, with their configurations and record files in a folder that is removed at the end."""
+"""Groups of `paxq node` processes on 127.0.0.1, with their configurations and record files in a folder that is removed at the end."""
 
 import os
 import signal
@@ -46,8 +46,7 @@ class Group:
 
     def __init__(self, program, members, docs=("db",), in_files=True, seen_by=None):
         self.members, self.docs, self.in_files = members, docs, in_files
-        # it lies beside `paxq`
-        self.program = os.path.join(os.path.dirname(os.path.abspath(program)), "paxq_member")
+        self.program = os.path.abspath(program)
         self.addresses = free_addresses(members)
         self.number = NUMBER
         self.seen_by = seen_by or (lambda member: self.addresses)

@@ -7,14 +7,12 @@ ghost use Rattle.std.specs.declared.io.ErrorKind.TheVariants.{OutOfMemory};
 
 use command_line::{Form, WordsFault, read_words};
 use paxq_group::{local_file, send};
-use paxq_run::run_script;
-use paxq_sim::run_events;
-use program_reports::cannot_read;
-use sessions::State;
-use std::io::{BufWriter, Write};
+use paxq_node::node_file;
+use paxq_run::run_file;
+use paxq_sim::sim_file;
+use std::io;
 use std::process::ExitCode;
 use std::sync::Wait;
-use std::{fs, io};
 
 /// Runs the form that the command line asks for, and ends with its exit status: 0 done, 1 a file that
 /// cannot be read or is wrong, 2 words of no form, 3 no answer, 4 want of memory, a store that failed or no network.
@@ -60,55 +58,13 @@ fn run_form<T: Wait>(rt: &HostRuntime, waits: &T, form: &Form) -> io::Result<u8>
         Form::Run { script } => run_file(rt, waits, script.as_str()),
         Form::Sim { events } => sim_file(rt, events.as_str()),
         Form::Local { members, script } => local_file(rt, *members, script.as_str()),
-        Form::Node { .. } => {
-            eprintln!(rt; "paxq: paxq_member runs nodes")?;
-            Ok(2)
-        }
+        Form::Node { config, turns } => node_file(rt, config.as_str(), *turns),
         Form::Send {
             group,
             address,
             line,
         } => send(rt, *group, address.as_str(), line.as_str()),
     }
-}
-
-/// Runs the script in a file.
-fn run_file<T: Wait>(rt: &HostRuntime, waits: &T, script: &str) -> io::Result<u8> {
-    let mut output = BufWriter::new(rt.alloc(), io::writer(rt))?;
-    let mut errors = rt.stderr();
-    let status = match fs::open(rt, script) {
-        Ok(mut file) => run_script(
-            waits,
-            rt.alloc(),
-            script,
-            &mut file,
-            &mut output,
-            &mut errors,
-        )?,
-        Err(error) if error.kind() == io::ErrorKind::OutOfMemory => return Err(error),
-        Err(_) => cannot_read(rt.alloc(), script, &mut errors)?,
-    };
-    output.flush()?;
-    Ok(status)
-}
-
-/// Simulates an event file.
-fn sim_file(rt: &HostRuntime, events: &str) -> io::Result<u8> {
-    let mut output = BufWriter::new(rt.alloc(), io::writer(rt))?;
-    let mut errors = rt.stderr();
-    let status = match fs::open(rt, events) {
-        Ok(mut file) => run_events::<State, _, _, _>(
-            rt.alloc(),
-            events,
-            &mut file,
-            &mut output,
-            &mut errors,
-        )?,
-        Err(error) if error.kind() == io::ErrorKind::OutOfMemory => return Err(error),
-        Err(_) => cannot_read(rt.alloc(), events, &mut errors)?,
-    };
-    output.flush()?;
-    Ok(status)
 }
 
 /// Reports what ended the program before its time, where there is a report for it, and gives the

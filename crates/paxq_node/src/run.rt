@@ -31,17 +31,20 @@ impl<T: Drop> From<AllocFailed<T>> for Refusal {
     }
 }
 
-/// Serves as the node that the configuration in a file describes, for so many turns, and answers the exit status: 0 after its turns; 1 where the
-/// file cannot be read or is no configuration; 4 where memory is refused before it serves, where an address cannot be resolved or its own
-/// cannot be bound, where its records are refused, or where their store fails.
+/// Serves as the node that the configuration in the file of that name describes, for so many turns (without a number it goes on), reports to standard
+/// error, and answers the exit status: 0 after its turns; 1 where the file cannot be read or is no configuration; 4 where memory is refused before it
+/// serves, where an address cannot be resolved or its own cannot be bound, where its records are refused, or where their store fails.
 ///
-/// An `Err` says that `errors` could not be written, or that the system refused something that has no report.
-pub fn run_node<E: Write>(
-    rt: &HostRuntime,
-    file: &str,
-    turns: u64,
-    errors: &mut E,
-) -> io::Result<u8> {
+/// # Errors
+///
+/// Standard error could not be written, or the system refused something that has no report.
+pub fn node_file(rt: &HostRuntime, file: &str, turns: Option<u32>) -> io::Result<u8> {
+    let turns = turns.map_or(u64::MAX, u64::from);
+    run_node(rt, file, turns, &mut rt.stderr())
+}
+
+/// Serves as the node that the configuration in a file describes, for so many turns, and answers the exit status.
+fn run_node<E: Write>(rt: &HostRuntime, file: &str, turns: u64, errors: &mut E) -> io::Result<u8> {
     let alloc: Global = rt.alloc();
     let read = match fs::open(rt, file) {
         Ok(mut opened) => configuration(alloc, &mut opened),

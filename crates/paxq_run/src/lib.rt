@@ -3,8 +3,10 @@
 //! It stands apart from the program so that its proofs know nothing of a command line.
 #![tactic(auto)]
 
+mod file;
 mod lone;
 mod run;
 mod turn;
 
+pub use file::run_file;
 pub use run::run_script;

@@ -4,6 +4,7 @@
 //! It stands apart from the program so that its proofs know nothing of a command line.
 #![tactic(auto)]
 
+mod file;
 mod numbers;
 mod places;
 mod report;
@@ -11,5 +12,6 @@ mod run;
 mod simulation;
 mod stores;
 
+pub use file::sim_file;
 pub use run::{play, run_events, simulate};
 pub use stores::stores_of;
