@@ -5,12 +5,10 @@ ghost use Rattle.apply.specs.Verdicts.{by_verdict};
 ghost use Rattle.update_meaning.specs.Results.{judged};
 
 use super::{names, places, sizes};
+use data_model::limits::MOST_NODES;
 use fault_codes::Code;
 use std::alloc::{AllocError, Global};
 use tracked_drafts::TrackedDraft;
-
-/// The most nodes in a store (our own limit).
-const MOST_NODES: u64 = 100_000;
 
 /// The code by which a tidied draft may not be stored, if there is one: `XUDY0021` where an element has two attributes of one name (XQuery Update
 /// Facility 1.0, section 3.2.2), and else `PXQ0003` where a limit of a store is passed. It looks at the nodes that were touched alone, and fails where

@@ -9,6 +9,10 @@ most_bytes = 65536
 abbrev pub most_listed : ℕ
 most_listed = 10000
 
+-- the nodes that a store has at most; an evaluation makes no more than so many either
+abbrev pub most_nodes : ℕ
+most_nodes = 100000
+
 -- the nodes from a root to the deepest one, at most
 abbrev pub most_height : ℕ
 most_height = 60

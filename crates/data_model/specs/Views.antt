@@ -1,5 +1,5 @@
 -- What one look-up reads of a node.
-use Rattle.std.specs.Prelude.{◌≡◌, ℕ, List, Option, Some, None}
+use Rattle.std.specs.Prelude.{◌≡◌, Option, Some, None}
 use Rattle.data_model.specs.Trees.{Place, roots}
 use Rattle.data_model.specs.declared.node.NodeView.{NodeView}
 

@@ -18,6 +18,7 @@ ghost use Rattle.evaluation.specs.Gives.{Any, Fails, GivesIn, Judged, Says, Stan
 
 use crate::environment::Variables;
 use crate::sequence::Sequence;
+use data_model::limits::MOST_NODES;
 use fault_codes::Code;
 use pending::{ListFault, PendingList, Primitive};
 use shelves::Shelf;
@@ -38,9 +39,6 @@ const ORDERING: u64 = 32;
 
 /// How many bytes of a copied text are one unit of work.
 const BYTES_A_UNIT: u64 = 16;
-
-/// The most new nodes in an evaluation (our own limit).
-const MOST_NODES: u64 = 100_000;
 
 /// The trees, lent and made, the turns and the work that are left, and the update primitives so far.
 #[derive(Drop)]

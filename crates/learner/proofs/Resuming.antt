@@ -1,17 +1,15 @@
 -- Values that stand at the positions from 1 on, as a start finds them.
-use Rattle.std.proofs.Common.{◌≡◌, ℕ, zero, suc, ◌+◌, ◌<◌, ◌≤◌, Bool, true, false, cond, arith, refl, sym, ap, subst, ◌∙◌, ◌⊎◌, inl, inr, ⊎_elim, Option, Some, None, IsSome, is_some, List, [], ◌∷◌, ◌++◌, length, take, get_or, eqb}
+use Rattle.std.proofs.Common.{◌≡◌, ℕ, zero, suc, ◌+◌, ◌<◌, ◌≤◌, true, false, cond, arith, refl, sym, ap, subst, ◌∙◌, ◌⊎◌, inl, inr, ⊎_elim, Option, Some, None, IsSome, List, [], ◌∷◌, ◌++◌, length, take, get_or, eqb}
 use Rattle.std.proofs.lemmas.List.{length-take-le, take_all}
 use Rattle.std.proofs.lemmas.Bool.{eq-eqb, ne_eqb, cases_eq, false≢true}
 use Rattle.ballots.specs.declared.value.Value.{Value}
 use Rattle.ballots.specs.declared.value.Vote.{Vote}
 use Rattle.ballots.specs.declared.value.Pair.{Pair}
 use Rattle.ballots.specs.Values.{positions}
-use Rattle.paxos.specs.Lists.{Has}
-use Rattle.paxos.specs.Knowledge.{Heard, ChosenAre, accepted_by, completed, first, kept_news, learnt as learnt_at, numbered, value_at}
+use Rattle.paxos.specs.Knowledge.{accepted_by, kept_news, learnt as learnt_at, numbered, value_at}
 use Rattle.position_map.specs.Slots.{value_at as value_in, filled}
-use Rattle.learner.specs.Hearing.{HasHeard, AreDistinct, is_tallied}
+use Rattle.learner.specs.Hearing.{HasHeard}
 use Rattle.learner.specs.Slots.{AreWithin, pairs_of}
-use Rattle.learner.specs.Terms.{Learner, Tally, learnt_of, open_of}
 use Rattle.learner.proofs.Learning.{value_pairs}
 
 -- one value more stands behind the others

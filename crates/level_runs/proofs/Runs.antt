@@ -1,5 +1,5 @@
 -- What texts of level 1 do, whatever a copy means.
-use Rattle.std.proofs.Common.{◌≡◌, ℕ, ◌+◌, Bool, true, false, cond, if◌then◌else◌, List, [], ◌∷◌, ◌++◌, length, Option, Some, None, Result, Ok, Err, refl, ap, subst, sym, ◌∙◌}
+use Rattle.std.proofs.Common.{◌≡◌, ℕ, ◌+◌, Bool, true, false, cond, if◌then◌else◌, List, [], ◌∷◌, ◌++◌, length, Some, Result, Ok, Err, refl, ap, subst, sym, ◌∙◌}
 use Rattle.std.proofs.lemmas.List.Elements.{All-nil, All-cons, All-head, All-tail, All-append}
 use Rattle.std.specs.List.{All, list_any}
 use Rattle.std.specs.Str.{chars}
@@ -11,7 +11,6 @@ use Rattle.static_checks.specs.Categories.{judged, is_updating}
 use Rattle.static_checks.specs.Static.{parsed}
 use Rattle.query_meaning.specs.Meaning.{evaluated}
 use Rattle.parser.proofs.Exact.{sound}
-use Rattle.ballots.specs.declared.reply.Reply.{Reply}
 use Rattle.ballots.specs.declared.request.RequestId.{RequestId}
 use Rattle.ballots.specs.declared.value.Value.{Value}
 use Rattle.ballots.specs.declared.value.Value.TheVariants.{NoOp, Request}

@@ -1,6 +1,7 @@
 //! Lists of votes and of values in messages, each by rising position.
 
 ghost use Rattle.std.specs.Prelude.{◌≡◌, ◌≢◌, ◌≤◌, ◌<◌, ◌+◌, IfOk, IfErr};
+ghost use Rattle.ballots.specs.Values.{positions};
 ghost use Rattle.messages.specs.Reading.{Gives, Fails, entry_read, entries_read, pair_read, pairs_read};
 
 use super::fault::WireFault;
@@ -71,7 +72,7 @@ pub(super) fn split_entries(
 #[tactic(auto, unfolding(ballots::specs::Values::positions))]
 fn split_pair(alloc: Global, bytes: &[u8], least: u32) -> Result<(Pair, &[u8]), WireFault>
     ensures value { IfOk result (λ p. pair_read least bytes.now ≡ Gives p.0 p.1.now) }
-    ensures most { IfOk result (λ p. p.0.position ≤ 1000000) }
+    ensures most { IfOk result (λ p. p.0.position ≤ positions) }
     ensures fault { IfErr result (λ f. f ≢ WireFault.Memory → pair_read least bytes.now ≡ Fails f) }
 {
     let (position, rest) = split_position(bytes, least, POSITIONS)?;
@@ -82,6 +83,7 @@ fn split_pair(alloc: Global, bytes: &[u8], least: u32) -> Result<(Pair, &[u8]), 
 /// So many values at the front of the bytes, by rising position from 1 on, and the bytes after them.
 ///
 /// Fault: the first from the left, `Short`, `Number` or `NotUtf8`; want of memory (`Memory`) may come in its place.
+#[tactic(auto, unfolding(ballots::specs::Values::positions))]
 pub(super) fn split_pairs(
     alloc: Global,
     bytes: &[u8],

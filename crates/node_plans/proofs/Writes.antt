@@ -1,5 +1,5 @@
 -- What a splice writes into a plan.
-use Rattle.std.proofs.Common.{◌≡◌, ◌≢◌, ℕ, ◌<◌, List, true, false, cond, eqb, refl, ap, sym, ◌∙◌, ⊎_elim, Option, Some, None, IsSome, is_some, option_map, nat_eq, BuildHasherDefault, FoldHasher}
+use Rattle.std.proofs.Common.{◌≡◌, ◌≢◌, ℕ, ◌<◌, List, true, false, cond, eqb, refl, ap, sym, ◌∙◌, ⊎_elim, Option, Some, None, IsSome, is_some, option_map, nat_eq}
 use Rattle.row_pages.specs.Rows.{Term}
 use Rattle.std.specs.HashSet.{contains}
 use Rattle.std.proofs.lemmas.Bool.Decides.{eqb_tells}

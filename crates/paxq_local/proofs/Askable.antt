@@ -1,5 +1,5 @@
 -- Each command that a line is can be asked.
-use Rattle.std.proofs.Common.{◌≡◌, ◌≤◌, ◌<◌, ℕ, suc, arith, Bool, true, false, ◌&&◌, nat_lt, nat_le, List, length, Option, Some, None, IfSome, refl, subst, sym}
+use Rattle.std.proofs.Common.{◌≡◌, ◌≤◌, ◌<◌, ℕ, suc, arith, Bool, true, false, ◌&&◌, nat_lt, nat_le, List, length, Option, Some, None, IfSome, refl, subst}
 use Rattle.std.specs.Prelude.{◌==◌, if◌then◌else◌, codes}
 use Rattle.std.specs.Option.{option_map, option_map_or}
 use Rattle.std.specs.List.{list_all, list_any, before_first, after_first}
@@ -8,8 +8,8 @@ use Rattle.ballots.specs.Terms.{Request, is_level, most_text}
 use Rattle.ballots.specs.Values.{positions}
 use Rattle.document_names.specs.Characters.{is_digit}
 use Rattle.line_parts.specs.Parts.{digits_value, has_text_length, is_space, number_below, request_of, text_after, ◌>>=◌}
-use Rattle.paxq_files.specs.Script.{Command, submit, ask, ask_at, submit_of, ask_of, ask_at_with, ask_at_of, command_at_1, command_of, command_alone}
-use Rattle.paxq_local.specs.Asking.{CanBeAsked, IsQuestion}
+use Rattle.paxq_files.specs.Script.{Command, submit, ask, ask_at, submit_of, ask_of, ask_at_of, command_at_1, command_of, command_alone}
+use Rattle.paxq_local.specs.Asking.{CanBeAsked}
 
 both : (a b : Bool) → (a && b) ≡ true → (a ≡ true) × (b ≡ true)
 both true b h = (refl, h)

@@ -1,5 +1,5 @@
 -- What a command asks of members.
-use Rattle.std.specs.Prelude.{◌≡◌, ◌≤◌, ℕ, Bool, true, List, [], ◌++◌, length, replicate, IfOk, MatchOption, Option, Result}
+use Rattle.std.specs.Prelude.{◌≡◌, ◌≤◌, ℕ, true, List, [], ◌++◌, length, replicate, IfOk, MatchOption, Option, Result}
 use Rattle.ballots.specs.Messages.{Submit, Ask}
 use Rattle.ballots.specs.Terms.{is_level, most_text}
 use Rattle.ballots.specs.Values.{positions}

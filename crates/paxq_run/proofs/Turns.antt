@@ -7,6 +7,7 @@ use Rattle.ballots.specs.declared.reply.Reply.{Reply}
 use Rattle.ballots.specs.declared.value.Value.{Value}
 use Rattle.ballots.specs.declared.value.Value.TheVariants.{Request}
 use Rattle.ballots.specs.Terms.{Request as RequestTerm}
+use Rattle.ballots.specs.Values.{positions}
 use Rattle.sessions.specs.Terms.{id_of}
 use Rattle.sessions.specs.Meaning.{request_ran, kept_reply, store_of, reply_for}
 use Rattle.sessions.specs.Session.{SessionTerm, Means, reply_in}
@@ -31,12 +32,17 @@ ok-text (Err x) t bs e h = cc
 some-same : {A : Type 0} (a b : A) → Some a ≡ Some b → a ≡ b
 some-same a b e = cc
 
+-- how many positions there are, as a number
+pub positions-are : positions ≡ 1000000
+unfolding positions
+positions-are = refl
+
 -- a request that is new
-pub turn-new : (names : List (List ℕ)) (values : List Value) (s : SessionTerm) (r : RequestTerm) (reply : Reply) → Means names values s → reply_in s (id_of r) ≡ None → s.applied < 1000000
+pub turn-new : (names : List (List ℕ)) (values : List Value) (s : SessionTerm) (r : RequestTerm) (reply : Reply) → Means names values s → reply_in s (id_of r) ≡ None → s.applied < positions
     → kept_reply names (values ++ Request r ∷ []) (id_of r) ≡ Some reply → turn_of names values (submit r) ≡ record { printed = reply_text reply; values = values ++ Request r ∷ []; goes_on = true }
 turn-new names values s r reply means absent room kept =
     let none : kept_reply names values (id_of r) ≡ None = sym (means.replies (id_of r)) ∙ absent in
-    let few : nat_lt (length values) 1000000 ≡ true = (let e : s.applied ≡ length values = means.applied in grind (arith, nat_tests)) in
+    let few : nat_lt (length values) positions ≡ true = (let e : s.applied ≡ length values = means.applied in grind (arith, nat_tests)) in
     let same : reply_for (request_ran (store_of names values) r).ending (length values + 1) ≡ reply = (λ i. reply_for (request_ran (sym means.store i) r).ending (sym means.applied i + 1)) ∙ some-same _ _ (sym (reply-new names values s means r absent) ∙ kept) in
     rw (none, few) (λ i. record { printed = reply_text (same i); values = values ++ Request r ∷ []; goes_on = true })
 
@@ -45,8 +51,8 @@ pub turn-again : (names : List (List ℕ)) (values : List Value) (r : RequestTer
 turn-again names values r reply kept = rw kept refl
 
 -- a request that has no position left
-turn-full : (names : List (List ℕ)) (values : List Value) (r : RequestTerm) → kept_reply names values (id_of r) ≡ None → 1000000 ≤ length values → turn_of names values (submit r) ≡ record { printed = codes "no answer" ++ line_feed; values = values; goes_on = false }
-turn-full names values r none full = let many : nat_lt (length values) 1000000 ≡ false = grind (arith, nat_tests) in rw (none, many) refl
+turn-full : (names : List (List ℕ)) (values : List Value) (r : RequestTerm) → kept_reply names values (id_of r) ≡ None → positions ≤ length values → turn_of names values (submit r) ≡ record { printed = codes "no answer" ++ line_feed; values = values; goes_on = false }
+turn-full names values r none full = let many : nat_lt (length values) positions ≡ false = grind (arith, nat_tests) in rw (none, many) refl
 
 -- a turn that is known, and what is shown after it
 turned-is : (names : List (List ℕ)) (turn known : Turn) (s : Site Record SessionTerm) (sight : List Value) → turn ≡ known → Shows names known.values s sight → (printed : List ℕ) (goes_on : Bool) → printed ≡ known.printed → goes_on ≡ known.goes_on → HasTurned names turn printed goes_on s sight
@@ -59,16 +65,16 @@ module _ (names : List (List ℕ)) (values : List Value) (s : Site Record Sessio
   turned-again r reply kept text goes =
       turned-is names (turn_of names values (submit r)) (record { printed = reply_text reply; values = values; goes_on = true }) s sight (turn-again names values r reply (sym (kept names values (shows_means names values s sight shows)))) shows printed goes_on text goes
 
-  pub turned-full : (r : RequestTerm) → ((ns : List (List ℕ)) (vs : List Value) → Means ns vs s.node.application → None ≡ kept_reply ns vs (id_of r)) → 1000000 ≤ shows.running.applied → printed ≡ codes "no answer" ++ line_feed → goes_on ≡ false → HasTurned names (turn_of names values (submit r)) printed goes_on s sight
+  pub turned-full : (r : RequestTerm) → ((ns : List (List ℕ)) (vs : List Value) → Means ns vs s.node.application → None ≡ kept_reply ns vs (id_of r)) → positions ≤ shows.running.applied → printed ≡ codes "no answer" ++ line_feed → goes_on ≡ false → HasTurned names (turn_of names values (submit r)) printed goes_on s sight
   turned-full r none full text goes =
-      let many : 1000000 ≤ length values = (let e = shows.applied in omega (arith, full, e)) in
+      let many : positions ≤ length values = (let e = shows.applied in omega (arith, full, e)) in
       turned-is names (turn_of names values (submit r)) (record { printed = codes "no answer" ++ line_feed; values = values; goes_on = false }) s sight (turn-full names values r (sym (none names values (shows_means names values s sight shows))) many) shows printed goes_on text goes
 
-  pub turned-new : (r : RequestTerm) (reply : Reply) (new : Site Record SessionTerm) (seen : List Value) → reply_in s.node.application (id_of r) ≡ None → shows.running.applied < 1000000 → Shows names (values ++ Request r ∷ []) new seen
+  pub turned-new : (r : RequestTerm) (reply : Reply) (new : Site Record SessionTerm) (seen : List Value) → reply_in s.node.application (id_of r) ≡ None → shows.running.applied < positions → Shows names (values ++ Request r ∷ []) new seen
       → ((ns : List (List ℕ)) (vs : List Value) → Means ns vs new.node.application → Some reply ≡ kept_reply ns vs (id_of r)) → printed ≡ reply_text reply → goes_on ≡ true → HasTurned names (turn_of names values (submit r)) printed goes_on new seen
   turned-new r reply new seen absent room after kept text goes =
       let means = shows_means names values s sight shows in
-      let few : s.node.application.applied < 1000000 = (let e = shows.applied in let f = means.applied in omega (arith, room, e, f)) in
+      let few : s.node.application.applied < positions = (let e = shows.applied in let f = means.applied in omega (arith, room, e, f)) in
       let known = sym (kept names (values ++ Request r ∷ []) (shows_means names (values ++ Request r ∷ []) new seen after)) in
       turned-is names (turn_of names values (submit r)) (record { printed = reply_text reply; values = values ++ Request r ∷ []; goes_on = true }) new seen (turn-new names values s.node.application r reply means absent few known) after printed goes_on text goes
 

@@ -7,6 +7,7 @@ use Rattle.std.specs.Str.{IsUtf8}
 use Rattle.ballots.specs.declared.value.Value.{Value}
 use Rattle.ballots.specs.declared.value.Value.TheVariants.{Request}
 use Rattle.ballots.specs.Terms.{Request as RequestTerm}
+use Rattle.ballots.specs.Values.{positions}
 use Rattle.sessions.specs.Terms.{id_of}
 use Rattle.sessions.specs.Meaning.{request_ran, store_of, kept_reply, reply_for}
 use Rattle.sessions.specs.Session.{SessionTerm, Means}
@@ -24,10 +25,10 @@ pub record Turn : Type 0 where
   pub values : List Value
   pub goes_on : Bool
 
--- a request that is new is applied at the next position, of which there are 1,000,000
+-- a request that is new is applied at the next position, if there is one
 abbrev pub new_turn : List (List ℕ) → List Value → RequestTerm → Turn
 new_turn names values r =
-    cond (nat_lt (length values) 1000000)
+    cond (nat_lt (length values) positions)
     (record { printed = reply_text (reply_for (request_ran (store_of names values) r).ending (length values + 1)); values = values ++ Request r ∷ []; goes_on = true })
     (record { printed = codes "no answer" ++ line_feed; values = values; goes_on = false })
 

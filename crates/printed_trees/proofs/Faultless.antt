@@ -15,7 +15,7 @@ use Rattle.query_grammar.specs.declared.ast.Expr.TheVariants as e
 use Rattle.query_grammar.specs.declared.ast.Expr.TheViews.{the_lemmas}
 use Rattle.query_grammar.specs.declared.ast.Name.TheVariants.{Written}
 use Rattle.query_grammar.specs.declared.ast.Sign.TheVariants.{Minus}
-use Rattle.static_checks.specs.Categories.{Form, outside, Judged, judged, judged_form, form_of, is_faulty, is_mixed, is_updating, is_simple, may_not_stand, categories}
+use Rattle.static_checks.specs.Categories.{Form, outside, judged, judged_form, form_of, is_faulty, is_mixed, is_updating, is_simple, may_not_stand, categories}
 use Rattle.static_checks.specs.declared.categories.Category.TheVariants.{Updating, Vacuous, Simple}
 use Rattle.static_checks.specs.Functions.{is_unknown_call, has_unknown_call}
 use Rattle.static_checks.specs.Inside.{children}

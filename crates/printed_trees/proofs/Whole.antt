@@ -23,7 +23,6 @@ use Rattle.query_grammar.specs.declared.ast.Expr.TheVariants as e
 use Rattle.query_grammar.specs.Reader as reader
 use Rattle.query_grammar.proofs.Forms.{complete_query}
 use Rattle.static_checks.specs.Brackets.{most_open}
-use Rattle.static_checks.specs.Categories.{judged}
 use Rattle.static_checks.specs.Functions.{has_unknown_call}
 use Rattle.static_checks.specs.Variables.{binds_a_name_twice, has_unbound}
 use Rattle.static_checks.specs.Static.{IsExpression, parsed, of_read, of_grammar, unless_fault}
@@ -34,7 +33,7 @@ use Rattle.printed_trees.proofs.Spelt as spelt
 use Rattle.printed_trees.proofs.Nested as nested
 use Rattle.printed_trees.proofs.Nested.{IsNested, AreNested, constructor_nested, string_nested, integer_nested, boolean_nested, weaker, shallow}
 use Rattle.printed_trees.proofs.Faultless as faultless
-use Rattle.printed_trees.proofs.Faultless.{IsPlain, ArePlain, plain_trees, plain_constructor, plain_string, plain_integer, plain_boolean, no_fault}
+use Rattle.printed_trees.proofs.Faultless.{IsPlain, plain_trees, plain_constructor, plain_string, plain_integer, plain_boolean, no_fault}
 use Rattle.printed_trees.proofs.Turns.{Reads, whole}
 use Rattle.printed_trees.proofs.Lexed as lexed
 use Rattle.printed_trees.proofs.Lexed.{IsLexed, tree_characters, constructor_lexed, literal_lexed, boolean_lexed, integer_lexed}

@@ -1,5 +1,5 @@
 -- Whether a proposer is followed is whether its member is.
-use Rattle.std.proofs.Common.{◌≡◌, ◌≤◌, ℕ, ◌*◌, Bool, nat_lt, arith, sym, ap, ◌∙◌, List, Option, Some, None}
+use Rattle.std.proofs.Common.{◌≡◌, ◌≤◌, ℕ, ◌*◌, nat_lt, arith, sym, ap, ◌∙◌, List, Option, Some, None}
 use Rattle.std.proofs.lemmas.Option.{none-some, same_Some}
 use Rattle.ballots.specs.Messages.{Packet}
 use Rattle.paxos.proofs.Same.{count_agrees}

@@ -1,14 +1,14 @@
 -- New trees among the others.
-use Rattle.std.proofs.Common.{◌≡◌, ℕ, zero, suc, ◌<◌, ◌+◌, List, [], ◌∷◌, IsSome, None, refl, sym, ap, ◌∙◌, subst, arith, Result, Ok, Err}
+use Rattle.std.proofs.Common.{◌≡◌, ℕ, zero, suc, ◌<◌, ◌+◌, List, [], ◌∷◌, None, refl, sym, ap, ◌∙◌, subst, arith, Result, Ok, Err}
 use Rattle.data_model.specs.Tree.{TreeTerm, trees_of_tree}
-use Rattle.data_model.specs.Trees.{Trees, append, count, find}
+use Rattle.data_model.specs.Trees.{Trees, append, count}
 use Rattle.data_model.proofs.Climbs.{find-present, there-counts}
 use Rattle.data_model.proofs.Weights.{eqb-same, weigh-append}
 use Rattle.values.specs.declared.atom.Item.{Item}
 use Rattle.values.specs.declared.atom.Item.TheVariants as item
 use Rattle.fault_codes.specs.declared.code.Code.{Code}
 use Rattle.query_meaning.specs.Constructors.{rooted}
-use Rattle.query_meaning.specs.Running.{Run, and_then, pure, standing, trees_of}
+use Rattle.query_meaning.specs.Running.{Run, standing, trees_of}
 use Rattle.evaluation.specs.Gives.{Gives, Grows, Stand}
 
 -- the run in which a tree stands among the others

@@ -23,7 +23,7 @@ use Rattle.query_grammar.specs.Words.{axis_of, kind_test_of, is_function, sign_o
 use Rattle.query_grammar.specs.Loose.{looseness, looseness_of}
 use Rattle.query_grammar.specs.Reading.{Reader, and_then, pure, ◌>>=◌ as ◌▸◌, choose, same_kind, sees, at_level, eat, take_as, many}
 use Rattle.query_grammar.specs.Reader as r
-use Rattle.query_grammar.specs.Reader.{OrForm, form_of, begins_primary}
+use Rattle.query_grammar.specs.Reader.{OrForm}
 use Rattle.query_grammar.proofs.Follows.{loose, loose_level, mark_loose, Leads, leads_pure, leads_bind, leads_at, leads_mark, leads_many, and_false}
 use Rattle.query_grammar.proofs.Steps.{Shrinks, keeps, shrinks_such, shrinks_tok, shrinks_stands, keeps_many, Complete, complete_pure, complete_bind, complete_made, such_reads, tok_reads, stands_reads, complete_eat, complete_after, complete_then, complete_next, taken, passed, first_tok, then_tok, complete_choose, rounds_reads, complete_many}
 use Rattle.query_grammar.proofs.Starts.{shrinks_comma, shrinks_axis, shrinks_slash, shrinks_operation, shrinks_chain, shrinks_once, shrinks_exprs, keeps_name_or_braces, shrinks_primary, shrinks_predicate, shrinks_step, shrinks_segment, shrinks_unary, Begins, begins_make, begins_such, begins_stands, begins_bind, begins_either, starts, starts_path, begins_path, begins_unary, function_name, axis_name, kind_test_name}

@@ -12,7 +12,7 @@ use Rattle.values.specs.declared.atom.Item.{Item}
 use Rattle.values.specs.declared.atom.Item.TheVariants as item
 use Rattle.query_grammar.specs.declared.ast.Binding.{Binding}
 use Rattle.query_meaning.specs.Environment.{Environment, Bound}
-use Rattle.query_meaning.specs.Running.{M, Run, pure, ◌>>=◌, and_then, come_to, copying, seen, each, new_nodes, standing}
+use Rattle.query_meaning.specs.Running.{M, pure, ◌>>=◌, and_then, come_to, copying, seen, each, new_nodes, standing}
 use Rattle.query_meaning.specs.Sequences.{Meaning}
 use Rattle.query_meaning.specs.Updates.{must}
 use Rattle.update_meaning.specs.Effects.{target_of}

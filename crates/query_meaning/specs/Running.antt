@@ -2,6 +2,7 @@
 use Rattle.std.specs.Prelude.{ℕ, suc, ◌+◌, ◌-◌, ◌/◌, ◌==◌, nat_le, if◌then◌else◌, List, [], ◌∷◌, ◌++◌, length, Result, Ok, Err, refl}
 use Rattle.std.specs.Coded.{Coded, code_by, coded×, coded_ℕ, coded_list}
 use Rattle.data_model.specs.Changes.{pick}
+use Rattle.data_model.specs.Limits.{most_nodes as most_stored}
 use Rattle.data_model.specs.Trees.{Trees, append, bytes_in, size}
 use Rattle.shelves.specs.Shelf.{ShelfTerm, shelf_trees, shelf_code}
 use Rattle.pending.specs.Compatible.{most_primitives}
@@ -78,7 +79,7 @@ unfoldable pub most_items : ℕ
 most_items = 10000
 
 unfoldable pub most_nodes : ℕ
-most_nodes = 100000
+most_nodes = most_stored
 
 -- one turn more, before the rest
 abbrev pub turn : {A : Type 0} → M A → M A

@@ -1,6 +1,6 @@
 -- What a wire said came, by one call or by several.
 use Rattle.std.proofs.Common.{◌≡◌, ℕ, ◌+◌, arith, List, [], ◌++◌, length, refl, sym, subst, append-nil, append_assoc, length-append, Option}
-use Rattle.std.specs.Prelude.{Result, Ok, Err}
+use Rattle.std.specs.Prelude.{Result}
 use Rattle.wires.specs.Wires.{Carried, HasSaid, carried_in, failures_in, vain_in}
 use Rattle.wires.specs.declared.wire.Arrival.{Arrival}
 use Rattle.wires.specs.declared.wire.Unheard.{Unheard}

@@ -5,7 +5,7 @@ use Rattle.std.proofs.lemmas.Grind.{flat_map-append}
 use Rattle.paxos.specs.Records.{Record}
 use Rattle.server_steps.proofs.Said.{said_both}
 use Rattle.server_steps.specs.Going.{IsGivenNothing}
-use Rattle.server_steps.specs.Moves.{AreTurns, Deed, IsTurn, Took, came_by, came_with, no_turn, one_more}
+use Rattle.server_steps.specs.Moves.{AreTurns, Deed, IsTurn, came_by, came_with, no_turn, one_more}
 use Rattle.server_steps.specs.declared.fault.ServeFault.{ServeFault}
 use Rattle.serving.specs.Serves.{IsEnded, Rounds}
 use Rattle.wires.specs.Wires.{Carried, HasSaid}

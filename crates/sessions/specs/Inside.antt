@@ -1,5 +1,6 @@
 -- How the fields of a state stand for what callers see.
 use Rattle.std.specs.Prelude.{◌+◌, ◌*◌, ◌≤◌}
+use Rattle.ballots.specs.Values.{positions}
 use Rattle.query_meaning.specs.Running.{most_nodes}
 use Rattle.update_meaning.specs.Results.{IsStored}
 use Rattle.sessions.specs.Session.{SessionTerm}
@@ -12,4 +13,4 @@ term_of a = record { forest = a.forest; replies = a.replies.entries; applied = a
 pub record IsSound (a : Inside) : Type 0 where
   pub stored : IsStored a.forest.trees
   pub next : a.forest.next ≤ 65 + a.applied * most_nodes
-  pub few : a.applied ≤ 1000000
+  pub few : a.applied ≤ positions

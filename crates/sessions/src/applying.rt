@@ -43,7 +43,6 @@ impl Application for State {
         }
     }
 
-    #[tactic(auto, unfolding(ballots::specs::Values::positions))]
     fn apply(&mut self, alloc: Global, value: &Value) -> Result<(), AllocError> {
         match self.run(alloc, value) {
             Ok(_reply) => Ok(()),

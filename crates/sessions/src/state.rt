@@ -1,6 +1,7 @@
 //! The state of one member: its store, the replies that it keeps, and how many values it has applied.
 
 ghost use Rattle.std.specs.Prelude.{◌≡◌, ℕ, ◌<◌, IfOk, OnOk, OnErr, Some, None, List, [], ◌∷◌, ◌++◌};
+ghost use Rattle.ballots.specs.Values.{positions};
 ghost use Rattle.ballots.specs.declared.value.Value.{Value as ValueTerm};
 ghost use Rattle.sessions.specs.Terms.{id_of};
 ghost use Rattle.sessions.specs.Session.{Means, IsReplyTo, reply_in, after_repeat, after_new, reply_to_new};
@@ -67,8 +68,9 @@ impl State {
     ///
     /// A request runs once: a later occurrence of its client and number gets the reply to the first one.
     /// A no-op changes nothing, and is done. After a refusal nothing counts as applied.
+    #[tactic(auto, unfolding(ballots::specs::Values::positions))]
     pub fn run(&mut self, alloc: Global, value: &Value) -> Result<Reply, NoMemory>
-        requires room { self.old.applied < 1000000 }
+        requires room { self.old.applied < positions }
         ensures means { OnOk result ((names : List (List ℕ)) (values : List ValueTerm) → Means names values self.old → Means names (values ++ value.now ∷ []) self.new) }
         ensures replies { IfOk result (λ reply. (names : List (List ℕ)) (values : List ValueTerm) → Means names values self.old → IsReplyTo names values value.now reply) }
         ensures refused { OnErr result (self.new ≡ self.old) }
@@ -83,8 +85,9 @@ impl State {
     }
 
     /// Applies a request.
+    #[tactic(auto, unfolding(ballots::specs::Values::positions))]
     fn run_request(&mut self, alloc: Global, request: &Request) -> Result<Reply, NoMemory>
-        requires room { self.old.applied < 1000000 }
+        requires room { self.old.applied < positions }
         ensures repeat { IfOk result (λ reply. (kept : ReplyTerm) → reply_in self.old (id_of request.now) ≡ Some kept → (reply ≡ kept) × (self.new ≡ after_repeat self.old)) }
         ensures first { IfOk result (λ reply. reply_in self.old (id_of request.now) ≡ None → (reply ≡ reply_to_new self.old request.now) × (self.new ≡ after_new self.old request.now)) }
         ensures refused { OnErr result (self.new ≡ self.old) }
@@ -100,8 +103,9 @@ impl State {
     }
 
     /// Applies a request that occurs for the first time.
+    #[tactic(auto, unfolding(ballots::specs::Values::positions))]
     fn run_new(&mut self, alloc: Global, request: &Request) -> Result<Reply, NoMemory>
-        requires room { self.old.applied < 1000000 }
+        requires room { self.old.applied < positions }
         requires absent { reply_in self.old (id_of request.now) ≡ None }
         ensures reply { IfOk result (λ reply. reply ≡ reply_to_new self.old request.now) }
         ensures after { OnOk result (self.new ≡ after_new self.old request.now) }

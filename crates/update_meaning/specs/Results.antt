@@ -1,6 +1,6 @@
 -- What an update leaves (XQuery Update Facility 1.0, section 3.2.2), and which results are refused.
 use Rattle.std.specs.Prelude.{◌≡◌, ℕ, ◌+◌, Bool, true, not, ◌&&◌, if◌then◌else◌, nat_le, List, length, Result, Ok, Err}
-use Rattle.data_model.specs.Limits.{most_bytes, most_listed, most_height}
+use Rattle.data_model.specs.Limits.{most_bytes, most_height, most_listed, most_nodes}
 use Rattle.data_model.specs.Trees.{Trees, no_trees, tree, Content, roots, size, height, is_text}
 use Rattle.data_model.specs.Tidy.{is_document, begins_with_text, has_distinct_names}
 use Rattle.trees.specs.Forest.{ForestTerm}
@@ -55,7 +55,7 @@ abbrev pub is_small : Content → Trees → Trees → Bool
 is_small c bs cs = nat_le (length (roots bs) + length (roots cs)) most_listed && nat_le (length c.text) most_bytes
 
 abbrev pub is_within_limits : Trees → Bool
-is_within_limits ts = nat_le (size ts) 100000 && nat_le (height ts) most_height && all_nodes is_small ts
+is_within_limits ts = nat_le (size ts) most_nodes && nat_le (height ts) most_height && all_nodes is_small ts
 
 -- the trees, or the code by which they are refused; both are judged over the result alone
 abbrev pub judged : Trees → Result Trees Code

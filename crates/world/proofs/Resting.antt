@@ -12,7 +12,7 @@ use Rattle.paxos.specs.Lists.{at, Has}
 use Rattle.paxos.specs.Application.{Application}
 use Rattle.paxos.specs.Records.{Record, Write, Nothing, writes}
 use Rattle.paxos.specs.Step.{Running, Effect, quiet, may_begin, begins, on_begin, on_keep, on_message, on_resend, on_catch_up_tick}
-use Rattle.paxos.specs.World.{World as Whole, Member as Part, Choice, Begin, CatchUp, Deliver, Keep, Resend, Start, Stop, StopInBegin, StopInDeliver, StopInKeep, Submits, acts, asks, begins_in, delivers, happens, keeps_in, restarts, settles, starts, stops_in}
+use Rattle.paxos.specs.World.{World as Whole, Choice, Begin, CatchUp, Keep, Resend, Start, Stop, StopInBegin, StopInDeliver, StopInKeep, Submits, acts, asks, begins_in, delivers, keeps_in, restarts, settles, starts, stops_in}
 use Rattle.paxos.proofs.Lists.{has_cases}
 use Rattle.paxos.specs.Sound.{Sound}
 use Rattle.paxos.proofs.Worlds.{acts-there, quiet-same}

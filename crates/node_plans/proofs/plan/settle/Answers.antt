@@ -1,7 +1,6 @@
-use Rattle.std.proofs.Common.{◌≡◌, ◌∙◌, ℕ, ap, sym, arith, Some, None, length, Option}
+use Rattle.std.proofs.Common.{◌≡◌, ◌∙◌, ap, arith}
 use Rattle.std.specs.Option.{option_or}
 use Rattle.node_table.specs.Rows.{row_of}
-use Rattle.node_table.specs.declared.table.Row.{Row}
 use Rattle.node_plans.specs.Planned.{planned}
 use Rattle.node_table.proofs.Rows.{rows-same}
 use Rattle.node_plans.proofs.Plans.{settle-step, settle-end}

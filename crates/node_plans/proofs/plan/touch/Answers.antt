@@ -1,4 +1,4 @@
-use Rattle.std.proofs.Common.{◌∙◌, ap, sym, refl, Some, None, is_some, nat_eq, option_copied}
+use Rattle.std.proofs.Common.{◌∙◌, ap, sym, refl, Some, None, is_some, option_copied}
 use Rattle.row_pages.specs.Rows.{get}
 use Rattle.node_table.proofs.Clones.{row-clone}
 use Rattle.node_plans.proofs.Plans.{row-found, not-some, copied-table, copied-places, table-unchanged, places-unchanged, planned-none, row-put, kept-put, kept-same}

@@ -1,4 +1,4 @@
-use Rattle.std.proofs.Common.{◌≡◌, ap, sym, ◌∙◌}
+use Rattle.std.proofs.Common.{◌≡◌, ap, ◌∙◌}
 use Rattle.query_constructors.proofs.Standing.{rooted_gives}
 use Rattle.query_constructors.proofs.roots.rooted.Goals as goal
 

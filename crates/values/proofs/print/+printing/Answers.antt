@@ -9,7 +9,7 @@ use Rattle.values.proofs.Limits.{added-none, added-three, added-five}
 use Rattle.values.proofs.Constructors.{parts-step}
 use Rattle.values.proofs.Parts.{has-parts, inner-whole, leaf-whole, text_in}
 use Rattle.values.proofs.print.+printing.Goals as goal
-use Rattle.values.proofs.print.+printing.Goals.{push_node-then-is_inner+in_ok-push_parts+in_ok-push_parts-2+in_ok-push, push_node-else-is_inner+in_ok-push_literal, push_parts-then-follows+in_ok-push, push_parts-else-follows}
+use Rattle.values.proofs.print.+printing.Goals.{push_node-then-is_inner+in_ok-push_parts+in_ok-push_parts-2+in_ok-push, push_node-else-is_inner+in_ok-push_literal, push_parts-then-follows+in_ok-push}
 
 pub push_node-push_parts-requires : goal.push_node-push_parts-requires
 push_node-push_parts-requires t c =
