@@ -1,12 +1,14 @@
 //! `message_rows FILE`: prints what the bytes of each row read as, and whether encoding that gives the same bytes again.
 //!
-//! Rows: `all HEX..`, where spaces may stand between digits, and `cut N HEX..`, the first N bytes of them.
+//! Rows: `all HEX..`, where spaces may stand between digits, and `cut N HEX..`, the first N bytes of them. `said MESSAGE` prints the message that its words
+//! say, or `refused` where they say none: what is printed reads as that message.
 #![tactic(auto)]
 
 ghost use Rattle.ballots.specs.Messages.{body_of};
 ghost use Rattle.messages.specs.Spelling.{Fits};
 
 use ballots::Message;
+use message_words::{message_text, read_message};
 use messages::{Packet, WireFault, decode, encode};
 use rows::{Answers, RowFault, Words, hex_bytes, run_table};
 use std::alloc::Global;
@@ -28,6 +30,7 @@ impl Answers for MessageRows {
     fn answer(&mut self, alloc: Global, row: &str) -> Result<String, RowFault> {
         let mut words = Words::new(row);
         let most = match words.plain()? {
+            "said" => return said(alloc, &mut words),
             "all" => usize::MAX,
             "cut" => usize::try_from(words.number()?)
                 .ok()
@@ -38,6 +41,28 @@ impl Answers for MessageRows {
         bytes.truncate(most);
         read(alloc, &bytes)
     }
+}
+
+/// What words say. Faults: `NotARow` where what is printed of it is other words when it is read and printed again, and `Memory`.
+fn said(alloc: Global, words: &mut Words<'_>) -> Result<String, RowFault> {
+    let said = match said_once(alloc, words) {
+        Err(RowFault::NotARow) => return Ok(String::from_str(alloc, "refused")?),
+        given => given?,
+    };
+    let again = said_once(alloc, &mut Words::new(said.as_str()))?;
+    if again != said {
+        return Err(RowFault::NotARow);
+    }
+    Ok(said)
+}
+
+/// The message that words say, and no others after it, as it is printed.
+fn said_once(alloc: Global, words: &mut Words<'_>) -> Result<String, RowFault> {
+    let message = read_message(alloc, words)?;
+    if !words.is_empty() {
+        return Err(RowFault::NotARow);
+    }
+    Ok(message_text(alloc, &message)?)
 }
 
 /// What bytes read as.

@@ -1,13 +1,15 @@
 //! A node, and the calls of it that a row makes.
 
+use crate::datagrams::{read_bytes, read_datagram};
 use crate::printing::{fault_text, outbox_text, reading_text};
 use ballots::{Setup, SetupFault};
 use document_names::NamesFault;
 use line_parts::read_names;
 use member::{Target, Tick};
+use message_words::{read_u8, read_u32};
 use node::{Node, NodeFault, Outbox, Sent};
 use records::{ScriptRecords, Staged};
-use rows::{RowFault, Words, hex_bytes};
+use rows::{RowFault, Words};
 use sessions::State;
 use std::alloc::{AllocError, Global};
 
@@ -53,7 +55,7 @@ pub(super) fn called_failing(alloc: Global, words: &mut Words<'_>) -> Result<Str
     all_called(alloc, &mut played, words)
 }
 
-/// What the calls of a node give.
+/// What the calls of a node give, with a bar between two of them.
 fn all_called(
     alloc: Global,
     played: &mut Played,
@@ -61,52 +63,23 @@ fn all_called(
 ) -> Result<String, RowFault> {
     let mut out = String::new(alloc);
     for _ in 0..MOST_CALLS {
+        out.push_str(call(alloc, played, words)?.as_str())?;
         if words.is_empty() {
             return Ok(out);
         }
-        push_called(alloc, played, words, &mut out)?;
+        if words.plain()? != ";" {
+            return Err(RowFault::NotARow);
+        }
+        out.push_str(" | ")?;
     }
     Err(RowFault::NotARow)
 }
 
-/// Appends what a call gives, after a bar where something stands there.
-fn push_called(
-    alloc: Global,
-    played: &mut Played,
-    words: &mut Words<'_>,
-    out: &mut String,
-) -> Result<(), RowFault> {
-    if !out.is_empty() {
-        out.push_str(" | ")?;
-    }
-    let given = call(alloc, played, words)?;
-    out.push_str(given.as_str())?;
-    Ok(())
-}
-
-/// A number below 256.
-fn small(words: &mut Words<'_>) -> Result<u8, RowFault> {
-    u8::try_from(words.number()?).ok().ok_or(RowFault::NotARow)
-}
-
-/// A number below 2^32.
-fn word(words: &mut Words<'_>) -> Result<u32, RowFault> {
-    u32::try_from(words.number()?).ok().ok_or(RowFault::NotARow)
-}
-
-/// The bytes that a word stands for, `-` for none.
-fn bytes_of(alloc: Global, words: &mut Words<'_>) -> Result<Vec<u8>, RowFault> {
-    match words.plain()? {
-        "-" => Ok(Vec::new(alloc)),
-        digits => hex_bytes(alloc, digits),
-    }
-}
-
 /// What a node is told when it is set up.
 fn setup(alloc: Global, words: &mut Words<'_>) -> Result<Setup, RowFault> {
-    let group = word(words)?;
-    let member = small(words)?;
-    let members = small(words)?;
+    let group = read_u32(words)?;
+    let member = read_u8(words)?;
+    let members = read_u8(words)?;
     let names = match read_names(alloc, "db") {
         Ok(names) => names,
         Err(NamesFault::Memory) => return Err(RowFault::Memory),
@@ -145,11 +118,8 @@ fn node_over(alloc: Global, setup: Setup, store: ScriptRecords) -> Result<RowNod
 /// What a call gives.
 fn call(alloc: Global, played: &mut Played, words: &mut Words<'_>) -> Result<String, RowFault> {
     match words.plain()? {
-        "receive" => {
-            let bytes = bytes_of(alloc, words)?;
-            let given = played.node()?.receive(alloc, &bytes);
-            stepped(alloc, played, given)
-        }
+        "receive" => received(alloc, played, &read_datagram(alloc, words)?),
+        "bytes" => received(alloc, played, &read_bytes(alloc, words)?),
         "taken" => taken(alloc, played, words),
         "begin" => ticked(alloc, played, Tick::Begin),
         "resend" => ticked(alloc, played, Tick::Resend),
@@ -165,9 +135,15 @@ fn call(alloc: Global, played: &mut Played, words: &mut Words<'_>) -> Result<Str
     }
 }
 
+/// What a node gives that is handed bytes.
+fn received(alloc: Global, played: &mut Played, bytes: &[u8]) -> Result<String, RowFault> {
+    let given = played.node()?.receive(alloc, bytes);
+    stepped(alloc, played, given)
+}
+
 /// Whether bytes are taken, or their fault.
 fn taken(alloc: Global, played: &mut Played, words: &mut Words<'_>) -> Result<String, RowFault> {
-    let bytes = bytes_of(alloc, words)?;
+    let bytes = read_bytes(alloc, words)?;
     match played.node()?.receive(alloc, &bytes) {
         Ok(_outbox) => Ok(format!(in alloc; "taken")?),
         Err(fault) => fault_text(alloc, fault),
@@ -229,7 +205,7 @@ fn turned(alloc: Global, played: &mut Played) -> Result<String, RowFault> {
 
 /// `FLOOR TEXT`: what a question reads.
 fn answered(alloc: Global, played: &mut Played, words: &mut Words<'_>) -> Result<String, RowFault> {
-    let floor = word(words)?;
+    let floor = read_u32(words)?;
     let text = words.text(alloc)?;
     match played.node()?.answer(alloc, floor, 1, text.as_str()) {
         Ok(reading) => reading_text(alloc, &reading),

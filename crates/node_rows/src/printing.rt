@@ -1,5 +1,6 @@
 //! How what a node gives is printed.
 
+use crate::datagrams::datagram_text;
 use ballots::Answer;
 use member::Target;
 use messages::WireFault;
@@ -36,30 +37,13 @@ pub(super) fn fault_text(alloc: Global, fault: NodeFault) -> Result<String, RowF
     Ok(format!(in alloc; "fault {number}")?)
 }
 
-/// Appends the digit of a number below 16.
-fn push_digit(out: &mut String, digit: u8) -> Result<(), AllocError> {
-    match char::from_digit(u32::from(digit), 16) {
-        Some(digit) => out.push(digit),
-        None => Ok(()),
-    }
-}
-
-/// Appends bytes in hexadecimal digits, two each.
-fn push_hex(out: &mut String, bytes: &[u8]) -> Result<(), AllocError> {
-    for byte in bytes {
-        push_digit(out, *byte >> 4)?;
-        push_digit(out, *byte & 15)?;
-    }
-    Ok(())
-}
-
 /// To whom something goes.
 fn target_text(alloc: Global, to: Target) -> Result<String, AllocError> {
     match to {
         Target::One(member) => format!(in alloc; "to {member} "),
         Target::All => format!(in alloc; "to all "),
         Target::Others => format!(in alloc; "to others "),
-        Target::Client => format!(in alloc; "to the client "),
+        Target::Client => format!(in alloc; "to client "),
     }
 }
 
@@ -69,7 +53,7 @@ fn push_sent(alloc: Global, out: &mut String, sent: &Sent) -> Result<(), AllocEr
         out.push_str(", ")?;
     }
     out.push_str(target_text(alloc, sent.to)?.as_str())?;
-    push_hex(out, &sent.bytes)
+    out.push_str(datagram_text(alloc, &sent.bytes)?.as_str())
 }
 
 /// What a step gives.

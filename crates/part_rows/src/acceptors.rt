@@ -11,12 +11,11 @@ ghost use Rattle.acceptor.specs.Drafts.{IsDue};
 ghost use Rattle.ballots.specs.Values.{positions};
 
 use crate::playing::{Played, play_all};
-use crate::reading::{
-    ballot, ballot_text, number_of, numbers_text, position, push_word, request, said, yes_or_no,
-};
+use crate::reading::{number_of, numbers_text, push_word, request, said, yes_or_no};
 use acceptor::{Acceptor, Draft};
 use ballots::limits::{POSITIONS, is_position};
 use ballots::{Ballot, Value, Vote, Window};
+use message_words::{ballot_text, read_ballot, read_u32};
 use records::{MemRecords, Records, RecordsFault, ScriptRecords};
 use rows::{RowFault, Words};
 use std::alloc::{AllocError, Global};
@@ -146,7 +145,7 @@ fn begin<R: Records + Drop>(
     acceptor: &mut Acceptor<R>,
     words: &mut Words<'_>,
 ) -> Result<String, RowFault> {
-    let ballot = ballot(words)?;
+    let ballot = read_ballot(words)?;
     if !ballot.is_valid() || !acceptor.promised().is_below(ballot) {
         return Err(RowFault::NotARow);
     }
@@ -159,8 +158,8 @@ fn prepare<R: Records + Drop>(
     acceptor: &mut Acceptor<R>,
     words: &mut Words<'_>,
 ) -> Result<String, RowFault> {
-    let ballot = ballot(words)?;
-    let from = position(words)?;
+    let ballot = read_ballot(words)?;
+    let from = read_u32(words)?;
     if !ballot.is_valid() {
         return Err(RowFault::NotARow);
     }
@@ -177,8 +176,8 @@ fn accept<R: Records + Drop>(
     acceptor: &mut Acceptor<R>,
     words: &mut Words<'_>,
 ) -> Result<String, RowFault> {
-    let position = position(words)?;
-    let ballot = ballot(words)?;
+    let position = read_u32(words)?;
+    let ballot = read_ballot(words)?;
     if !ballot.is_valid() || !is_position(position) {
         return Err(RowFault::NotARow);
     }
@@ -230,8 +229,8 @@ fn drafts<R: Records + Drop>(
     is_first: bool,
     words: &mut Words<'_>,
 ) -> Result<String, RowFault> {
-    let first = draft(alloc, acceptor, position(words)?)?;
-    let second = draft(alloc, acceptor, position(words)?)?;
+    let first = draft(alloc, acceptor, read_u32(words)?)?;
+    let second = draft(alloc, acceptor, read_u32(words)?)?;
     let draft = if is_first { first } else { second };
     accepted_text(alloc, acceptor.commit(alloc, draft))
 }

@@ -3,8 +3,9 @@
 //! `promise BALLOT`, `vote POSITION BALLOT NUMBER`, `copy` (it goes on with a copy of itself), `promised`, `has POSITION BALLOT NUMBER`.
 
 use crate::playing::{Played, play_all};
-use crate::reading::{ballot, ballot_text, position, said, value, yes_or_no};
+use crate::reading::{said, value, yes_or_no};
 use ballots::Vote;
+use message_words::{ballot_text, read_ballot, read_u32};
 use records::Record;
 use rows::{RowFault, Words};
 use std::alloc::{AllocError, Global};
@@ -23,7 +24,7 @@ pub(super) fn row(alloc: Global, words: &Words<'_>) -> Result<String, RowFault> 
 
 /// A ballot, and the number of a request.
 fn read_vote(alloc: Global, words: &mut Words<'_>) -> Result<Vote, RowFault> {
-    let ballot = ballot(words)?;
+    let ballot = read_ballot(words)?;
     let value = value(alloc, words.number()?)?;
     Ok(Vote { ballot, value })
 }
@@ -51,11 +52,11 @@ impl Played for PlayedRecord {
     fn call(&mut self, alloc: Global, words: &mut Words<'_>) -> Result<String, RowFault> {
         match words.plain()? {
             "promise" => {
-                self.record.set_promise(ballot(words)?);
+                self.record.set_promise(read_ballot(words)?);
                 said(alloc, "ok")
             }
             "vote" => {
-                let position = position(words)?;
+                let position = read_u32(words)?;
                 self.vote(position, &read_vote(alloc, words)?)?;
                 said(alloc, "ok")
             }
@@ -65,7 +66,7 @@ impl Played for PlayedRecord {
             }
             "promised" => Ok(ballot_text(alloc, self.record.promise())?),
             "has" => {
-                let position = position(words)?;
+                let position = read_u32(words)?;
                 let vote = read_vote(alloc, words)?;
                 yes_or_no(alloc, self.record.has_vote(position, &vote))
             }

@@ -14,12 +14,11 @@ ghost use Rattle.learner.specs.Hearing.{AreAbove};
 ghost use Rattle.learner.specs.Messages.{IsSent};
 
 use crate::playing::{Played, play_all};
-use crate::reading::{
-    ballot, member, number_of, number_text, numbers_text, position, positions, said, value,
-};
+use crate::reading::{number_of, number_text, numbers_text, positions, said, value};
 use ballots::limits::{MOST_MEMBERS, POSITIONS, is_position};
 use ballots::{Ballot, Members, Pair, Value, Vote};
 use learner::{Heard, Learner, run};
+use message_words::{read_ballot, read_u8, read_u32};
 use rows::{RowFault, Words};
 use std::alloc::{AllocError, Global};
 
@@ -31,7 +30,7 @@ struct PlayedLearner {
 
 /// So many members.
 fn members(words: &mut Words<'_>) -> Result<Members, RowFault> {
-    Members::new(member(words)?).ok_or(RowFault::NotARow)
+    Members::new(read_u8(words)?).ok_or(RowFault::NotARow)
 }
 
 /// A row on a learner that has heard nothing.
@@ -43,7 +42,7 @@ pub(super) fn row(alloc: Global, words: &mut Words<'_>) -> Result<String, RowFau
 /// A row on a learner that has heard two members.
 pub(super) fn row_run(alloc: Global, words: &mut Words<'_>) -> Result<String, RowFault> {
     let members = members(words)?;
-    let position = position(words)?;
+    let position = read_u32(words)?;
     if !is_position(position) {
         return Err(RowFault::NotARow);
     }
@@ -84,7 +83,7 @@ fn accepted_by(member: u8, position: u32) -> Heard
 pub(super) fn row_resumed(alloc: Global, words: &mut Words<'_>) -> Result<String, RowFault> {
     let members = members(words)?;
     let mut values = Vec::new(alloc);
-    for _value in 0..member(words)? {
+    for _value in 0..read_u8(words)? {
         values.push(Value::NoOp)?;
     }
     let learner = match resumed(alloc, members, &values)? {
@@ -105,9 +104,9 @@ fn resumed(alloc: Global, members: Members, values: &[Value]) -> Result<Option<L
 
 /// A member, a position and a ballot: that member accepts the no-op there.
 fn read_accepted(words: &mut Words<'_>) -> Result<Heard, RowFault> {
-    let member = member(words)?;
-    let position = position(words)?;
-    let ballot = ballot(words)?;
+    let member = read_u8(words)?;
+    let position = read_u32(words)?;
+    let ballot = read_ballot(words)?;
     let value = Value::NoOp;
     Ok(Heard::Accepted(member, position, Vote { ballot, value }))
 }
@@ -199,8 +198,8 @@ impl PlayedLearner {
         let number = match word {
             "open" => Some(self.learner.open_tallies() as u64),
             "prefix" => Some(u64::from(self.learner.prefix())),
-            "learnt" => self.learner.learned(position(words)?).map(number_of),
-            "next" => self.learner.next_learned(position(words)?).map(u64::from),
+            "learnt" => self.learner.learned(read_u32(words)?).map(number_of),
+            "next" => self.learner.next_learned(read_u32(words)?).map(u64::from),
             _ => return Err(RowFault::NotARow),
         };
         Ok(number_text(alloc, number)?)

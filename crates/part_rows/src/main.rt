@@ -2,7 +2,8 @@
 //!
 //! A row is the word of a part and calls of it, with ` ; ` between two of them; what each gives stands between the same marks. Where a call is refused
 //! memory, it is made again. The calls stand at the head of the part's file: `map` (maps.rt), `learner`, `ran` and `resumed` (learners.rt), `proposer`
-//! (proposers.rt), `acceptor` and `failing` (acceptors.rt), `record` (kept.rt). Rows of ballots and of what messages are made of have no calls (values.rt).
+//! (proposers.rt), `acceptor` and `failing` (acceptors.rt), `record` (kept.rt). Rows of ballots and of what messages are made of have no calls (values.rt). Ballots,
+//! and the values of those last rows, stand in the words of `message_words`.
 #![tactic(auto)]
 
 mod acceptors;

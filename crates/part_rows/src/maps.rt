@@ -6,7 +6,8 @@
 ghost use Rattle.std.specs.Prelude.{◌≤◌};
 
 use crate::playing::{Played, play_all};
-use crate::reading::{number_text, position, said};
+use crate::reading::{number_text, said};
+use message_words::read_u32;
 use position_map::PositionMap;
 use rows::{RowFault, Words};
 use std::alloc::{AllocError, Global};
@@ -54,7 +55,7 @@ impl PlayedMap {
         word: &str,
         words: &mut Words<'_>,
     ) -> Result<String, RowFault> {
-        let position = position(words)?;
+        let position = read_u32(words)?;
         match word {
             "get" => {
                 let value = self.map.get(position).copied();
@@ -90,7 +91,7 @@ impl PlayedMap {
         }
         match word {
             "put" => {
-                let value = crate::reading::position(words)?;
+                let value = read_u32(words)?;
                 put(&mut self.map, position, value)?;
             }
             "room" => make_room(&mut self.map, position)?,

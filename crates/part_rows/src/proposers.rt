@@ -11,12 +11,10 @@ ghost use Rattle.ballots.specs.Values.{positions, IsRising};
 ghost use Rattle.proposer.specs.Hearing.{AreBetween, IsWindow};
 
 use crate::playing::{Played, play_all};
-use crate::reading::{
-    CLIENT, MOST, ballot, ballot_text, member, number_of, position, positions, push_word, request,
-    said, yes_or_no,
-};
+use crate::reading::{CLIENT, MOST, number_of, positions, push_word, request, said, yes_or_no};
 use ballots::limits::POSITIONS;
 use ballots::{Ballot, Entry, Members, Value, Vote, Window};
+use message_words::{ballot_text, read_ballot, read_u8, read_u32};
 use proposer::{Proposer, ProposerFault, Sends};
 use rows::{RowFault, Words};
 use std::alloc::{AllocError, Global};
@@ -45,8 +43,8 @@ pub(super) fn row(alloc: Global, words: &Words<'_>) -> Result<String, RowFault> 
 
 /// A position, a member whose ballot of round 1 it is, and the number of a request.
 fn read_entry(alloc: Global, words: &mut Words<'_>) -> Result<Entry, RowFault> {
-    let position = position(words)?;
-    let member = member(words)?;
+    let position = read_u32(words)?;
+    let member = read_u8(words)?;
     let ballot = Ballot { round: 1, member };
     let value = Value::Request(request(alloc, words.number()?)?);
     let vote = Vote { ballot, value };
@@ -70,8 +68,8 @@ fn read_entries(alloc: Global, words: &mut Words<'_>) -> Result<Vec<Entry>, RowF
 
 /// The first and the last position that a promise tells, and its votes.
 fn read_window(alloc: Global, words: &mut Words<'_>) -> Result<Window, RowFault> {
-    let from = position(words)?;
-    let covered = position(words)?;
+    let from = read_u32(words)?;
+    let covered = read_u32(words)?;
     let entries = read_entries(alloc, words)?;
     Ok(Window {
         ballot: OWN,
@@ -228,12 +226,12 @@ impl PlayedProposer {
     ) -> Result<String, RowFault> {
         match word {
             "begin" => {
-                let promise = ballot(words)?;
-                let from = position(words)?;
+                let promise = read_ballot(words)?;
+                let from = read_u32(words)?;
                 self.begin(alloc, promise, from, &positions(alloc, words)?)
             }
             "promise" => {
-                let sender = member(words)?;
+                let sender = read_u8(words)?;
                 self.promise(alloc, sender, &read_window(alloc, words)?)
             }
             "learned" => self.learn(alloc, &positions(alloc, words)?),
@@ -241,7 +239,7 @@ impl PlayedProposer {
             "resend" => sent_text(alloc, self.proposer.resend(alloc)?),
             "open" => yes_or_no(alloc, self.proposer.has_open(CLIENT, words.number()?)),
             "yield" => {
-                self.proposer.yield_to(ballot(words)?);
+                self.proposer.yield_to(read_ballot(words)?);
                 said(alloc, "ok")
             }
             "leads" => match self.proposer.leads() {

@@ -1,7 +1,8 @@
 //! Words that several parts have, and how what they stand for is printed.
 
-use ballots::{Ballot, Request, Value};
-use rows::{RowFault, Words, cut};
+use ballots::{Request, Value};
+use message_words::read_u32;
+use rows::{RowFault, Words};
 use std::alloc::{AllocError, Global};
 
 /// The client of each request, and its text.
@@ -12,24 +13,6 @@ const TEXT: &str = "insert node element a {} into doc(\"db\")";
 /// How many positions or votes a call has at most.
 pub(super) const MOST: usize = 20;
 
-/// The next word, a position.
-pub(super) fn position(words: &mut Words<'_>) -> Result<u32, RowFault> {
-    u32::try_from(words.number()?).ok().ok_or(RowFault::NotARow)
-}
-
-/// The next word, a member.
-pub(super) fn member(words: &mut Words<'_>) -> Result<u8, RowFault> {
-    u8::try_from(words.number()?).ok().ok_or(RowFault::NotARow)
-}
-
-/// The next word, a ballot: `ROUND,MEMBER`.
-pub(super) fn ballot(words: &mut Words<'_>) -> Result<Ballot, RowFault> {
-    let (round, owner) = cut(words.plain()?, ",");
-    let round = round.parse::<u64>().ok().ok_or(RowFault::NotARow)?;
-    let member = owner.parse::<u8>().ok().ok_or(RowFault::NotARow)?;
-    Ok(Ballot { round, member })
-}
-
 /// The positions that are left in a call.
 pub(super) fn positions(alloc: Global, words: &mut Words<'_>) -> Result<Vec<u32>, RowFault> {
     let mut positions = Vec::new(alloc);
@@ -37,7 +20,7 @@ pub(super) fn positions(alloc: Global, words: &mut Words<'_>) -> Result<Vec<u32>
         if words.is_empty() {
             break;
         }
-        positions.push(position(words)?)?;
+        positions.push(read_u32(words)?)?;
     }
     Ok(positions)
 }
@@ -70,12 +53,6 @@ pub(super) fn number_of(value: &Value) -> u64 {
             }
         }
     }
-}
-
-/// A ballot as it is read.
-pub(super) fn ballot_text(alloc: Global, ballot: Ballot) -> Result<String, AllocError> {
-    let (round, member) = (ballot.round, ballot.member);
-    format!(in alloc; "{round},{member}")
 }
 
 /// A number, or `-` where there is none.

@@ -1,15 +1,16 @@
 //! Rows on what messages are made of.
 //!
 //! `below BALLOT BALLOT`; `majority MEMBERS MASK` (bit m - 1 for member m); `members COUNT`; `request CLIENT NUMBER LEVEL TEXT`; `ask CLIENT NUMBER FLOOR LEVEL
-//! TEXT`; `setup GROUP MEMBER MEMBERS`, with the document `db`; `same VALUE VALUE`, each `-` for the no-op or `CLIENT NUMBER TEXT`; `value HEX`: the value at the
-//! front of bytes, how many they are, and whether it is spelt so. Refusals stand there by their names.
+//! TEXT`; `setup GROUP MEMBER MEMBERS`, with the document `db`; `same VALUE VALUE`, in the words of messages; `value HEX`: the value at the front of bytes, how many
+//! they are, and whether it is spelt so. Refusals stand there by their names.
 
-use crate::reading::{ballot, member, position, said, yes_or_no};
+use crate::reading::{said, yes_or_no};
 use ballots::{
     Ask, AskFault, Members, Request, RequestFault, Setup, SetupFault, SpellingFault, Value, Vote,
     put_value, take_value,
 };
 use document_names::Names;
+use message_words::{read_ballot, read_u8, read_u32, read_value, value_text};
 use rows::{RowFault, Words, hex_bytes};
 use std::alloc::Global;
 
@@ -17,13 +18,13 @@ use std::alloc::Global;
 pub(super) fn row(alloc: Global, word: &str, words: &mut Words<'_>) -> Result<String, RowFault> {
     match word {
         "below" => {
-            let first = ballot(words)?;
-            let second = ballot(words)?;
+            let first = read_ballot(words)?;
+            let second = read_ballot(words)?;
             yes_or_no(alloc, first.is_below(second))
         }
-        "members" => yes_or_no(alloc, Members::new(member(words)?).is_some()),
+        "members" => yes_or_no(alloc, Members::new(read_u8(words)?).is_some()),
         "majority" => {
-            let members = Members::new(member(words)?).ok_or(RowFault::NotARow)?;
+            let members = Members::new(read_u8(words)?).ok_or(RowFault::NotARow)?;
             yes_or_no(alloc, members.is_majority(words.number()?))
         }
         "request" => request_row(alloc, words),
@@ -37,9 +38,9 @@ pub(super) fn row(alloc: Global, word: &str, words: &mut Words<'_>) -> Result<St
 
 /// A client, a number, a level and a text: what the request has, or why there is none.
 fn request_row(alloc: Global, words: &mut Words<'_>) -> Result<String, RowFault> {
-    let client = position(words)?;
+    let client = read_u32(words)?;
     let number = words.number()?;
-    let level = member(words)?;
+    let level = read_u8(words)?;
     let text = words.text(alloc)?;
     match Request::new(alloc, client, number, level, text.as_str()) {
         Ok(request) => {
@@ -55,10 +56,10 @@ fn request_row(alloc: Global, words: &mut Words<'_>) -> Result<String, RowFault>
 
 /// A client, a number, a floor, a level and a text: what the question has, or why there is none.
 fn ask_row(alloc: Global, words: &mut Words<'_>) -> Result<String, RowFault> {
-    let client = position(words)?;
+    let client = read_u32(words)?;
     let number = words.number()?;
-    let floor = position(words)?;
-    let level = member(words)?;
+    let floor = read_u32(words)?;
+    let level = read_u8(words)?;
     let text = words.text(alloc)?;
     match Ask::new(alloc, client, number, floor, level, text.as_str()) {
         Ok(ask) => {
@@ -75,9 +76,9 @@ fn ask_row(alloc: Global, words: &mut Words<'_>) -> Result<String, RowFault> {
 
 /// A group, a member and how many there are: what a member is set up with, or why it is not.
 fn setup_row(alloc: Global, words: &mut Words<'_>) -> Result<String, RowFault> {
-    let group = position(words)?;
-    let number = member(words)?;
-    let members = member(words)?;
+    let group = read_u32(words)?;
+    let number = read_u8(words)?;
+    let members = read_u8(words)?;
     let mut list = Vec::new(alloc);
     list.push(String::from_str(alloc, "db")?)?;
     let Ok(names) = Names::new(alloc, &list) else {
@@ -91,23 +92,6 @@ fn setup_row(alloc: Global, words: &mut Words<'_>) -> Result<String, RowFault> {
         }
         Err(SetupFault::Memory) => Err(RowFault::Memory),
         Err(SetupFault::Numbers) => said(alloc, "numbers"),
-    }
-}
-
-/// `-`, or a client, a number and a text.
-fn read_value(alloc: Global, words: &mut Words<'_>) -> Result<Value, RowFault> {
-    match words.plain()? {
-        "-" => Ok(Value::NoOp),
-        client => {
-            let client = client.parse::<u32>().ok().ok_or(RowFault::NotARow)?;
-            let number = words.number()?;
-            let text = words.text(alloc)?;
-            match Request::new(alloc, client, number, 1, text.as_str()) {
-                Ok(request) => Ok(Value::Request(request)),
-                Err(RequestFault::Memory) => Err(RowFault::Memory),
-                Err(_) => Err(RowFault::NotARow),
-            }
-        }
     }
 }
 
@@ -138,7 +122,7 @@ fn value_row(alloc: Global, words: &mut Words<'_>) -> Result<String, RowFault> {
     }
 }
 
-/// What a value says, and whether it is spelt by those bytes.
+/// A value in words, and whether it is spelt by those bytes.
 fn spelt(alloc: Global, value: &Value, bytes: &[u8]) -> Result<String, RowFault> {
     let mut out = Vec::new(alloc);
     put_value(value, &mut out)?;
@@ -148,12 +132,6 @@ fn spelt(alloc: Global, value: &Value, bytes: &[u8]) -> Result<String, RowFault>
     } else {
         "spelt otherwise"
     };
-    match value {
-        Value::NoOp => Ok(format!(in alloc; "no-op, {length} bytes, {again}")?),
-        Value::Request(request) => {
-            let (id, level, text) = (request.id(), request.level(), request.text());
-            let (client, number) = (id.client, id.number);
-            Ok(format!(in alloc; "{client} {number} {level} {text:?}, {length} bytes, {again}")?)
-        }
-    }
+    let value = value_text(alloc, value)?;
+    Ok(format!(in alloc; "{value}, {length} bytes, {again}")?)
 }
