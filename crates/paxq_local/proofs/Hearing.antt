@@ -1,12 +1,11 @@
 -- What is heard while a client listens.
-use Rattle.std.proofs.Common.{◌≡◌, ℕ, Bool, List, ◌++◌, take, Option, Some, Result, Ok, IfOk, IfSome, MatchOption, sym, subst, append_assoc}
+use Rattle.std.proofs.Common.{◌≡◌, ℕ, Bool, List, ◌++◌, take, Option, None, Some, Result, Ok, IfOk, IfSome, MatchOption, sym, subst, append_assoc}
 use Rattle.ballots.specs.declared.request.RequestId.{RequestId}
 use Rattle.paxos.proofs.Lists.{has_right}
-use Rattle.paxq_local.specs.Members.{HoldsSaid, IsToldAs}
+use Rattle.paxq_local.specs.Members.{HoldsSaid, IsToldByAll}
 use Rattle.paxq_local.specs.Told.{Brings, HasComeFrom}
 use Rattle.paxq_local.specs.declared.answers.Answers.{Answers}
 use Rattle.paxq_local.specs.declared.answers.Told.{Told}
-use Rattle.paxq_local.specs.declared.asked.Form.TheVariants.{Ask}
 use Rattle.paxq_local.proofs.Brought.{brings-kept, brings-last, brings-then}
 use Rattle.paxq_local.proofs.Holding.{holds-more}
 use Rattle.wires.specs.Wires.{Carried}
@@ -58,13 +57,28 @@ module _ {W A : Type 0} (H : W → List (Carried A) → Type 0) (eq : A → A �
 pub told-last : {W A E : Type 0} (H : W → List (Carried A) → Type 0) (eq : A → A → Bool) (peers theirs : List A) (members : ℕ) (id : RequestId) (old new : Answers) (a b c d : W) (r : Result (Option Told) E) (told : Told)
     → Brings H a b (λ xs. HoldsSaid eq peers xs members id old) → ((ds : List (Carried A)) → H b ds → H c ds)
     → Brings H c d (λ ys. (n : ℕ) (before : List (Carried A)) → HoldsSaid eq theirs before n id old
-    → IfOk r (λ o. MatchOption o (HoldsSaid eq theirs (before ++ ys) n id new) (IsToldAs eq theirs (before ++ ys) n Ask id)))
-    → theirs ≡ peers → r ≡ Ok (Some told) → Brings H a d (λ zs. IsToldAs eq peers zs members Ask id told)
+    → IfOk r (λ o. MatchOption o (HoldsSaid eq theirs (before ++ ys) n id new) (IsToldByAll eq theirs (before ++ ys) n id)))
+    → theirs ≡ peers → r ≡ Ok (Some told) → Brings H a d (λ zs. IsToldByAll eq peers zs members id told)
 told-last {W} {A} {E} H eq peers theirs members id old new a b c d r told first keeps last same is =
     brings-last H a b c d (λ xs. HoldsSaid eq peers xs members id old)
-    (λ ys. (n : ℕ) (before : List (Carried A)) → HoldsSaid eq theirs before n id old → IfOk r (λ o. MatchOption o (HoldsSaid eq theirs (before ++ ys) n id new) (IsToldAs eq theirs (before ++ ys) n Ask id)))
-    (λ zs. IsToldAs eq peers zs members Ask id told) first keeps last
+    (λ ys. (n : ℕ) (before : List (Carried A)) → HoldsSaid eq theirs before n id old → IfOk r (λ o. MatchOption o (HoldsSaid eq theirs (before ++ ys) n id new) (IsToldByAll eq theirs (before ++ ys) n id)))
+    (λ zs. IsToldByAll eq peers zs members id told) first keeps last
     (λ xs ys h q.
-    subst (λ (ps : List A). IsToldAs eq ps (xs ++ ys) members Ask id told) same
-    (subst (λ (x : Result (Option Told) E). IfOk x (λ o. MatchOption o (HoldsSaid eq theirs (xs ++ ys) members id new) (IsToldAs eq theirs (xs ++ ys) members Ask id))) is
+    subst (λ (ps : List A). IsToldByAll eq ps (xs ++ ys) members id told) same
+    (subst (λ (x : Result (Option Told) E). IfOk x (λ o. MatchOption o (HoldsSaid eq theirs (xs ++ ys) members id new) (IsToldByAll eq theirs (xs ++ ys) members id))) is
+    (q members xs (subst (λ (ps : List A). HoldsSaid eq ps xs members id old) (sym same) h))))
+
+-- the same where nothing came of it yet: what holds of the answers holds on
+pub holds-last : {W A E : Type 0} (H : W → List (Carried A) → Type 0) (eq : A → A → Bool) (peers theirs : List A) (members : ℕ) (id : RequestId) (old new : Answers) (a b c d : W) (r : Result (Option Told) E)
+    → Brings H a b (λ xs. HoldsSaid eq peers xs members id old) → ((ds : List (Carried A)) → H b ds → H c ds)
+    → Brings H c d (λ ys. (n : ℕ) (before : List (Carried A)) → HoldsSaid eq theirs before n id old
+    → IfOk r (λ o. MatchOption o (HoldsSaid eq theirs (before ++ ys) n id new) (IsToldByAll eq theirs (before ++ ys) n id)))
+    → theirs ≡ peers → r ≡ Ok None → Brings H a d (λ zs. HoldsSaid eq peers zs members id new)
+holds-last {W} {A} {E} H eq peers theirs members id old new a b c d r first keeps last same is =
+    brings-last H a b c d (λ xs. HoldsSaid eq peers xs members id old)
+    (λ ys. (n : ℕ) (before : List (Carried A)) → HoldsSaid eq theirs before n id old → IfOk r (λ o. MatchOption o (HoldsSaid eq theirs (before ++ ys) n id new) (IsToldByAll eq theirs (before ++ ys) n id)))
+    (λ zs. HoldsSaid eq peers zs members id new) first keeps last
+    (λ xs ys h q.
+    subst (λ (ps : List A). HoldsSaid eq ps (xs ++ ys) members id new) same
+    (subst (λ (x : Result (Option Told) E). IfOk x (λ o. MatchOption o (HoldsSaid eq theirs (xs ++ ys) members id new) (IsToldByAll eq theirs (xs ++ ys) members id))) is
     (q members xs (subst (λ (ps : List A). HoldsSaid eq ps xs members id old) (sym same) h))))

@@ -10,17 +10,16 @@ use Rattle.std.proofs.lemmas.List.Folds.{list_all_at}
 use Rattle.std.proofs.lemmas.Option.{none-some, same_Some}
 use Rattle.ballots.specs.declared.request.RequestId.{RequestId}
 use Rattle.paxq_local.specs.Answering.{AreNoted, AreSame, AreTold, Differs, IsAdded, IsAnother, has_answered}
-use Rattle.paxq_local.specs.Members.{HaveDiffered, HoldsSaid, IsAnswerOf, IsToldAs}
+use Rattle.paxq_local.specs.Members.{HaveDiffered, HoldsSaid, IsAnswerOf, IsToldByAll}
 use Rattle.paxq_local.specs.Told.{answer_told}
 use Rattle.paxq_local.specs.declared.answers.Answers.{Answers}
 use Rattle.paxq_local.specs.declared.answers.Told.{Told}
 use Rattle.paxq_local.specs.declared.answers.Told.TheVariants.{Said, Differ, NoAnswer}
-use Rattle.paxq_local.specs.declared.asked.Form.TheVariants.{Ask}
 use Rattle.paxq_local.proofs.Saying.{by-more}
 use Rattle.wires.specs.Wires.{Carried}
 
 -- one of many flags that are not set
-none-set : (n k : ℕ) → get_or (replicate n false) k false ≡ false
+pub none-set : (n k : ℕ) → get_or (replicate n false) k false ≡ false
 none-set n k = ⊎_elim (λ below. get_or-replicate n k false false below) (λ past. get_or_past (replicate n false) k false (subst (λ (m : ℕ). m ≤ k) (sym (length-replicate n false)) past)) (cases_lt k n)
 
 true-unless : (b : Bool) → (b ≡ false → ⊥) → b ≡ true
@@ -89,7 +88,7 @@ module _ {A : Type 0} (eq : A → A → Bool) (peers : List A) (members : ℕ) (
     holds-noted old new before text h said (inr added) = holds-added old new before text h said added.0 added.1
 
     -- all have, and the same
-    all-said : (now : Answers) (all : String Global) → HoldsSaid eq peers xs members id now → list_all (λ has. has) now.has.items ≡ true → now.text ≡ Some all → IsToldAs eq peers xs members Ask id (Said all)
+    all-said : (now : Answers) (all : String Global) → HoldsSaid eq peers xs members id now → list_all (λ has. has) now.has.items ≡ true → now.text ≡ Some all → IsToldByAll eq peers xs members id (Said all)
     all-said now all h are held =
         let s = subst (λ (o : Option (String Global)). IfSome o (λ _. (before : ℕ) × (has_answered now before ≡ true))) held h.by_some in
         let some : s.0 < length now.has.items = set-below now.has.items s.0 s.1 in (
@@ -123,12 +122,12 @@ module _ {A : Type 0} (eq : A → A → Bool) (peers : List A) (members : ℕ) (
     two-differ old before text h said d = other-than old before text old.text h said d refl d.is_another
 
     pub holds-told : (old : Answers) (before : ℕ) (text : String Global) (came : Told) → HoldsSaid eq peers xs members id old → IsAnswerOf eq peers xs before id (string_bytes text)
-        → AreTold old before text came → IsToldAs eq peers xs members Ask id came
+        → AreTold old before text came → IsToldByAll eq peers xs members id came
     holds-told old before text (Said all) h said t = all-said t.0 all (holds-noted old t.0 before text h said t.1) t.2 t.3
     holds-told old before text Differ h said t = two-differ old before text h said t
     holds-told old before text NoAnswer h said t = tt
 
     pub holds-either : (old new : Answers) (before : ℕ) (text : String Global) (o : Option Told) → HoldsSaid eq peers xs members id old → IsAnswerOf eq peers xs before id (string_bytes text)
-        → MatchOption o (AreNoted old before text new) (AreTold old before text) → MatchOption o (HoldsSaid eq peers xs members id new) (IsToldAs eq peers xs members Ask id)
+        → MatchOption o (AreNoted old before text new) (AreTold old before text) → MatchOption o (HoldsSaid eq peers xs members id new) (IsToldByAll eq peers xs members id)
     holds-either old new before text None h said t = holds-noted old new before text h said t
     holds-either old new before text (Some came) h said t = holds-told old before text came h said t

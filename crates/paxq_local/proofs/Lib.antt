@@ -1,4 +1,6 @@
 pub mod Askable
+pub mod Asks
+pub mod Both
 pub mod Brought
 pub mod Giving
 pub mod Hearing
@@ -7,3 +9,5 @@ pub mod Lines
 pub mod Runs
 pub mod Saying
 pub mod Sending
+pub mod Silent
+pub mod Tries

@@ -1,11 +1,13 @@
 -- What a datagram says that has come.
-use Rattle.std.proofs.Common.{◌≡◌, ◌∙◌, ℕ, Bool, List, ◌++◌, Option, Some, None, Result, Ok, Err, IfOk, IfSome, refl, sym, ap}
+use Rattle.std.proofs.Common.{◌≡◌, ◌∙◌, ℕ, Bool, List, ◌++◌, Option, Some, None, Result, Ok, Err, IfOk, IfSome, refl, sym, ap, string_bytes}
 use Rattle.std.specs.Option.{option_map}
 use Rattle.ballots.specs.declared.request.RequestId.{RequestId}
 use Rattle.clients.specs.Hearing.{HeardTerm, heard_in}
 use Rattle.messages.specs.Reading.{datagram_read}
 use Rattle.paxq_local.specs.Members.{IsAt, IsSaidBy, own_group}
-use Rattle.paxq_local.specs.Told.{Brings, HasCome, HasComeFrom, IsSaid}
+use Rattle.paxq_local.specs.Told.{Brings, HasCome, HasComeFrom, IsSaid, position_in, told, told_at}
+use Rattle.paxq_local.specs.declared.asked.Form.{Form}
+use Rattle.paxq_local.specs.declared.asked.Said.{Said}
 use Rattle.paxq_local.proofs.Brought.{brings-then, said-after, said-more}
 use Rattle.wires.specs.Wires.{Carried}
 
@@ -44,7 +46,9 @@ by-come eq peers xs before said id x from bytes come is_at says = (
 )
 
 -- what is said of what a call may have found
-pub found-said : {S X E : Type 0} (view : S → X) (r : Result (Option S) E) (told : Option X) (P : X → Type 0) → IfOk r (λ o. option_map view o ≡ told) → ((x : X) → told ≡ Some x → P x) → IfOk r (λ o. IfSome o (λ s. P (view s)))
-found-said view (Ok (Some s)) told P is then = then (view s) (sym is)
-found-said view (Ok None) told P is then = tt
-found-said view (Err error) told P is then = tt
+pub found-said : {E : Type 0} (r : Result (Option Said) E) (form : Form) (heard : Option HeardTerm) (P : List ℕ × ℕ → Type 0) → IfOk r (λ o. option_map (λ (s : Said). string_bytes s.text) o ≡ told form heard)
+    → IfOk r (λ o. IfSome o (λ (s : Said). s.position ≡ position_in heard)) → ((x : List ℕ × ℕ) → told_at form heard ≡ Some x → P x) → IfOk r (λ o. IfSome o (λ (s : Said). P (string_bytes s.text, s.position)))
+found-said (Ok (Some s)) form heard P text position then =
+    then (string_bytes s.text, s.position) (ap (λ o. option_map (λ bs. (bs, position_in heard)) o) (sym text) ∙ ap (λ (n : ℕ). Some (string_bytes s.text, n)) (sym position))
+found-said (Ok None) form heard P text position then = tt
+found-said (Err error) form heard P text position then = tt

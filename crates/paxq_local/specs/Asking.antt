@@ -1,5 +1,5 @@
 -- What a command asks of members.
-use Rattle.std.specs.Prelude.{◌≡◌, ◌≤◌, ℕ, true, List, [], ◌++◌, length, replicate, IfOk, MatchOption, Option, Result}
+use Rattle.std.specs.Prelude.{◌≡◌, ◌≤◌, ◌==◌, ℕ, true, List, [], ◌++◌, filter, length, replicate, IfOk, MatchOption, Option, Result}
 use Rattle.ballots.specs.Messages.{Submit, Ask}
 use Rattle.ballots.specs.Terms.{is_level, most_text}
 use Rattle.ballots.specs.Values.{positions}
@@ -47,6 +47,12 @@ CanBeAsked floor (submit r) = Unit {0}
 CanBeAsked floor (ask level text) = IsQuestion floor level text
 CanBeAsked floor (ask_at level own text) = IsQuestion own level text
 
+-- The same but for the level, which each line of a script has: a question's text is not too long, and its floor is 0 or a position.
+abbrev pub IsInBounds : (floor : ℕ) → Command → Type 0
+IsInBounds floor (submit r) = Unit {0}
+IsInBounds floor (ask level text) = (length text ≤ most_text) × (floor ≤ positions)
+IsInBounds floor (ask_at level own text) = (length text ≤ most_text) × (own ≤ positions)
+
 -- the datagram that asks the node at an address for it, from end 0; a question goes by the client and the number 0
 abbrev pub datagram_to : {A : Type 0} → (group : ℕ) → (to : A) → Command → Carried A
 datagram_to group to command = record { end = 0; peer = to; bytes = bytes_of group (record { client = 0; number = 0 }) 0 command }
@@ -55,10 +61,22 @@ datagram_to group to command = record { end = 0; peer = to; bytes = bytes_of gro
 abbrev pub most_tries : ℕ
 most_tries = 200
 
+-- those of them that the client sends, from end 0
+abbrev pub from_client : {A : Type 0} → List (Carried A) → List (Carried A)
+from_client {A} ds = filter (λ (d : Carried A). d.end == 0) ds
+
 module _ {W A : Type 0} (was_given : W → List (Carried A) → Type 0) where
   -- from the one to the other the wire was given these
   abbrev pub IsGiven : (v w : W) → List (Carried A) → Type 0
   IsGiven v w sent = (ds : List (Carried A)) → was_given v ds → was_given w (ds ++ sent)
+
+  -- From the one to the other the wire was given datagrams, and of those of them that the client sent this holds: members send from other ends.
+  abbrev pub Gives : (v w : W) → (List (Carried A) → Type 0) → Type 0
+  Gives v w P = (all : List (Carried A)) × IsGiven v w all × P (from_client all)
+
+  -- the client sent nothing
+  abbrev pub GivesNothing : (v w : W) → Type 0
+  GivesNothing v w = Gives v w (λ went. went ≡ [])
 
   -- It was given a datagram again and again, 200 times at most: once at least where something was said to it, and all of them where nothing was.
   abbrev pub IsTried : {T E : Type 0} → (v w : W) → Carried A → (said : Result (Option T) E) → Type 0

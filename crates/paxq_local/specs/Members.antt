@@ -1,11 +1,11 @@
 -- What the members of a group say to its client.
-use Rattle.std.specs.Prelude.{◌≡◌, ℕ, ◌+◌, ◌^◌, ◌-◌, ◌<◌, min, Bool, true, List, length, Option, Some, IfSome, slice_get, string_bytes}
+use Rattle.std.specs.Prelude.{◌≡◌, ℕ, ◌+◌, ◌^◌, ◌-◌, ◌<◌, min, max, Bool, true, List, length, Option, Some, IfSome, slice_get, string_bytes}
 use Rattle.std.specs.declared.alloc.Global.{Global}
 use Rattle.std.specs.declared.string.String.{String}
 use Rattle.ballots.specs.declared.request.RequestId.{RequestId}
 use Rattle.clients.specs.Hearing.{HeardTerm}
 use Rattle.paxq_local.specs.Answering.{has_answered}
-use Rattle.paxq_local.specs.Told.{IsSaidFrom, answer_told, told}
+use Rattle.paxq_local.specs.Told.{IsSaidFrom, answer_told, told_at}
 use Rattle.paxq_local.specs.declared.answers.Answers.{Answers}
 use Rattle.paxq_local.specs.declared.answers.Told.{Told}
 use Rattle.paxq_local.specs.declared.answers.Told.TheVariants.{Said, Differ, NoAnswer}
@@ -40,19 +40,23 @@ module _ {A : Type 0} (eq : A → A → Bool) (peers : List A) where
     abbrev pub IsAnswerOf : (before : ℕ) → RequestId → (text : List ℕ) → Type 0
     IsAnswerOf before id text = IsSaidBy before answer_told id (before + 1, text)
 
-    -- what came of a line that the first member was asked
-    abbrev pub IsToldByFirst : Form → RequestId → Told → Type 0
-    IsToldByFirst form id (Said text) = IsSaidBy 0 (told form) id (string_bytes text)
-    IsToldByFirst form id Differ = ⊥
-    IsToldByFirst form id NoAnswer = Unit {0}
+    -- What came of a line that the first member was asked. What it said is printed, and the floor from then on is the position of a reply, if that is higher.
+    abbrev pub IsToldByFirst : Form → RequestId → (floor next : ℕ) → Told → Type 0
+    IsToldByFirst form id floor next (Said text) = (position : ℕ) × (next ≡ max floor position) × IsSaidBy 0 (told_at form) id (string_bytes text, position)
+    IsToldByFirst form id floor next Differ = ⊥
+    IsToldByFirst form id floor next NoAnswer = Unit {0}
 
     module _ (members : ℕ) where
-      -- A line that was said by whom it was asked of: a request and a question with a floor by the first member, a question without one by each
-      -- of so many members, all of them the same.
-      abbrev pub IsSaidTo : Form → RequestId → (text : List ℕ) → Type 0
-      IsSaidTo Submit id text = IsSaidBy 0 (told Submit) id text
-      IsSaidTo Ask id text = (0 < members) × ((before : ℕ) → before < members → IsAnswerOf before id text)
-      IsSaidTo AskAt id text = IsSaidBy 0 (told AskAt) id text
+      -- each of so many members, one at least, answers a question so
+      abbrev pub IsSaidByAll : RequestId → (text : List ℕ) → Type 0
+      IsSaidByAll id text = (0 < members) × ((before : ℕ) → before < members → IsAnswerOf before id text)
+
+      -- A line that was said by whom it was asked of, with the position that a reply names (else 0): a request and a question with a floor by the first
+      -- member, a question without one by each of so many members, all of them the same.
+      abbrev pub IsSaidTo : Form → RequestId → (text : List ℕ) → (position : ℕ) → Type 0
+      IsSaidTo Submit id text position = IsSaidBy 0 (told_at Submit) id (text, position)
+      IsSaidTo Ask id text position = (position ≡ 0) × IsSaidByAll id text
+      IsSaidTo AskAt id text position = IsSaidBy 0 (told_at AskAt) id (text, position)
 
       -- two of so many members answered a question, and not the same
       pub record HaveDiffered (id : RequestId) : Type 0 where
@@ -73,11 +77,17 @@ module _ {A : Type 0} (eq : A → A → Bool) (peers : List A) where
       AreDiffering Ask id = HaveDiffered id
       AreDiffering AskAt id = ⊥
 
-      -- what came of a line that went by that
-      abbrev pub IsToldAs : Form → RequestId → Told → Type 0
-      IsToldAs form id (Said text) = IsSaidTo form id (string_bytes text)
-      IsToldAs form id Differ = AreDiffering form id
-      IsToldAs form id NoAnswer = Unit {0}
+      -- what came of a question that all were asked
+      abbrev pub IsToldByAll : RequestId → Told → Type 0
+      IsToldByAll id (Said text) = IsSaidByAll id (string_bytes text)
+      IsToldByAll id Differ = HaveDiffered id
+      IsToldByAll id NoAnswer = Unit {0}
+
+      -- What came of a line that went by that, and the floor of questions before it and from then on: the highest position of a reply.
+      abbrev pub IsToldAs : Form → RequestId → (floor next : ℕ) → Told → Type 0
+      IsToldAs form id floor next (Said text) = (position : ℕ) × (next ≡ max floor position) × IsSaidTo form id (string_bytes text) position
+      IsToldAs form id floor next Differ = AreDiffering form id
+      IsToldAs form id floor next NoAnswer = Unit {0}
 
       -- what is held of the answers of so many members to a question was said: by each that has answered, one at least where a text is held
       pub record HoldsSaid (id : RequestId) (answers : Answers) : Type 0 where

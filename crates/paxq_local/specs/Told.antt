@@ -1,5 +1,8 @@
 -- What is printed of what members say.
 use Rattle.std.specs.Prelude.{◌≡◌, ℕ, Bool, true, List, ◌++◌, Option, Some, None}
+use Rattle.std.specs.Option.{option_map}
+use Rattle.ballots.specs.declared.reply.Reply.{Reply as Outcome}
+use Rattle.ballots.specs.declared.reply.Reply.TheVariants.{Done, Fault}
 use Rattle.ballots.specs.declared.request.RequestId.{RequestId}
 use Rattle.clients.specs.Hearing.{HeardTerm, reply, answer, behind, elsewhere, heard_in}
 use Rattle.messages.specs.Reading.{datagram_read}
@@ -17,6 +20,20 @@ told Ask (Some (answer member applied said)) = Some (answer_text applied said)
 told AskAt (Some (answer member applied said)) = Some (answer_text applied said)
 told AskAt (Some (behind applied)) = Some (behind_text applied)
 told form heard = None
+
+-- the position that a reply names
+abbrev pub position_of : Outcome → ℕ
+position_of (Done position) = position
+position_of (Fault code position) = position
+
+-- the same of what is heard; what is no reply has 0
+abbrev pub position_in : Option HeardTerm → ℕ
+position_in (Some (reply outcome)) = position_of outcome
+position_in heard = 0
+
+-- what is printed, with the position that a request's reply names, and 0 where it is no request
+abbrev pub told_at : Form → Option HeardTerm → Option (List ℕ × ℕ)
+told_at form heard = option_map (λ text. (text, position_in heard)) (told form heard)
 
 -- the same of a single node, where that it does not lead answers too
 abbrev pub told_by_one : Form → Option HeardTerm → Option (List ℕ)

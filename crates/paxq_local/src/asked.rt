@@ -5,8 +5,8 @@ ghost use Rattle.std.specs.Option.{option_map, IsSome};
 ghost use Rattle.messages.specs.Reading.{datagram_read};
 ghost use Rattle.clients.specs.Hearing.{heard_in, heard_term};
 ghost use Rattle.paxq_files.specs.Commands.{command_term};
-ghost use Rattle.paxq_local.specs.Told.{answer_told, told};
-ghost use Rattle.paxq_local.specs.Asking.{CanBeAsked, IsAsked};
+ghost use Rattle.paxq_local.specs.Told.{answer_told, position_in, position_of, told};
+ghost use Rattle.paxq_local.specs.Asking.{CanBeAsked, IsAsked, IsInBounds};
 
 use ballots::{Reply, RequestId};
 use clients::{Heard, hear, question, request};
@@ -45,6 +45,7 @@ pub(super) fn asked_of(
     floor: u32,
 ) -> Result<Option<Asked>, AllocError>
     ensures asked { IfOk result (λ asked. IfSome asked (IsAsked group id floor (command_term command))) }
+    ensures in_bounds { IfOk result (λ asked. IfSome asked (λ _. IsInBounds floor (command_term command))) }
     ensures is_asked { CanBeAsked floor (command_term command) → IfOk result IsSome }
 {
     match command {
@@ -79,7 +80,7 @@ fn with_bytes(id: RequestId, form: Form, bytes: Option<Vec<u8>>) -> Option<Asked
     }
 }
 
-/// What is printed of an answer, and the position that it names.
+/// What is printed of an answer, and the position that a reply names: 0 where it is none.
 #[derive(Drop)]
 pub(super) struct Said {
     pub(super) text: String,
@@ -93,7 +94,8 @@ pub(super) fn said_in(
     asked: &Asked,
     bytes: &[u8],
 ) -> Result<Option<Said>, AllocError>
-    ensures { IfOk result (λ said. option_map (λ s. string_bytes s.text) said ≡ told asked.now.form (heard_in group asked.now.id (datagram_read bytes.now))) }
+    ensures text { IfOk result (λ said. option_map (λ s. string_bytes s.text) said ≡ told asked.now.form (heard_in group asked.now.id (datagram_read bytes.now))) }
+    ensures position { IfOk result (λ said. IfSome said (λ s. s.position ≡ position_in (heard_in group asked.now.id (datagram_read bytes.now)))) }
 {
     match hear(alloc, group, asked.id, bytes)? {
         Some(heard) => said_of(alloc, asked.form, &heard),
@@ -103,13 +105,14 @@ pub(super) fn said_in(
 
 /// What is printed where what was heard answers what was asked. It fails where memory is refused.
 pub(super) fn said_of(alloc: Global, form: Form, heard: &Heard) -> Result<Option<Said>, AllocError>
-    ensures { IfOk result (λ said. option_map (λ s. string_bytes s.text) said ≡ told form (Some (heard_term heard.now))) }
+    ensures text { IfOk result (λ said. option_map (λ s. string_bytes s.text) said ≡ told form (Some (heard_term heard.now))) }
+    ensures position { IfOk result (λ said. IfSome said (λ s. s.position ≡ position_in (Some (heard_term heard.now)))) }
 {
     match form {
         Form::Submit => reply_of(alloc, heard),
         Form::Ask => answer_of(alloc, heard),
         Form::AskAt => match heard {
-            Heard::Behind(applied) => with_position(behind_text(alloc, *applied), *applied),
+            Heard::Behind(applied) => with_position(behind_text(alloc, *applied), 0),
             _ => answer_of(alloc, heard),
         },
     }
@@ -117,7 +120,8 @@ pub(super) fn said_of(alloc: Global, form: Form, heard: &Heard) -> Result<Option
 
 /// What is printed of a reply.
 fn reply_of(alloc: Global, heard: &Heard) -> Result<Option<Said>, AllocError>
-    ensures { IfOk result (λ said. option_map (λ s. string_bytes s.text) said ≡ told (Form.Submit) (Some (heard_term heard.now))) }
+    ensures text { IfOk result (λ said. option_map (λ s. string_bytes s.text) said ≡ told (Form.Submit) (Some (heard_term heard.now))) }
+    ensures position { IfOk result (λ said. IfSome said (λ s. s.position ≡ position_in (Some (heard_term heard.now)))) }
 {
     match heard {
         Heard::Reply(reply) => with_position(reply_text(alloc, *reply), position_of(*reply)),
@@ -127,13 +131,13 @@ fn reply_of(alloc: Global, heard: &Heard) -> Result<Option<Said>, AllocError>
 
 /// What is printed of an answer.
 fn answer_of(alloc: Global, heard: &Heard) -> Result<Option<Said>, AllocError>
-    ensures { IfOk result (λ said. option_map (λ s. string_bytes s.text) said ≡ told (Form.Ask) (Some (heard_term heard.now))) }
+    ensures text { IfOk result (λ said. option_map (λ s. string_bytes s.text) said ≡ told (Form.Ask) (Some (heard_term heard.now))) }
+    ensures position { IfOk result (λ said. IfSome said (λ s. s.position ≡ position_in (Some (heard_term heard.now)))) }
 {
     match heard {
-        Heard::Answer(_, applied, answer) => with_position(
-            answer_text(alloc, *applied, answer),
-            *applied,
-        ),
+        Heard::Answer(_, applied, answer) => {
+            with_position(answer_text(alloc, *applied, answer), 0)
+        }
         _ => Ok(None),
     }
 }
@@ -144,6 +148,7 @@ pub(super) fn with_position(
     position: u32,
 ) -> Result<Option<Said>, AllocError>
     ensures text { IfOk result (λ said. IfSome said (λ s. text ≡ Ok s.text)) }
+    ensures position { IfOk result (λ said. IfSome said (λ s. s.position ≡ position)) }
     ensures is_some { IfOk result IsSome }
 {
     match text {
@@ -152,8 +157,10 @@ pub(super) fn with_position(
     }
 }
 
-/// The position of a reply.
-fn position_of(reply: Reply) -> u32 {
+/// The position that a reply names.
+fn position_of(reply: Reply) -> u32
+    ensures { result ≡ position_of reply }
+{
     match reply {
         Reply::Done(position) | Reply::Fault(_, position) => position,
     }

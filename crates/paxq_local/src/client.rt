@@ -1,10 +1,11 @@
 //! A client beside a group, which asks what a script's lines ask.
 
-ghost use Rattle.std.specs.Prelude.{◌≡◌, ℕ, List, ◌++◌, IfOk, IfSome, MatchOption, string_bytes};
+ghost use Rattle.std.specs.Prelude.{◌≡◌, ℕ, max, List, [], ◌∷◌, ◌++◌, length, IfOk, IfSome, MatchOption, string_bytes};
 ghost use Rattle.paxq_files.specs.Commands.{command_term};
-ghost use Rattle.paxq_local.specs.Asking.{form_of, id_of};
-ghost use Rattle.paxq_local.specs.Members.{HoldsSaid, IsSaidBy, IsToldAs, IsToldByFirst, number_after, question_after};
-ghost use Rattle.paxq_local.specs.Told.{Brings, told};
+ghost use Rattle.paxq_local.specs.Asking.{Gives, GivesNothing, form_of, id_of};
+ghost use Rattle.paxq_local.specs.Members.{HoldsSaid, IsSaidBy, IsToldAs, IsToldByAll, IsToldByFirst, number_after, question_after};
+ghost use Rattle.paxq_local.specs.Sent.{AreTried, AreTriedFirst, AreTriedFor, IsRound, sent_to};
+ghost use Rattle.paxq_local.specs.Told.{Brings, told_at};
 ghost use Rattle.wires.specs.Wires.{Carried};
 
 use super::answers::{Answers, Told};
@@ -43,7 +44,8 @@ impl<A: Application + Drop, D: Copy + Eq + Drop> Client<A, D> {
         members: u8,
         command: Command,
     ) -> Result<Told, AllocError>
-        ensures told { Brings W.has_brought wire.old wire.new (λ brought. IfOk result (IsToldAs D.eq self.old.peers.items brought members (form_of (command_term command)) (id_of (question_after self.old.asked) (command_term command)))) }
+        ensures told { Brings W.has_brought wire.old wire.new (λ brought. IfOk result (IsToldAs D.eq self.old.peers.items brought members (form_of (command_term command)) (id_of (question_after self.old.asked) (command_term command)) self.old.floor self.new.floor)) }
+        ensures sent { Gives W.was_given wire.old wire.new (AreTriedFor self.old.peers.items self.old.asked self.old.floor (command_term command) result) }
         ensures peers { self.new.peers.items ≡ self.old.peers.items }
         ensures count { self.new.asked ≡ number_after self.old.asked }
     {
@@ -62,7 +64,8 @@ impl<A: Application + Drop, D: Copy + Eq + Drop> Client<A, D> {
         members: u8,
         asked: &Asked,
     ) -> Result<Told, AllocError>
-        ensures told { Brings W.has_brought wire.old wire.new (λ brought. IfOk result (IsToldAs D.eq self.old.peers.items brought members asked.now.form asked.now.id)) }
+        ensures told { Brings W.has_brought wire.old wire.new (λ brought. IfOk result (IsToldAs D.eq self.old.peers.items brought members asked.now.form asked.now.id self.old.floor self.new.floor)) }
+        ensures sent { Gives W.was_given wire.old wire.new (AreTried self.old.peers.items asked.now.form asked.now.bytes.items result) }
         ensures peers { self.new.peers.items ≡ self.old.peers.items }
         ensures count { self.new.asked ≡ self.old.asked }
     {
@@ -76,6 +79,7 @@ impl<A: Application + Drop, D: Copy + Eq + Drop> Client<A, D> {
     fn next_id(&mut self) -> RequestId
         ensures id { result ≡ question_after self.old.asked }
         ensures peers { self.new.peers.items ≡ self.old.peers.items }
+        ensures floor { self.new.floor ≡ self.old.floor }
         ensures count { self.new.asked ≡ number_after self.old.asked }
     {
         self.asked = self.asked.saturating_add(1);
@@ -92,7 +96,8 @@ impl<A: Application + Drop, D: Copy + Eq + Drop> Client<A, D> {
         wire: &mut W,
         asked: &Asked,
     ) -> Result<Told, AllocError>
-        ensures told { Brings W.has_brought wire.old wire.new (λ brought. IfOk result (IsToldByFirst D.eq self.old.peers.items brought asked.now.form asked.now.id)) }
+        ensures told { Brings W.has_brought wire.old wire.new (λ brought. IfOk result (IsToldByFirst D.eq self.old.peers.items brought asked.now.form asked.now.id self.old.floor self.new.floor)) }
+        ensures sent { Gives W.was_given wire.old wire.new (AreTriedFirst self.old.peers.items asked.now.bytes.items result) }
         ensures peers { self.new.peers.items ≡ self.old.peers.items }
         ensures count { self.new.asked ≡ self.old.asked }
     {
@@ -100,7 +105,7 @@ impl<A: Application + Drop, D: Copy + Eq + Drop> Client<A, D> {
             self.try_again(alloc, wire, turn);
             self.send(wire, 0, &asked.bytes);
             if let Some(said) = self.listen(alloc, wire, asked)? {
-                self.note(asked.form, said.position);
+                self.note(said.position);
                 return Ok(Told::Said(said.text));
             }
         }
@@ -110,9 +115,11 @@ impl<A: Application + Drop, D: Copy + Eq + Drop> Client<A, D> {
 
     /// A try begins; before each further one what was lost is sent again.
     fn try_again<W: Wire<Address = D>>(&mut self, alloc: Global, wire: &mut W, turn: u32)
+        ensures given { GivesNothing W.was_given wire.old wire.new }
         ensures brought { (ds : List (Carried D)) → W.has_brought wire.old ds → W.has_brought wire.new ds }
         ensures peers { self.new.peers.items ≡ self.old.peers.items }
         ensures count { self.new.asked ≡ self.old.asked }
+        ensures floor { self.new.floor ≡ self.old.floor }
     {
         self.group.start_try();
         if turn > 0 {
@@ -120,14 +127,13 @@ impl<A: Application + Drop, D: Copy + Eq + Drop> Client<A, D> {
         }
     }
 
-    /// Notes the position of a reply.
-    fn note(&mut self, form: Form, position: u32)
+    /// Notes the position of a reply, or 0.
+    fn note(&mut self, position: u32)
         ensures peers { self.new.peers.items ≡ self.old.peers.items }
         ensures count { self.new.asked ≡ self.old.asked }
+        ensures floor { self.new.floor ≡ max self.old.floor position }
     {
-        if let Form::Submit = form {
-            self.floor = self.floor.max(position);
-        }
+        self.floor = self.floor.max(position);
     }
 
     /// Where no answer came: whether memory was refused to a member, which may be why.
@@ -141,6 +147,7 @@ impl<A: Application + Drop, D: Copy + Eq + Drop> Client<A, D> {
 
     /// Sends a datagram to a member, counted from 0. Where the wire does not take it, it is lost.
     fn send<W: Wire<Address = D>>(&self, wire: &mut W, member: usize, bytes: &[u8])
+        ensures given { Gives W.was_given wire.old wire.new (λ went. went ≡ sent_to self.now.peers.items bytes.now (member ∷ [])) }
         ensures brought { (ds : List (Carried D)) → W.has_brought wire.old ds → W.has_brought wire.new ds }
     {
         if let Some(peer) = self.peers.get(member) {
@@ -155,9 +162,11 @@ impl<A: Application + Drop, D: Copy + Eq + Drop> Client<A, D> {
         wire: &mut W,
         asked: &Asked,
     ) -> Result<Option<Said>, AllocError>
-        ensures said { Brings W.has_brought wire.old wire.new (λ brought. IfOk result (λ said. IfSome said (λ s. IsSaidBy D.eq self.old.peers.items brought 0 (told asked.now.form) asked.now.id (string_bytes s.text)))) }
+        ensures given { GivesNothing W.was_given wire.old wire.new }
+        ensures said { Brings W.has_brought wire.old wire.new (λ brought. IfOk result (λ said. IfSome said (λ s. IsSaidBy D.eq self.old.peers.items brought 0 (told_at asked.now.form) asked.now.id (string_bytes s.text, s.position)))) }
         ensures peers { self.new.peers.items ≡ self.old.peers.items }
         ensures count { self.new.asked ≡ self.old.asked }
+        ensures floor { self.new.floor ≡ self.old.floor }
     {
         let peers = self.peers.as_slice();
         listen_to_first(alloc, &mut self.group, wire, peers, asked, &mut self.buffer)
@@ -171,9 +180,11 @@ impl<A: Application + Drop, D: Copy + Eq + Drop> Client<A, D> {
         members: u8,
         asked: &Asked,
     ) -> Result<Told, AllocError>
-        ensures told { Brings W.has_brought wire.old wire.new (λ brought. IfOk result (IsToldAs D.eq self.old.peers.items brought members (Form.Ask) asked.now.id)) }
+        ensures told { Brings W.has_brought wire.old wire.new (λ brought. IfOk result (IsToldByAll D.eq self.old.peers.items brought members asked.now.id)) }
+        ensures sent { Gives W.was_given wire.old wire.new (AreTried self.old.peers.items (Form.Ask) asked.now.bytes.items result) }
         ensures peers { self.new.peers.items ≡ self.old.peers.items }
         ensures count { self.new.asked ≡ self.old.asked }
+        ensures floor { self.new.floor ≡ self.old.floor }
     {
         let mut answers = Answers::new(alloc, members)?;
         for turn in 0..TRIES {
@@ -190,6 +201,7 @@ impl<A: Application + Drop, D: Copy + Eq + Drop> Client<A, D> {
 
     /// Sends a datagram to the members that have not answered.
     fn send_to_others<W: Wire<Address = D>>(&self, wire: &mut W, answers: &Answers, bytes: &[u8])
+        ensures given { Gives W.was_given wire.old wire.new (λ went. (to : List ℕ) × IsRound self.now.peers.items bytes.now answers.now (length self.now.peers.items) to went) }
         ensures brought { (ds : List (Carried D)) → W.has_brought wire.old ds → W.has_brought wire.new ds }
     {
         for member in 0..self.peers.len() {
@@ -208,9 +220,11 @@ impl<A: Application + Drop, D: Copy + Eq + Drop> Client<A, D> {
         answers: &mut Answers,
     ) -> Result<Option<Told>, AllocError>
         ensures told { Brings W.has_brought wire.old wire.new (λ brought. (members : ℕ) (before : List (Carried D)) → HoldsSaid D.eq self.old.peers.items before members id answers.old
-            → IfOk result (λ told. MatchOption told (HoldsSaid D.eq self.old.peers.items (before ++ brought) members id answers.new) (IsToldAs D.eq self.old.peers.items (before ++ brought) members (Form.Ask) id))) }
+            → IfOk result (λ told. MatchOption told (HoldsSaid D.eq self.old.peers.items (before ++ brought) members id answers.new) (IsToldByAll D.eq self.old.peers.items (before ++ brought) members id))) }
+        ensures given { GivesNothing W.was_given wire.old wire.new }
         ensures peers { self.new.peers.items ≡ self.old.peers.items }
         ensures count { self.new.asked ≡ self.old.asked }
+        ensures floor { self.new.floor ≡ self.old.floor }
     {
         let peers = self.peers.as_slice();
         listen_to_all(

@@ -1,6 +1,7 @@
 //! The members of a group in one program.
 
-ghost use Rattle.std.specs.Prelude.{◌≤◌, List, IfSome, length, take};
+ghost use Rattle.std.specs.Prelude.{◌≡◌, ◌≤◌, ◌<◌, true, false, List, [], IfSome, length, take};
+ghost use Rattle.paxq_local.specs.Asking.{GivesNothing};
 ghost use Rattle.paxq_local.specs.Told.{Brings, HasComeFrom};
 ghost use Rattle.wires.specs.Wires.{Carried};
 
@@ -23,26 +24,103 @@ const LEAST: u32 = 1_024;
 /// The members, by their numbers from 1: member m stands at end m of the wire, and end 0 is the client's.
 #[derive(Drop)]
 pub(super) struct Group<A: Application + Drop, D: Copy + Eq + Drop> {
-    servers: Vec<Server<MemRecords, A, D>>,
+    members: Vec<Member<A, D>>,
     /// How many datagrams this try has taken.
     taken: u32,
 }
 
-/// A member that has done nothing, with its records in memory. It fails where memory is refused.
-fn server_of<A: Application + Drop, D: Copy + Eq + Drop>(
+/// A member, with its records in memory. Where it serves, it stands at an end that is not the client's.
+#[derive(Drop)]
+struct Member<A: Application + Drop, D: Copy + Eq + Drop> {
+    server: Server<MemRecords, A, D>,
+    /// Whether its records failed, which those in memory never do.
+    has_stopped: bool,
+    ghost placed: { has_stopped ≡ false → ¬ (server.server.place.end ≡ 0) },
+}
+
+impl<A: Application + Drop, D: Copy + Eq + Drop> Member<A, D> {
+    /// Whether it serves: where its records failed, or were not written yet though it sent something, it does nothing more.
+    fn serves(&self) -> bool
+        ensures placed { result ≡ true → ¬ (self.now.server.server.place.end ≡ 0) }
+        ensures holds_nothing { result ≡ true → self.now.server.server.held ≡ [] }
+    {
+        !self.has_stopped && !self.server.lags()
+    }
+
+    /// Whether memory was refused to something that came to it, or it serves no more.
+    fn has_lost(&self) -> bool {
+        self.server.has_lost() || !self.serves()
+    }
+
+    /// Begins a ballot.
+    fn begin<W: Wire<Address = D>>(&mut self, alloc: Global, wire: &mut W)
+        ensures given { GivesNothing W.was_given wire.old wire.new }
+        ensures brought { (ds : List (Carried D)) → W.has_brought wire.old ds → W.has_brought wire.new ds }
+    {
+        if !self.serves() {
+            return;
+        }
+        match self.server.begin(alloc, wire) {
+            Ok(()) => {}
+            Err(_) => self.has_stopped = true,
+        }
+    }
+
+    /// Ticks.
+    fn tick<W: Wire<Address = D>>(&mut self, alloc: Global, wire: &mut W)
+        ensures given { GivesNothing W.was_given wire.old wire.new }
+        ensures brought { (ds : List (Carried D)) → W.has_brought wire.old ds → W.has_brought wire.new ds }
+    {
+        if !self.serves() {
+            return;
+        }
+        match self.server.tick(alloc, wire) {
+            Ok(()) => {}
+            Err(_) => self.has_stopped = true,
+        }
+    }
+
+    /// Takes a datagram that came to it.
+    fn take<W: Wire<Address = D>>(
+        &mut self,
+        alloc: Global,
+        wire: &mut W,
+        arrival: Arrival<D>,
+        bytes: &[u8],
+    )
+        ensures given { GivesNothing W.was_given wire.old wire.new }
+        ensures brought { (ds : List (Carried D)) → W.has_brought wire.old ds → W.has_brought wire.new ds }
+    {
+        if !self.serves() {
+            return;
+        }
+        match self.server.take(alloc, wire, arrival, bytes) {
+            Ok(()) => {}
+            Err(_) => self.has_stopped = true,
+        }
+    }
+}
+
+/// A member that has done nothing, counted from 1. It fails where memory is refused.
+fn member_of<A: Application + Drop, D: Copy + Eq + Drop>(
     alloc: Global,
     member: u8,
     members: u8,
     names: &Names,
     peers: &[D],
-) -> Result<Server<MemRecords, A, D>, AllocError> {
+) -> Result<Member<A, D>, AllocError>
+    requires { 0 < member }
+{
     let peers = peers.to_vec(alloc)?;
     let setup = match Setup::new(alloc, GROUP, member, members, names) {
         Ok(setup) => setup,
         Err(SetupFault::Memory | SetupFault::Numbers) => return Err(AllocError),
     };
     match Node::open(alloc, setup, MemRecords::new(alloc)) {
-        Ok((node, _)) => Ok(Server::new(alloc, node, usize::from(member), peers)),
+        Ok((node, _)) => Ok(Member {
+            server: Server::new(alloc, node, usize::from(member), peers),
+            has_stopped: false,
+        }),
         Err((OpenFault::Memory | OpenFault::Store, _, _)) => Err(AllocError),
     }
 }
@@ -77,20 +155,23 @@ impl<A: Application + Drop, D: Copy + Eq + Drop> Group<A, D> {
         names: &Names,
         peers: &[D],
     ) -> Result<Group<A, D>, AllocError> {
-        let mut servers = Vec::new(alloc);
+        let mut all = Vec::new(alloc);
         for before in 0..members {
-            servers = with_one(servers, server_of(alloc, before + 1, members, names, peers))?;
+            all = with_one(all, member_of(alloc, before + 1, members, names, peers))?;
         }
-        Ok(Group { servers, taken: 0 })
+        Ok(Group {
+            members: all,
+            taken: 0,
+        })
     }
 
     /// Has the first member begin a ballot.
     pub(super) fn begin<W: Wire<Address = D>>(&mut self, alloc: Global, wire: &mut W)
+        ensures given { GivesNothing W.was_given wire.old wire.new }
         ensures brought { (ds : List (Carried D)) → W.has_brought wire.old ds → W.has_brought wire.new ds }
     {
-        if let Some(first) = self.servers.first_mut() {
-            // Records in memory never fail.
-            let _ = first.begin(alloc, wire);
+        if let Some(first) = self.members.first_mut() {
+            first.begin(alloc, wire);
         }
     }
 
@@ -101,6 +182,7 @@ impl<A: Application + Drop, D: Copy + Eq + Drop> Group<A, D> {
 
     /// Counts a datagram of this try, and says whether the try is over: it has taken as many as it does at least, and the wire's while has passed.
     pub(super) fn is_over<W: Wire<Address = D>>(&mut self, wire: &mut W) -> bool
+        ensures given { (ds : List (Carried D)) → W.was_given wire.old ds → W.was_given wire.new ds }
         ensures brought { (ds : List (Carried D)) → W.has_brought wire.old ds → W.has_brought wire.new ds }
     {
         self.taken = self.taken.saturating_add(1);
@@ -112,17 +194,18 @@ impl<A: Application + Drop, D: Copy + Eq + Drop> Group<A, D> {
 
     /// What was lost is sent again: the member that leads says again what it waits for, and each asks for what it has not learnt.
     pub(super) fn tick<W: Wire<Address = D>>(&mut self, alloc: Global, wire: &mut W)
+        ensures given { GivesNothing W.was_given wire.old wire.new }
         ensures brought { (ds : List (Carried D)) → W.has_brought wire.old ds → W.has_brought wire.new ds }
     {
-        for server in self.servers.iter_mut() {
-            let _ = server.tick(alloc, wire);
+        for member in self.members.iter_mut() {
+            member.tick(alloc, wire);
         }
     }
 
     /// Whether memory was refused to something that came to a member.
     pub(super) fn has_lost(&self) -> bool {
-        for server in &self.servers {
-            if server.has_lost() {
+        for member in &self.members {
+            if member.has_lost() {
                 return true;
             }
         }
@@ -137,13 +220,14 @@ impl<A: Application + Drop, D: Copy + Eq + Drop> Group<A, D> {
         arrival: Arrival<D>,
         bytes: &[u8],
     )
+        ensures given { GivesNothing W.was_given wire.old wire.new }
         ensures brought { (ds : List (Carried D)) → W.has_brought wire.old ds → W.has_brought wire.new ds }
     {
         if arrival.end == 0 {
             return;
         }
-        if let Some(server) = self.servers.get_mut(arrival.end - 1) {
-            let _ = server.take(alloc, wire, arrival, bytes);
+        if let Some(member) = self.members.get_mut(arrival.end - 1) {
+            member.take(alloc, wire, arrival, bytes);
         }
     }
 
@@ -156,6 +240,7 @@ impl<A: Application + Drop, D: Copy + Eq + Drop> Group<A, D> {
         buffer: &mut [u8],
     ) -> Option<Arrival<D>>
         ensures fits { IfSome result (λ a. a.length ≤ length buffer.new) }
+        ensures given { GivesNothing W.was_given wire.old wire.new }
         ensures brought { Brings W.has_brought wire.old wire.new (λ brought. IfSome result (λ a. HasComeFrom brought a.from (take a.length buffer.new))) }
     {
         for _datagram in 0..u64::MAX {

@@ -3,12 +3,13 @@
 ghost use Rattle.std.specs.Prelude.{◌≡◌, ℕ, ◌+◌, true, List, ◌++◌, Some, IfOk, IfSome, MatchOption, string_bytes};
 ghost use Rattle.clients.specs.Hearing.{heard_in};
 ghost use Rattle.messages.specs.Reading.{datagram_read};
-ghost use Rattle.paxq_local.specs.Members.{HoldsSaid, IsAt, IsSaidBy, IsToldAs, own_group};
-ghost use Rattle.paxq_local.specs.Told.{Brings, HasComeFrom, answer_told, told};
+ghost use Rattle.paxq_local.specs.Asking.{GivesNothing};
+ghost use Rattle.paxq_local.specs.Members.{HoldsSaid, IsAt, IsSaidBy, IsToldByAll, own_group};
+ghost use Rattle.paxq_local.specs.Told.{Brings, HasComeFrom, answer_told, told_at};
 ghost use Rattle.wires.specs.Wires.{Carried};
 
 use super::answers::{Answers, Told};
-use super::asked::{Asked, Form, Said, answer_in, said_in};
+use super::asked::{Asked, Said, answer_in, said_in};
 use super::group::{GROUP, Group};
 use applications::Application;
 use ballots::RequestId;
@@ -43,7 +44,7 @@ fn said_by_first<D: Copy + Eq + Drop>(
     bytes: &[u8],
 ) -> Result<Option<Said>, AllocError>
     ensures { (brought : List (Carried D)) → HasComeFrom brought from bytes.now
-        → IfOk result (λ said. IfSome said (λ s. IsSaidBy D.eq peers.now brought 0 (told asked.now.form) asked.now.id (string_bytes s.text))) }
+        → IfOk result (λ said. IfSome said (λ s. IsSaidBy D.eq peers.now brought 0 (told_at asked.now.form) asked.now.id (string_bytes s.text, s.position))) }
 {
     if is_at(peers, 0, from) {
         said_in(alloc, GROUP, asked, bytes)
@@ -63,7 +64,7 @@ fn note_answer<D: Copy + Eq + Drop>(
     answers: &mut Answers,
 ) -> Result<Option<Told>, AllocError>
     ensures { (members : ℕ) (brought : List (Carried D)) → HasComeFrom brought from bytes.now → HoldsSaid D.eq peers.now brought members id answers.old
-        → IfOk result (λ told. MatchOption told (HoldsSaid D.eq peers.now brought members id answers.new) (IsToldAs D.eq peers.now brought members (Form.Ask) id)) }
+        → IfOk result (λ told. MatchOption told (HoldsSaid D.eq peers.now brought members id answers.new) (IsToldByAll D.eq peers.now brought members id)) }
 {
     let answer = answer_from(alloc, peers, id, from, bytes)?;
     match answer {
@@ -104,7 +105,8 @@ pub(super) fn listen_to_first<A: Application + Drop, D: Copy + Eq + Drop, W: Wir
     asked: &Asked,
     buffer: &mut [u8],
 ) -> Result<Option<Said>, AllocError>
-    ensures { Brings W.has_brought wire.old wire.new (λ brought. IfOk result (λ said. IfSome said (λ s. IsSaidBy D.eq peers.now brought 0 (told asked.now.form) asked.now.id (string_bytes s.text)))) }
+    ensures given { GivesNothing W.was_given wire.old wire.new }
+    ensures said { Brings W.has_brought wire.old wire.new (λ brought. IfOk result (λ said. IfSome said (λ s. IsSaidBy D.eq peers.now brought 0 (told_at asked.now.form) asked.now.id (string_bytes s.text, s.position)))) }
 {
     for _datagram in 0..u64::MAX {
         let Some(arrival) = group.work(alloc, wire, buffer) else {
@@ -133,8 +135,9 @@ pub(super) fn listen_to_all<A: Application + Drop, D: Copy + Eq + Drop, W: Wire<
     answers: &mut Answers,
     buffer: &mut [u8],
 ) -> Result<Option<Told>, AllocError>
-    ensures { Brings W.has_brought wire.old wire.new (λ brought. (members : ℕ) (before : List (Carried D)) → HoldsSaid D.eq peers.now before members id answers.old
-        → IfOk result (λ told. MatchOption told (HoldsSaid D.eq peers.now (before ++ brought) members id answers.new) (IsToldAs D.eq peers.now (before ++ brought) members (Form.Ask) id))) }
+    ensures given { GivesNothing W.was_given wire.old wire.new }
+    ensures said { Brings W.has_brought wire.old wire.new (λ brought. (members : ℕ) (before : List (Carried D)) → HoldsSaid D.eq peers.now before members id answers.old
+        → IfOk result (λ told. MatchOption told (HoldsSaid D.eq peers.now (before ++ brought) members id answers.new) (IsToldByAll D.eq peers.now (before ++ brought) members id))) }
 {
     for _datagram in 0..u64::MAX {
         let Some(arrival) = group.work(alloc, wire, buffer) else {

@@ -1,6 +1,7 @@
 //! `paxq local N SCRIPT`.
 
 ghost use Rattle.std.specs.Prelude.{◌≡◌, List, IfOk};
+ghost use Rattle.paxq_local.specs.Asking.{Gives, GivesNothing};
 ghost use Rattle.paxq_local.specs.Playing.{FileRun, IsEnded, IsPlayed, IsPrinted, LocalRun, Played};
 ghost use Rattle.paxq_local.specs.Told.{Brings};
 ghost use Rattle.program_reports.specs.Reports.{Run, Wrote};
@@ -22,9 +23,10 @@ use wires::Wire;
 /// Runs the script in a file on a group of so many members, 1 to 15, in this program, and answers the exit status.
 ///
 /// The wire's end 0 is the client's, and end m is member m's. `file` is the file's name, and `reader` gives its bytes. The first member begins;
-/// requests and `askat` go to it, and each `ask` goes to all, at the highest position that was replied. An answer counts only where it comes from the
-/// address of the member that it was asked of. What is not answered is asked again, 200 times in all, with what the wire waits between, whatever else
-/// comes; what is lost on the wire is so made good. Memory that is refused to a member is as a loss, unless no answer comes: then that is reported.
+/// requests and `askat` go to it, and each `ask` goes to all, at the highest position that was replied, and nothing else is sent from end 0. An answer
+/// counts only where it comes from the address of the member that it was asked of. What is not answered is asked again, 200 times in all, with what the
+/// wire waits between, whatever else comes; what is lost on the wire is so made good. Memory that is refused to a member is as a loss, unless no answer
+/// comes: then that is reported.
 ///
 /// The statuses are 0, 1 (a file that cannot be read, or a wrong line: nothing is run), 3 (no answer, or answers that differ, which
 /// end the run), and 4 where memory is refused. An `Err` says that `output` or `errors` could not be written.
@@ -37,9 +39,9 @@ pub fn run_local<A: Application + Drop, W: Wire, R: Read, O: Write, E: Write>(
     output: &mut O,
     errors: &mut E,
 ) -> io::Result<u8>
-    ensures { IfOk result (λ status. (peers : List W.Address) × Brings W.has_brought wire.old wire.new (λ brought. (run : Run)
+    ensures { IfOk result (λ status. (peers : List W.Address) × Gives W.was_given wire.old wire.new (λ went. Brings W.has_brought wire.old wire.new (λ brought. (run : Run)
         × Wrote (O.contents output.old, O.contents output.new) (E.contents errors.old, E.contents errors.new) status run
-        × FileRun W.Address.eq peers members file.now (R.remaining reader.old) brought run)) }
+        × FileRun W.Address.eq peers members file.now (R.remaining reader.old) brought went run))) }
 {
     match read_all(alloc, reader) {
         Ok(bytes) => run_bytes::<A, W, O, E>(alloc, members, wire, file, &bytes, output, errors),
@@ -58,9 +60,9 @@ fn run_bytes<A: Application + Drop, W: Wire, O: Write, E: Write>(
     output: &mut O,
     errors: &mut E,
 ) -> io::Result<u8>
-    ensures { IfOk result (λ status. (peers : List W.Address) × Brings W.has_brought wire.old wire.new (λ brought. (run : Run)
+    ensures { IfOk result (λ status. (peers : List W.Address) × Gives W.was_given wire.old wire.new (λ went. Brings W.has_brought wire.old wire.new (λ brought. (run : Run)
         × Wrote (O.contents output.old, O.contents output.new) (E.contents errors.old, E.contents errors.new) status run
-        × LocalRun W.Address.eq peers members file.now bytes.now brought run)) }
+        × LocalRun W.Address.eq peers members file.now bytes.now brought went run))) }
 {
     let Ok(text) = str::from_utf8(bytes) else {
         return cannot_read(alloc, file, errors);
@@ -81,9 +83,9 @@ fn run_commands<A: Application + Drop, W: Wire, O: Write, E: Write>(
     output: &mut O,
     errors: &mut E,
 ) -> io::Result<u8>
-    ensures { IfOk result (λ status. (peers : List W.Address) × Brings W.has_brought wire.old wire.new (λ brought. (run : Run)
+    ensures { IfOk result (λ status. (peers : List W.Address) × Gives W.was_given wire.old wire.new (λ went. Brings W.has_brought wire.old wire.new (λ brought. (run : Run)
         × Wrote (O.contents output.old, O.contents output.new) (E.contents errors.old, E.contents errors.new) status run
-        × Played W.Address.eq peers members 0 script.commands brought run)) }
+        × Played W.Address.eq peers members 0 0 script.commands brought went run))) }
 {
     let Ok(mut client) = client_of::<A, W>(alloc, members, wire, script.names()) else {
         return no_memory(errors);
@@ -102,8 +104,10 @@ fn client_of<A: Application + Drop, W: Wire>(
     wire: &mut W,
     names: &Names,
 ) -> Result<Client<A, W::Address>, AllocError>
+    ensures given { GivesNothing W.was_given wire.old wire.new }
     ensures brought { (ds : List (Carried W.Address)) → W.has_brought wire.old ds → W.has_brought wire.new ds }
     ensures count { IfOk result (λ client. client.asked ≡ 0) }
+    ensures floor { IfOk result (λ client. client.floor ≡ 0) }
 {
     let peers = addresses(alloc, wire, members)?;
     let buffer = vec![in alloc; 0; MOST_BYTES]?;
@@ -140,8 +144,8 @@ fn play<A: Application + Drop, W: Wire, O: Write>(
     script: &mut Script,
     output: &mut O,
 ) -> Result<u8, Stop>
-    ensures { Brings W.has_brought wire.old wire.new (λ brought.
-        IsPlayed W.Address.eq client.old.peers.items members client.old.asked script.old.commands brought (O.contents output.old) (O.contents output.new) result) }
+    ensures { Gives W.was_given wire.old wire.new (λ went. Brings W.has_brought wire.old wire.new (λ brought.
+        IsPlayed W.Address.eq client.old.peers.items members client.old.asked client.old.floor script.old.commands brought went (O.contents output.old) (O.contents output.new) result)) }
 {
     while let Some(command) = script.next_command() {
         let Ok(told) = client.tell(alloc, wire, members, command) else {
