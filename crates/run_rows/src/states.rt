@@ -6,6 +6,7 @@
 //! TEXT` how long it is. `seen` says how many values were applied, which identity is the next, how many children `db` has, and which is
 //! the last of them; `inside` which nodes stand in that last one: each attribute's identity after a `@`, then each child's.
 
+use ballots::limits::POSITIONS;
 use ballots::{Answer, Reply, Request, RequestFault, RequestId, Value};
 use data_model::NodeId;
 use document_names::NamesFault;
@@ -160,12 +161,13 @@ pub(super) fn request_at(
 }
 
 /// Applies a value, and gives its reply, if memory is not refused. Fault: `NotARow` at the limit of values.
+#[tactic(auto, unfolding(ballots::specs::Values::positions))]
 pub(super) fn run(
     alloc: Global,
     state: &mut State,
     value: &Value,
 ) -> Result<Option<Reply>, RowFault> {
-    if state.applied() >= 1_000_000 {
+    if state.applied() >= POSITIONS {
         return Err(RowFault::NotARow);
     }
     Ok(state.run(alloc, value).ok())
