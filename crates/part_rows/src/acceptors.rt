@@ -99,27 +99,57 @@ fn vote(ballot: Ballot) -> Vote
     Vote { ballot, value }
 }
 
-/// What a fault is called. Fault: want of memory.
-fn fault_text(alloc: Global, fault: RecordsFault) -> Result<String, RowFault> {
+/// What a call came to.
+#[derive(Drop)]
+enum Given {
+    /// It is done.
+    Done,
+    /// The store failed.
+    StoreFailed,
+    /// The window that answers a Prepare, if anything does.
+    Told(Option<Window>),
+    /// Whether it accepted.
+    IsAccepted(bool),
+    /// The ballot that it has promised.
+    Promised(Ballot),
+    /// The requests that it keeps as learnt.
+    Held(Vec<u32>),
+}
+
+/// What a fault comes to. Fault: want of memory.
+fn failed(fault: RecordsFault) -> Result<Given, RowFault> {
     match fault {
         RecordsFault::Memory => Err(RowFault::Memory),
-        RecordsFault::Store => said(alloc, "store"),
+        RecordsFault::Store => Ok(Given::StoreFailed),
     }
 }
 
-/// What a call without an answer gives.
-fn done_text(alloc: Global, done: Result<(), RecordsFault>) -> Result<String, RowFault> {
+/// What a call without an answer comes to.
+fn done(done: Result<(), RecordsFault>) -> Result<Given, RowFault> {
     match done {
-        Ok(()) => said(alloc, "ok"),
-        Err(fault) => fault_text(alloc, fault),
+        Ok(()) => Ok(Given::Done),
+        Err(fault) => failed(fault),
     }
 }
 
-/// What a call gives that accepts or does not.
-fn accepted_text(alloc: Global, accepted: Result<bool, RecordsFault>) -> Result<String, RowFault> {
+/// What a call comes to that accepts or does not.
+fn accepted(accepted: Result<bool, RecordsFault>) -> Result<Given, RowFault> {
     match accepted {
-        Ok(is_accepted) => yes_or_no(alloc, is_accepted),
-        Err(fault) => fault_text(alloc, fault),
+        Ok(is_accepted) => Ok(Given::IsAccepted(is_accepted)),
+        Err(fault) => failed(fault),
+    }
+}
+
+/// What a call came to, in words.
+fn given_text(alloc: Global, given: Given) -> Result<String, RowFault> {
+    match given {
+        Given::Done => said(alloc, "ok"),
+        Given::StoreFailed => said(alloc, "store"),
+        Given::Told(Some(window)) => Ok(window_text(alloc, &window)?),
+        Given::Told(None) => said(alloc, "nothing"),
+        Given::IsAccepted(is_accepted) => yes_or_no(alloc, is_accepted),
+        Given::Promised(ballot) => Ok(ballot_text(alloc, ballot)?),
+        Given::Held(numbers) => Ok(numbers_text(alloc, &numbers)?),
     }
 }
 
@@ -144,12 +174,12 @@ fn begin<R: Records + Drop>(
     alloc: Global,
     acceptor: &mut Acceptor<R>,
     words: &mut Words<'_>,
-) -> Result<String, RowFault> {
+) -> Result<Given, RowFault> {
     let ballot = read_ballot(words)?;
     if !ballot.is_valid() || !acceptor.promised().is_below(ballot) {
         return Err(RowFault::NotARow);
     }
-    done_text(alloc, acceptor.on_begin(alloc, ballot))
+    done(acceptor.on_begin(alloc, ballot))
 }
 
 /// It hears a Prepare.
@@ -157,16 +187,15 @@ fn prepare<R: Records + Drop>(
     alloc: Global,
     acceptor: &mut Acceptor<R>,
     words: &mut Words<'_>,
-) -> Result<String, RowFault> {
+) -> Result<Given, RowFault> {
     let ballot = read_ballot(words)?;
     let from = read_u32(words)?;
     if !ballot.is_valid() {
         return Err(RowFault::NotARow);
     }
     match acceptor.on_prepare(alloc, ballot, from) {
-        Ok(Some(window)) => Ok(window_text(alloc, &window)?),
-        Ok(None) => said(alloc, "nothing"),
-        Err(fault) => fault_text(alloc, fault),
+        Ok(told) => Ok(Given::Told(told)),
+        Err(fault) => failed(fault),
     }
 }
 
@@ -175,13 +204,13 @@ fn accept<R: Records + Drop>(
     alloc: Global,
     acceptor: &mut Acceptor<R>,
     words: &mut Words<'_>,
-) -> Result<String, RowFault> {
+) -> Result<Given, RowFault> {
     let position = read_u32(words)?;
     let ballot = read_ballot(words)?;
     if !ballot.is_valid() || !is_position(position) {
         return Err(RowFault::NotARow);
     }
-    accepted_text(alloc, acceptor.on_accept(alloc, position, &vote(ballot)))
+    accepted(acceptor.on_accept(alloc, position, &vote(ballot)))
 }
 
 /// Whether one learnt value more may be kept.
@@ -197,12 +226,12 @@ fn keep<R: Records + Drop>(
     alloc: Global,
     acceptor: &mut Acceptor<R>,
     words: &mut Words<'_>,
-) -> Result<String, RowFault> {
+) -> Result<Given, RowFault> {
     let value = Value::Request(request(alloc, words.number()?)?);
     if !has_room(acceptor) {
         return Err(RowFault::NotARow);
     }
-    done_text(alloc, acceptor.on_keep(alloc, &value))
+    done(acceptor.on_keep(alloc, &value))
 }
 
 /// The draft of the answer to an Accept of ballot 1,1.
@@ -228,15 +257,15 @@ fn drafts<R: Records + Drop>(
     acceptor: &mut Acceptor<R>,
     is_first: bool,
     words: &mut Words<'_>,
-) -> Result<String, RowFault> {
+) -> Result<Given, RowFault> {
     let first = draft(alloc, acceptor, read_u32(words)?)?;
     let second = draft(alloc, acceptor, read_u32(words)?)?;
     let draft = if is_first { first } else { second };
-    accepted_text(alloc, acceptor.commit(alloc, draft))
+    accepted(acceptor.commit(alloc, draft))
 }
 
 /// The requests that are kept as learnt.
-fn held<R: Records + Drop>(alloc: Global, acceptor: &Acceptor<R>) -> Result<String, RowFault> {
+fn held<R: Records + Drop>(alloc: Global, acceptor: &Acceptor<R>) -> Result<Given, RowFault> {
     let mut numbers = Vec::new(alloc);
     for before in 0..acceptor.kept() {
         let number = match acceptor.held(before + 1) {
@@ -248,16 +277,16 @@ fn held<R: Records + Drop>(alloc: Global, acceptor: &Acceptor<R>) -> Result<Stri
     if acceptor.held(0).is_some() || acceptor.held(POSITIONS).is_some() {
         return Err(RowFault::NotARow);
     }
-    Ok(numbers_text(alloc, &numbers)?)
+    Ok(Given::Held(numbers))
 }
 
-/// What a call of an acceptor gives, which is made once.
+/// What a call of an acceptor comes to, which is made once.
 fn call_once<R: Records + Drop>(
     alloc: Global,
     acceptor: &mut Acceptor<R>,
     word: &str,
     words: &mut Words<'_>,
-) -> Result<String, RowFault> {
+) -> Result<Given, RowFault> {
     match word {
         "begin" => begin(alloc, acceptor, words),
         "prepare" => prepare(alloc, acceptor, words),
@@ -265,7 +294,7 @@ fn call_once<R: Records + Drop>(
         "keep" => keep(alloc, acceptor, words),
         "first" => drafts(alloc, acceptor, true, words),
         "second" => drafts(alloc, acceptor, false, words),
-        "promised" => Ok(ballot_text(alloc, acceptor.promised())?),
+        "promised" => Ok(Given::Promised(acceptor.promised())),
         "held" => held(alloc, acceptor),
         _ => Err(RowFault::NotARow),
     }
@@ -279,13 +308,14 @@ fn call_again<R: Records + Drop>(
     words: &mut Words<'_>,
 ) -> Result<String, RowFault> {
     let start = *words;
-    match call_once(alloc, acceptor, word, words) {
+    let given = match call_once(alloc, acceptor, word, words) {
         Err(RowFault::Memory) => {
             *words = start;
-            call_once(alloc, acceptor, word, words)
+            call_once(alloc, acceptor, word, words)?
         }
-        given => given,
-    }
+        given => given?,
+    };
+    given_text(alloc, given)
 }
 
 impl<R: Counted + Drop> PlayedAcceptor<R> {

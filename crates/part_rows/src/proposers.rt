@@ -118,6 +118,31 @@ fn is_rising(least: u32, learnt: &[u32]) -> bool
     }
 }
 
+/// What a call came to.
+#[derive(Drop)]
+enum Given {
+    /// It led with a ballot from then on.
+    Began(Ballot),
+    /// That was sent, or nothing where there was nothing to say.
+    Sent(Option<Sends>),
+    /// It was refused.
+    Refused(ProposerFault),
+    /// Whether a request is open.
+    IsOpen(bool),
+    /// It yielded.
+    Yielded,
+    /// The ballot that it leads with, if any.
+    Leads(Option<Ballot>),
+}
+
+/// What is refused. Fault: want of memory.
+fn refused(fault: ProposerFault) -> Result<Given, RowFault> {
+    match fault {
+        ProposerFault::Memory => Err(RowFault::Memory),
+        fault => Ok(Given::Refused(fault)),
+    }
+}
+
 /// What a refusal is called. Fault: want of memory.
 fn refusal(alloc: Global, fault: ProposerFault) -> Result<String, RowFault> {
     match fault {
@@ -125,6 +150,19 @@ fn refusal(alloc: Global, fault: ProposerFault) -> Result<String, RowFault> {
         ProposerFault::NoPlace => said(alloc, "no place"),
         ProposerFault::NoRound => said(alloc, "no round"),
         ProposerFault::NotLeading => said(alloc, "not leading"),
+    }
+}
+
+/// What a call came to, in words.
+fn given_text(alloc: Global, given: Given) -> Result<String, RowFault> {
+    match given {
+        Given::Began(ballot) => Ok(ballot_text(alloc, ballot)?),
+        Given::Sent(sent) => sent_text(alloc, sent),
+        Given::Refused(fault) => refusal(alloc, fault),
+        Given::IsOpen(is_open) => yes_or_no(alloc, is_open),
+        Given::Yielded => said(alloc, "ok"),
+        Given::Leads(Some(ballot)) => Ok(ballot_text(alloc, ballot)?),
+        Given::Leads(None) => said(alloc, "-"),
     }
 }
 
@@ -176,34 +214,34 @@ impl PlayedProposer {
         promise: Ballot,
         from: u32,
         learnt: &[u32],
-    ) -> Result<String, RowFault> {
+    ) -> Result<Given, RowFault> {
         if from < 1 || from > POSITIONS + 1 || !is_rising(from, learnt) {
             return Err(RowFault::NotARow);
         }
         match self.proposer.begin(alloc, promise, from, learnt) {
-            Ok(ballot) => Ok(ballot_text(alloc, ballot)?),
-            Err(fault) => refusal(alloc, fault),
+            Ok(ballot) => Ok(Given::Began(ballot)),
+            Err(fault) => refused(fault),
         }
     }
 
     /// A member promises.
-    fn promise(&mut self, alloc: Global, sender: u8, window: &Window) -> Result<String, RowFault> {
+    fn promise(&mut self, alloc: Global, sender: u8, window: &Window) -> Result<Given, RowFault> {
         if sender < 1 || sender > self.proposer.members().count() || !is_window(window) {
             return Err(RowFault::NotARow);
         }
-        sent_text(alloc, self.proposer.on_promise(alloc, sender, window)?)
+        Ok(Given::Sent(self.proposer.on_promise(alloc, sender, window)?))
     }
 
     /// Positions are learnt.
-    fn learn(&mut self, alloc: Global, learnt: &[u32]) -> Result<String, RowFault> {
+    fn learn(&mut self, alloc: Global, learnt: &[u32]) -> Result<Given, RowFault> {
         if !is_rising(1, learnt) {
             return Err(RowFault::NotARow);
         }
-        sent_text(alloc, self.proposer.on_learned(alloc, learnt)?)
+        Ok(Given::Sent(self.proposer.on_learned(alloc, learnt)?))
     }
 
     /// A request is submitted, which is not open.
-    fn submit(&mut self, alloc: Global, number: u64) -> Result<String, RowFault> {
+    fn submit(&mut self, alloc: Global, number: u64) -> Result<Given, RowFault> {
         let request = request(alloc, number)?;
         if self
             .proposer
@@ -212,18 +250,18 @@ impl PlayedProposer {
             return Err(RowFault::NotARow);
         }
         match self.proposer.submit(alloc, &request) {
-            Ok(sends) => sends_text(alloc, &sends),
-            Err(fault) => refusal(alloc, fault),
+            Ok(sends) => Ok(Given::Sent(Some(sends))),
+            Err(fault) => refused(fault),
         }
     }
 
-    /// What a call gives, which is made once.
+    /// What a call comes to, which is made once.
     fn call_once(
         &mut self,
         alloc: Global,
         word: &str,
         words: &mut Words<'_>,
-    ) -> Result<String, RowFault> {
+    ) -> Result<Given, RowFault> {
         match word {
             "begin" => {
                 let promise = read_ballot(words)?;
@@ -236,16 +274,13 @@ impl PlayedProposer {
             }
             "learned" => self.learn(alloc, &positions(alloc, words)?),
             "submit" => self.submit(alloc, words.number()?),
-            "resend" => sent_text(alloc, self.proposer.resend(alloc)?),
-            "open" => yes_or_no(alloc, self.proposer.has_open(CLIENT, words.number()?)),
+            "resend" => Ok(Given::Sent(self.proposer.resend(alloc)?)),
+            "open" => Ok(Given::IsOpen(self.proposer.has_open(CLIENT, words.number()?))),
             "yield" => {
                 self.proposer.yield_to(read_ballot(words)?);
-                said(alloc, "ok")
+                Ok(Given::Yielded)
             }
-            "leads" => match self.proposer.leads() {
-                Some(ballot) => Ok(ballot_text(alloc, ballot)?),
-                None => said(alloc, "-"),
-            },
+            "leads" => Ok(Given::Leads(self.proposer.leads())),
             _ => Err(RowFault::NotARow),
         }
     }
@@ -255,12 +290,13 @@ impl Played for PlayedProposer {
     fn call(&mut self, alloc: Global, words: &mut Words<'_>) -> Result<String, RowFault> {
         let word = words.plain()?;
         let start = *words;
-        match self.call_once(alloc, word, words) {
+        let given = match self.call_once(alloc, word, words) {
             Err(RowFault::Memory) => {
                 *words = start;
-                self.call_once(alloc, word, words)
+                self.call_once(alloc, word, words)?
             }
-            given => given,
-        }
+            given => given?,
+        };
+        given_text(alloc, given)
     }
 }
