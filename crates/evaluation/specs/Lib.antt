@@ -4,5 +4,6 @@ pub mod Bindings
 pub mod Copying
 pub mod Evaluates
 pub mod Gives
+pub mod Held
 pub mod Linked
 pub mod Within

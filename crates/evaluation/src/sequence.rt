@@ -9,10 +9,12 @@ ghost use Rattle.fault_codes.specs.declared.code.Code.{Code};
 ghost use Rattle.values.specs.declared.fault.ValueFault.{ValueFault};
 ghost use Rattle.query_meaning.specs.Running.{most_items, within};
 ghost use Rattle.evaluation.specs.Gives.{Judged, Says};
+ghost use Rattle.evaluation.specs.Held.{items_of};
 
 use fault_codes::Code;
 use std::alloc::{AllocError, Global};
 use std::marker::Model;
+use std::slice;
 use values::{Atom, Item, ValueFault};
 
 /// The most items in a sequence (our own limit).
@@ -21,7 +23,17 @@ pub const MOST_ITEMS: usize = 10_000;
 /// The items of an expression's value, at most 10,000. Contracts see them as a list.
 #[derive(Drop)]
 pub struct Sequence {
-    items: Vec<Item>,
+    alloc: Global,
+    items: Held,
+}
+
+/// Items as they are held. One alone takes no piece of memory, and most values are of one item.
+#[derive(Drop)]
+enum Held {
+    /// One item.
+    Single(Item),
+    /// As many as there are.
+    Many(Vec<Item>),
 }
 
 impl Model for Sequence {
@@ -35,9 +47,11 @@ impl Model for Sequence {
 
     ghost coded = { coded_list item.the_row.coded };
 
-    ghost view = { λ s. s.items.items };
+    ghost use Rattle.evaluation.specs.Held.{items_of};
 
-    ghost invariant = { λ s. length s.items.items ≤ most_items };
+    ghost view = { λ s. items_of s.items };
+
+    ghost invariant = { λ s. length (items_of s.items) ≤ most_items };
 }
 
 impl Sequence {
@@ -47,7 +61,8 @@ impl Sequence {
         ensures { result ≡ [] }
     {
         Sequence {
-            items: Vec::new(alloc),
+            alloc,
+            items: Held::Many(Vec::new(alloc)),
         }
     }
 
@@ -56,9 +71,10 @@ impl Sequence {
     pub fn one(alloc: Global, item: Item) -> Result<Sequence, AllocError>
         ensures { IfOk result (λ s. s ≡ item ∷ []) }
     {
-        let mut items = Vec::new(alloc);
-        items.push(item)?;
-        Ok(Sequence { items })
+        Ok(Sequence {
+            alloc,
+            items: Held::Single(item),
+        })
     }
 
     /// These items. It takes no memory. Code: PXQ0002 where they are more than 10,000.
@@ -69,7 +85,10 @@ impl Sequence {
         if items.len() > MOST_ITEMS {
             return Err(Code::PXQ0002);
         }
-        Ok(Sequence { items })
+        Ok(Sequence {
+            alloc: *items.allocator(),
+            items: Held::Many(items),
+        })
     }
 
     /// So many integers from the first on. It fails where memory is refused.
@@ -83,7 +102,10 @@ impl Sequence {
         for offset in 0..count {
             items.push(nth(first, offset))?;
         }
-        Ok(Sequence { items })
+        Ok(Sequence {
+            alloc,
+            items: Held::Many(items),
+        })
     }
 
     /// The items.
@@ -91,7 +113,10 @@ impl Sequence {
         ensures items { result.now ≡ self.now }
         ensures most { length self.now ≤ most_items }
     {
-        &self.items
+        match &self.items {
+            Held::Single(item) => slice::from_ref(item),
+            Held::Many(items) => items.as_slice(),
+        }
     }
 
     /// The items of the one, then those of the other. Faults: `Memory`; `Code` with PXQ0002 where they are more than 10,000.
@@ -100,13 +125,26 @@ impl Sequence {
         ensures joined { Says (within (self ++ other)) result }
         ensures judged { Judged (within (self ++ other)) result }
     {
-        let Sequence { mut items } = self;
-        let Sequence { items: mut others } = other;
-        if MOST_ITEMS - items.len() < others.len() {
+        let (count, others) = (self.as_slice().len(), other.as_slice().len());
+        if MOST_ITEMS - count < others {
             return Err(ValueFault::Code(Code::PXQ0002));
         }
-        items.append(&mut others)?;
-        Ok(Sequence { items })
+        if count == 0 {
+            return Ok(other);
+        }
+        if others == 0 {
+            return Ok(self);
+        }
+        let Sequence { alloc, items } = self;
+        let mut items = listed(alloc, items)?;
+        match other.items {
+            Held::Single(item) => items.push(item)?,
+            Held::Many(mut others) => items.append(&mut others)?,
+        }
+        Ok(Sequence {
+            alloc,
+            items: Held::Many(items),
+        })
     }
 
     /// The items, and one more. Faults: `Memory`; `Code` with PXQ0002 where there are 10,000.
@@ -115,21 +153,45 @@ impl Sequence {
         ensures added { Says (within (self ++ item ∷ [])) result }
         ensures judged { Judged (within (self ++ item ∷ [])) result }
     {
-        let Sequence { mut items } = self;
-        if items.len() >= MOST_ITEMS {
+        let count = self.as_slice().len();
+        if count >= MOST_ITEMS {
             return Err(ValueFault::Code(Code::PXQ0002));
         }
+        let Sequence { alloc, items } = self;
+        if count == 0 {
+            return Ok(Sequence::one(alloc, item)?);
+        }
+        let mut items = listed(alloc, items)?;
         items.push(item)?;
-        Ok(Sequence { items })
+        Ok(Sequence {
+            alloc,
+            items: Held::Many(items),
+        })
     }
 
     /// The same items. It fails where memory is refused.
     pub fn copy(&self, alloc: Global) -> Result<Sequence, AllocError>
         ensures { IfOk result (λ s. s ≡ self.now) }
     {
-        Ok(Sequence {
-            items: copies(alloc, &self.items)?,
-        })
+        let items = match &self.items {
+            Held::Single(item) => Held::Single(item.clone()?),
+            Held::Many(items) => Held::Many(copies(alloc, items)?),
+        };
+        Ok(Sequence { alloc, items })
+    }
+}
+
+/// The items in a list. It fails where memory is refused.
+fn listed(alloc: Global, items: Held) -> Result<Vec<Item>, AllocError>
+    ensures { IfOk result (λ v. v.items ≡ items_of items) }
+{
+    match items {
+        Held::Single(item) => {
+            let mut list = Vec::new(alloc);
+            list.push(item)?;
+            Ok(list)
+        }
+        Held::Many(list) => Ok(list),
     }
 }
 
