@@ -1,11 +1,12 @@
 //! Nodes without repeats.
 
-ghost use Rattle.std.specs.Prelude.{◌≡◌, ◌==◌, ◌<◌, ◌++◌, ◌∷◌, [], ℕ, All, cond, length, IfOk};
+ghost use Rattle.std.specs.Prelude.{◌≡◌, ◌==◌, ◌++◌, ◌∷◌, [], cond, length, IfOk, OnOk};
 ghost use Rattle.data_model.specs.Axes.{is_in};
 
 use query_steps::{Identities, set_of};
 use std::alloc::{AllocError, Global};
 use std::marker::Model;
+use std::mem;
 use trees::NodeId;
 
 /// Nodes, each once, in the order in which they came. Contracts see them as a list.
@@ -71,73 +72,44 @@ impl Distinct {
         nodes
     }
 
-    /// A node more, if it is not there already. It fails where memory is refused.
-    pub(crate) fn and(self, node: NodeId) -> Result<Distinct, AllocError>
-        ensures { IfOk result (λ d. d ≡ cond (is_in node self) self (self ++ node ∷ [])) }
+    /// Puts a node at the end, if it is not there already. Where memory is refused, all may be gone.
+    pub(crate) fn add(&mut self, node: NodeId) -> Result<(), AllocError>
+        ensures { OnOk result (self.new ≡ cond (is_in node self.old) self.old (self.old ++ node ∷ [])) }
     {
-        let Distinct {
-            alloc,
-            nodes,
-            bound,
-            set,
-        } = self;
-        match set {
-            Some(set) => sought(alloc, nodes, set, node),
-            None => unsought(alloc, nodes, bound, node),
+        let number = node.number();
+        if self.set.is_none() && number >= self.bound && number < u64::MAX {
+            self.nodes.push(node)?;
+            self.bound = number + 1;
+            return Ok(());
         }
+        let empty = Distinct::new(self.alloc);
+        *self = sought(mem::replace(self, empty), node)?;
+        Ok(())
     }
 }
 
-/// A node more, if it is not in the set of those that are there.
-fn sought(
-    alloc: Global,
-    nodes: Vec<NodeId>,
-    set: Identities,
-    node: NodeId,
-) -> Result<Distinct, AllocError>
-    requires { (i : ℕ) → is_in i set ≡ is_in i nodes.items }
-    ensures { IfOk result (λ d. d ≡ cond (is_in node nodes.items) nodes.items (nodes.items ++ node ∷ [])) }
+/// A node more, if it is not among those that are there, which are sought from now on.
+fn sought(given: Distinct, node: NodeId) -> Result<Distinct, AllocError>
+    ensures { IfOk result (λ d. d ≡ cond (is_in node given) given (given ++ node ∷ [])) }
 {
-    let (mut nodes, mut set) = (nodes, set);
-    if set.has(node) {
-        return Ok(Distinct {
-            alloc,
-            nodes,
-            bound: 0,
-            set: Some(set),
-        });
+    let Distinct {
+        alloc,
+        mut nodes,
+        set,
+        ..
+    } = given;
+    let mut set = match set {
+        Some(set) => set,
+        None => set_of(alloc, &nodes)?,
+    };
+    if !set.has(node) {
+        set.add(node)?;
+        nodes.push(node)?;
     }
-    set.add(node)?;
-    nodes.push(node)?;
     Ok(Distinct {
         alloc,
         nodes,
         bound: 0,
         set: Some(set),
-    })
-}
-
-/// A node more, if it is not there already, where the identities of all that are there are below a bound.
-fn unsought(
-    alloc: Global,
-    nodes: Vec<NodeId>,
-    bound: u64,
-    node: NodeId,
-) -> Result<Distinct, AllocError>
-    requires { All (λ i. i < bound) nodes.items }
-    ensures { IfOk result (λ d. d ≡ cond (is_in node nodes.items) nodes.items (nodes.items ++ node ∷ [])) }
-{
-    let number = node.number();
-    if number < bound || number == u64::MAX {
-        let set = set_of(alloc, &nodes)?;
-        return sought(alloc, nodes, set, node);
-    }
-    let mut nodes = nodes;
-    nodes.push(node)?;
-    Ok(Distinct {
-        alloc,
-        nodes,
-        bound: number + 1,
-        set: None,
     })
 }

@@ -1,10 +1,9 @@
 //! What a segment of a path finds (XQuery 1.0, section 3.2).
 
-ghost use Rattle.std.specs.Prelude.{◌≡◌, ◌++◌, ◌∷◌, [], map, IfOk};
-ghost use Rattle.values.specs.declared.atom.Item.TheVariants as item;
+ghost use Rattle.std.specs.Prelude.{◌≡◌, ◌+◌, [], length, nat_le, Ok, OnOk, IfErr};
 ghost use Rattle.query_meaning.specs.Paths as meaning;
-ghost use Rattle.query_meaning.specs.Running.{Run};
-ghost use Rattle.evaluation.specs.Gives.{Gives, GivesIn, Says};
+ghost use Rattle.query_meaning.specs.Running.{Run, most_items};
+ghost use Rattle.evaluation.specs.Gives.{Fails, Gives, GivesIn};
 ghost use Rattle.query_paths.specs.Gathered.{IsFew, IsFewIn, listed};
 
 use crate::distinct::Distinct;
@@ -13,7 +12,6 @@ use evaluation::{Evaluation, MOST_ITEMS, Sequence};
 use fault_codes::Code;
 use std::alloc::{AllocError, Global};
 use std::marker::Model;
-use trees::NodeId;
 use values::{Atom, Item, ValueFault};
 
 /// Nodes, each once, and atomic values, in the order in which they were found.
@@ -52,57 +50,45 @@ impl Found {
     {
         let mut found = self;
         for item in items {
-            found = found.and_one(item)?;
+            found.add(item)?;
         }
         Ok(found)
     }
 
-    /// One item more. Faults: `Memory`; `Code` with PXQ0002 where there are more than 10,000 nodes and values.
-    fn and_one(self, item: &Item) -> Result<Found, ValueFault>
-        ensures found { Says (meaning.found_within (meaning.and_found self item.now)) result }
-        ensures few { IfOk result IsFew }
+    /// Adds an item. Faults: `Memory`; `Code` with PXQ0002 where there are more than 10,000 nodes and values then.
+    fn add(&mut self, item: &Item) -> Result<(), ValueFault>
+        ensures added { OnOk result (meaning.found_within (meaning.and_found self.old item.now) ≡ Ok self.new) }
+        ensures few { OnOk result (IsFew self.new) }
+        ensures code { IfErr result (Fails (meaning.found_within (meaning.and_found self.old item.now))) }
     {
-        let found = self.and(item)?;
-        Ok(found.within()?)
+        self.put(item)?;
+        if !self.is_few() {
+            return Err(ValueFault::Code(Code::PXQ0002));
+        }
+        Ok(())
     }
 
-    /// One item more, if it is no node that is there already. It fails where memory is refused.
-    fn and(self, item: &Item) -> Result<Found, AllocError>
-        ensures { IfOk result (λ found. found ≡ meaning.and_found self item.now) }
+    /// Whether there are at most 10,000 nodes and values.
+    #[tactic(auto, unfolding(query_meaning::specs::Running::most_items))]
+    fn is_few(&self) -> bool
+        ensures { result ≡ nat_le (length self.now.nodes + length self.now.atoms) most_items }
+    {
+        let nodes = self.nodes.len();
+        nodes <= MOST_ITEMS && self.atoms.len() <= MOST_ITEMS - nodes
+    }
+
+    /// Puts an item at the end, if it is no node that is there already. It fails where memory is refused.
+    fn put(&mut self, item: &Item) -> Result<(), AllocError>
+        ensures { OnOk result (self.new ≡ meaning.and_found self.old item.now) }
     {
         match item {
-            Item::Node(node) => self.with_node(*node),
-            Item::Atomic(atom) => self.with_atom(atom.clone()?),
+            Item::Node(node) => self.nodes.add(*node),
+            Item::Atomic(atom) => {
+                let atom = atom.clone()?;
+                self.atoms.push(atom)?;
+                Ok(())
+            }
         }
-    }
-
-    /// A node more, if it is not there already. It fails where memory is refused.
-    fn with_node(self, node: NodeId) -> Result<Found, AllocError>
-        ensures { IfOk result (λ found. found ≡ meaning.and_found self (item.Node node)) }
-    {
-        let Found { nodes, atoms } = self;
-        let nodes = nodes.and(node)?;
-        Ok(Found { nodes, atoms })
-    }
-
-    /// An atomic value more. It fails where memory is refused.
-    fn with_atom(self, atom: Atom) -> Result<Found, AllocError>
-        ensures { IfOk result (λ found. found ≡ meaning.and_found self (item.Atomic atom)) }
-    {
-        let Found { nodes, mut atoms } = self;
-        atoms.push(atom)?;
-        Ok(Found { nodes, atoms })
-    }
-
-    /// The same, if it is not too much. Code: PXQ0002 where there are more than 10,000 nodes and values.
-    #[tactic(auto, unfolding(query_meaning::specs::Running::most_items))]
-    fn within(self) -> Result<Found, Code>
-        ensures { result ≡ meaning.found_within self }
-    {
-        if self.nodes.len() + self.atoms.len() > MOST_ITEMS {
-            return Err(Code::PXQ0002);
-        }
-        Ok(self)
     }
 
     /// The nodes in document order, or the atomic values as they were found. It takes the work of putting the nodes in order. Codes: `mixed`
