@@ -55,7 +55,7 @@ fn is_left(text: &[char]) -> bool
 fn all_tokens(alloc: Global, text: &[char]) -> Result<Tokens, ParseFault>
     ensures { IsRead (repeat (λ _ text. lexing.is_left text) lexing.next_token [] text.now) (λ found. found) result }
 {
-    let mut found = Tokens::new(alloc);
+    let mut found = Tokens::with_room(alloc, text.len())?;
     let mut rest = text;
     for _turn in 0..text.len() {
         if !is_left(rest) {

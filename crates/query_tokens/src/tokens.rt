@@ -1,6 +1,6 @@
 //! The tokens that are left.
 
-ghost use Rattle.std.specs.Prelude.{◌≡◌, ◌∷◌, ◌++◌, [], length, MatchOption, OnOk, OnErr};
+ghost use Rattle.std.specs.Prelude.{◌≡◌, ◌∷◌, ◌++◌, [], length, MatchOption, IfOk, OnOk, OnErr};
 ghost use Rattle.query_tokens.specs.Cursor.{kind_at};
 
 use crate::kind::Kind;
@@ -49,14 +49,16 @@ impl Model for Tokens {
 }
 
 impl Tokens {
-    pub(crate) fn new(alloc: Global) -> Tokens
-        ensures { result ≡ [] }
+    /// No tokens, with room for those of a text of so many characters: each has one at least, and half of them no content as a rule. It fails
+    /// where memory is refused.
+    pub(crate) fn with_room(alloc: Global, characters: usize) -> Result<Tokens, AllocError>
+        ensures { IfOk result (λ t. t ≡ []) }
     {
-        Tokens {
+        Ok(Tokens {
             alloc,
-            marks: VecDeque::new(alloc),
-            contents: VecDeque::new(alloc),
-        }
+            marks: VecDeque::with_capacity(alloc, characters)?,
+            contents: VecDeque::with_capacity(alloc, characters / 2)?,
+        })
     }
 
     /// Puts a token at the end. Fails where memory is refused, and then nothing changes.

@@ -12,7 +12,7 @@ returns-then-not-is_left c =
 
 pub returns-in_err-rest : goal.returns-in_err-rest
 returns-in_err-rest c =
-    turn.passed_whole _ _ _ c.in_err-rest.field-0.0 c.from_residual.ensures.1
+    turn.passed_whole _ _ _ c.in_err-rest.field-0.0 c.from_residual-in_err-rest.ensures.1
     (turn.is_fault_in (λ _ text. is_left text) next_token _ _ _ _ _ _ c.loop-turn-test.true (sym c.is_left.ensures ∙ c.if-not-is_left.false) c.in_err-rest.ensures c.loop-turn.invariant.0)
 
 pub loop-turn-preserved : goal.loop-turn-preserved
