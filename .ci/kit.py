@@ -1,5 +1,6 @@
 """The toolchain's command `rt` and the library that it loads, as modules: they know how a crate is checked and built."""
 
+import functools
 import importlib.machinery
 import itertools
 import os
@@ -22,6 +23,8 @@ def load(name, file):
 
 command = load("rt_command", f"{os.path.dirname(os.path.realpath(shutil.which('rt')))}/rt")
 library = command.rtlib
+# it goes through every path between two crates, of which there are millions
+library.Crate.below = functools.cache(library.Crate.below)
 
 ROOT = os.path.dirname(os.path.dirname(os.path.realpath(__file__)))
 

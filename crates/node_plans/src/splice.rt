@@ -17,6 +17,8 @@ ghost use Rattle.node_plans.specs.Splices.{spliced, with_list, IsFree, Writes};
 use super::plan::Plan;
 use super::{numbers, plan};
 use data_model::{NodeId, Part, Tree};
+use node_table::list::NodeList;
+use node_table::name::Names;
 use node_table::plant;
 use node_table::table::{Row, Rows};
 use std::alloc::{AllocError, Global};
@@ -82,7 +84,7 @@ fn spliced_list(
     from: usize,
     to: usize,
     trees: &[Tree],
-) -> Result<Vec<NodeId>, AllocError>
+) -> Result<NodeList, AllocError>
     requires ordered { from ≤ to }
     requires within { to ≤ length list.now }
     ensures { IfOk result (λ v. v.items ≡ take from list.now ++ roots (all_of trees.now) ++ drop to list.now) }
@@ -91,7 +93,7 @@ fn spliced_list(
     nodes.extend_from_slice(&list[..from])?;
     add_roots(&mut nodes, trees)?;
     nodes.extend_from_slice(&list[to..])?;
-    Ok(nodes)
+    NodeList::from_slice(alloc, &nodes)
 }
 
 /// Adds the identities of the roots of some trees.
@@ -155,7 +157,7 @@ fn hide_all(plan: &mut Plan, ids: &[NodeId])
 }
 
 /// Gives a row another list.
-fn set_list_in(row: &mut Row, part: Part, list: Vec<NodeId>)
+fn set_list_in(row: &mut Row, part: Part, list: NodeList)
     ensures list { entry_of_row row.new ≡ with_list part list.items (entry_of_row row.old) }
     ensures place { row.new.place ≡ row.old.place }
 {
@@ -166,7 +168,7 @@ fn set_list_in(row: &mut Row, part: Part, list: Vec<NodeId>)
 }
 
 /// Gives a node another list.
-fn set_list(rows: &mut Rows, part: Part, id: NodeId, list: Vec<NodeId>)
+fn set_list(rows: &mut Rows, part: Part, id: NodeId, list: NodeList)
     requires { IsSome (table_of rows.old id) }
     ensures changed { IsChangedAt (table_of rows.old) (table_of rows.new) id (with_list part list.items) }
     ensures places { place_of rows.new ≡ place_of rows.old }
@@ -180,6 +182,7 @@ fn set_list(rows: &mut Rows, part: Part, id: NodeId, list: Vec<NodeId>)
 /// the rows stay as they were.
 fn plant_rows(
     rows: &mut Rows,
+    names: &mut Names,
     alloc: Global,
     trees: &[Tree],
     parent: NodeId,
@@ -193,7 +196,7 @@ fn plant_rows(
     ensures others { (i : ℕ) → count i (all_of trees.now) ≡ 0 → row_of rows.new i ≡ row_of rows.old i }
     ensures refused { OnErr result (row_of rows.new ≡ row_of rows.old) }
 {
-    match plant::plant_all(rows, alloc, trees, Some(parent), first) {
+    match plant::plant_all(rows, names, alloc, trees, Some(parent), first) {
         Ok(_) => Ok(()),
         Err(_) => {
             plant::remove_all(rows, trees);
@@ -208,7 +211,7 @@ struct Outline {
     /// The number of the first root that comes.
     first: u64,
     /// The list that the parent is to have.
-    list: Vec<NodeId>,
+    list: NodeList,
     /// The nodes that go.
     gone: Vec<NodeId>,
 }
@@ -217,6 +220,7 @@ struct Outline {
 fn write(
     rows: &Rows,
     plan: &mut Plan,
+    names: &mut Names,
     alloc: Global,
     span: Span,
     trees: &[Tree],
@@ -246,7 +250,14 @@ fn write(
 {
     plan::touch(rows, plan, span.parent)?;
     plan.gone.reserve(outline.gone.len())?;
-    plant_rows(&mut plan.rows, alloc, trees, span.parent, outline.first)?;
+    plant_rows(
+        &mut plan.rows,
+        names,
+        alloc,
+        trees,
+        span.parent,
+        outline.first,
+    )?;
     set_list(&mut plan.rows, span.part, span.parent, outline.list);
     hide_all(plan, &outline.gone);
     Ok(outline.gone.len() as u64)
@@ -314,6 +325,7 @@ fn outline_of(
 pub fn splice(
     rows: &Rows,
     plan: &mut Plan,
+    names: &mut Names,
     alloc: Global,
     span: Span,
     trees: &[Tree],
@@ -352,5 +364,5 @@ pub fn splice(
         to,
     };
     let outline = outline_of(rows, plan, alloc, span, trees, levels)?;
-    write(rows, plan, alloc, place, trees, outline)
+    write(rows, plan, names, alloc, place, trees, outline)
 }

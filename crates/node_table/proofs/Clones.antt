@@ -3,7 +3,7 @@ use Rattle.std.proofs.Common.{◌≡◌, ℕ, List, [], ◌∷◌, refl, ap, rul
 use Rattle.std.specs.Map.{lookup}
 use Rattle.row_pages.specs.Rows.{Term}
 use Rattle.std.specs.contracts.prelude.U64Clone as number
-use Rattle.std.specs.List.{AllZip, each_same}
+use Rattle.std.specs.List.{AllZip}
 use Rattle.node_table.specs.declared.table.Row.{Row}
 use Rattle.node_table.specs.Rows.{entry_of_row, table_of}
 use Rattle.node_table.specs.Labels.{place_of, place_in}
@@ -25,8 +25,8 @@ pub row-clone : (r s : Row) → row.TheImpl.is_clone-value.it r s → entry_of_r
 row-clone r s h =
     let k : s.kind ≡ r.kind = h.0 in
     let p : s.parent ≡ r.parent = (let q = h.1.1.1.0 in search rules) in
-    let b : s.attributes.items ≡ r.attributes.items = each_same r.attributes.items s.attributes.items h.1.1.1.1.0.0 in
-    let c : s.children.items ≡ r.children.items = each_same r.children.items s.children.items h.1.1.1.1.1.0.0 in
+    let b : s.attributes.items ≡ r.attributes.items = h.1.1.1.1.0 in
+    let c : s.children.items ≡ r.children.items = h.1.1.1.1.1.0 in
     λ i. record { kind = k i; name = h.1.0 i; text = h.1.1.0 i; parent = p i; attributes = b i; children = c i }
 
 pub entries-clone : (es fs : List (ℕ × Row)) → AllZip (λ p q. number.TheImpl.is_clone-value.it p.0 q.0 × row.TheImpl.is_clone-value.it p.1 q.1) es fs → (test : ℕ → Bool) → option_map entry_of_row (lookup test fs) ≡ option_map entry_of_row (lookup test es)

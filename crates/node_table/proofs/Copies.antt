@@ -374,7 +374,7 @@ pub copy-says : (s r : Row) (c : Content) (q p : Option ℕ) (n : ℕ) (xs ys zs
     → r.kind ≡ s.kind → r.name ≡ s.name → r.text ≡ s.text → r.parent ≡ p → r.attributes.items ≡ zs → r.children.items ≡ ws → entry_of_row r ≡ entry_of (record c { identity = n }) p zs ws
 copy-says s r c q p n xs ys zs ws says kind name text parent attributes children =
     let k = kind ∙ ap (λ (e : Entry). e.kind) says in
-    let m = ap string_bytes name ∙ ap (λ (e : Entry). e.name) says in
+    let m = name ∙ ap (λ (e : Entry). e.name) says in
     let t = ap string_bytes text ∙ ap (λ (e : Entry). e.text) says in
     λ j. record { kind = k j; name = m j; text = t j; parent = parent j; attributes = attributes j; children = children j }
 

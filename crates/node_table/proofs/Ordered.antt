@@ -91,7 +91,7 @@ once-in i k [] = refl
 once-in i k (n ∷ ns) =
     ⊎_elim (λ t. rw t.0 (once-in i k ns ∙ or-again (eqb i k) (is_in i ns) ∙ ap (λ j. eqb i k || (eqb i j || is_in i ns)) (sym t.1))) (λ t. rw t.0 (ap (λ b. eqb i k || b) (once-in i n ns))) (eqb_tells n k)
 
-once-same : (i : ℕ) (ns : List ℕ) → is_in i (dedup eqb ns) ≡ is_in i ns
+pub once-same : (i : ℕ) (ns : List ℕ) → is_in i (dedup eqb ns) ≡ is_in i ns
 once-same i [] = refl
 once-same i (n ∷ ns) = once-in i n ns
 
@@ -100,7 +100,7 @@ nodes-in : (i : ℕ) (xs : List Labelled) → is_in i (map (λ x. x.node) xs) �
 nodes-in i [] = refl
 nodes-in i (x ∷ xs) = ap (λ b. eqb i x.node || b) (nodes-in i xs)
 
-filter-in : (p : ℕ → Bool) (i : ℕ) (ids : List ℕ) → p i ≡ true → is_in i (filter p ids) ≡ is_in i ids
+pub filter-in : (p : ℕ → Bool) (i : ℕ) (ids : List ℕ) → p i ≡ true → is_in i (filter p ids) ≡ is_in i ids
 filter-in p i [] h = refl
 filter-in p i (x ∷ ids) h = by (p x) refl (filter-in p i ids h)
   where

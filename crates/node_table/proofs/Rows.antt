@@ -1,11 +1,12 @@
 -- The rows of a forest, and the table that they are.
-use Rattle.std.proofs.Common.{eqb, cond, List, ◌∷◌, true, false, ◌≡◌, ◌≢◌, ℕ, ◌+◌, ◌≤◌, [], refl, ap, sym, ◌∙◌, arith, ⊎_elim, Option, Some, None, option_map, nat_eq, IsSome, is_some, subst, vec_len, vec_capacity, length, Result, Ok, Err, OnOk, OnErr, option_copied, Bor}
+use Rattle.std.proofs.Common.{eqb, cond, List, ◌∷◌, true, false, ◌≡◌, ◌≢◌, ℕ, ◌≤◌, [], refl, ap, sym, ◌∙◌, arith, ⊎_elim, Option, Some, None, option_map, nat_eq, IsSome, is_some, subst, Result, Ok, Err, OnOk, OnErr, option_copied, Bor}
 use Rattle.std.proofs.lemmas.Bool.Decides.{nat_tests, eqb_tells}
 use Rattle.row_pages.specs.Rows.{Term, get, Changes, with_value}
 use Rattle.std.specs.Map.{lookup, set_value}
 use Rattle.data_model.specs.declared.node.Part.{Part}
 use Rattle.data_model.specs.declared.node.Part.TheVariants.{Attributes, Children}
 use Rattle.node_table.specs.declared.table.Row.{Row}
+use Rattle.node_table.specs.Lists.{HasRoomFor}
 use Rattle.node_table.specs.Flat.{Entry, Table, IsChangedAt, listed}
 use Rattle.node_table.specs.Rows.{table_of, entry_of_row, list_in, HasRoomIn, HasRoom, row_of}
 use Rattle.node_table.specs.Labels.{place_of, place_in}
@@ -130,13 +131,13 @@ pub places-new : (m n : Term Row) (k : ℕ) (r : Row) → table_of m k ≡ None 
 places-new m n k r none own u = places-written m n k r (place-none m k (row-absent m k none) ∙ sym own) u
 
 -- ---- room for more nodes
-room-in : (part : Part) (n : ℕ) (o : Option Row) (r : Row) → o ≡ Some r → HasRoomIn part n o → vec_len (list_in part r) + n ≤ vec_capacity (list_in part r)
+room-in : (part : Part) (n : ℕ) (o : Option Row) (r : Row) → o ≡ Some r → HasRoomIn part n o → HasRoomFor (list_in part r) n
 room-in part n o r e h = let P : Option Row → Type 0 = HasRoomIn part n in subst P e h
 
-room-of : (part : Part) (n : ℕ) (o : Option Row) (r : Row) → o ≡ Some r → vec_len (list_in part r) + n ≤ vec_capacity (list_in part r) → HasRoomIn part n o
+room-of : (part : Part) (n : ℕ) (o : Option Row) (r : Row) → o ≡ Some r → HasRoomFor (list_in part r) n → HasRoomIn part n o
 room-of part n o r e h = let P : Option Row → Type 0 = HasRoomIn part n in subst P (sym e) h
 
-pub room-at : (part : Part) (k n : ℕ) (m : Term Row) (r : Row) → get m k ≡ Some r → HasRoom part k n m → vec_len (list_in part r) + n ≤ vec_capacity (list_in part r)
+pub room-at : (part : Part) (k n : ℕ) (m : Term Row) (r : Row) → get m k ≡ Some r → HasRoom part k n m → HasRoomFor (list_in part r) n
 unfolding HasRoom
 room-at part k n m r e h = room-in part n _ r e h
 
@@ -181,7 +182,7 @@ module _ (m n : Term Row) (k : ℕ) (r s : Row) (was : get m k ≡ Some r) (now 
   unfolding place_of
   place-set = (let u = now (ap is_some was) in (ap (place_in k) u.here, λ i ne. ap (place_in i) (u.apart i ne)))
 
-  pub room-written : (part : Part) (j : ℕ) → vec_len (list_in part s) + j ≤ vec_capacity (list_in part s) → HasRoom part k j n
+  pub room-written : (part : Part) (j : ℕ) → HasRoomFor (list_in part s) j → HasRoom part k j n
   unfolding HasRoom
   room-written part j h = let u = now (ap is_some was) in room-of part j _ s u.here h
 
@@ -201,9 +202,9 @@ pub on_ok : {A E : Type 0} (r : Result A E) (X Y : Type 0) → (X → Y) → OnO
 on_ok (Ok x) X Y f h = f h
 on_ok (Err e) X Y f h = tt
 
-pub listed-len : (part : Part) (r : Row) → vec_len (list_in part r) ≡ length (listed part (entry_of_row r))
-listed-len Attributes r = let k = r.attributes.ok in omega arith
-listed-len Children r = let k = r.children.ok in omega arith
+pub listed-items : (part : Part) (r : Row) → (list_in part r).items ≡ listed part (entry_of_row r)
+listed-items Attributes r = refl
+listed-items Children r = refl
 
 pub on_err : {A E : Type 0} (r : Result A E) (X : Type 0) → X → OnErr r X
 on_err (Ok x) X h = tt

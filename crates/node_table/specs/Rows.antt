@@ -1,9 +1,8 @@
 -- What rows say of nodes, and what room they have.
-use Rattle.std.specs.Prelude.{ℕ, ◌≤◌, ◌+◌, Option, Some, None, option_map, string_bytes, vec_len, vec_capacity}
+use Rattle.std.specs.Prelude.{ℕ, Option, Some, None, option_map, string_bytes}
 use Rattle.row_pages.specs.Rows.{Term, get}
-use Rattle.std.specs.declared.alloc.Global.{Global}
-use Rattle.std.specs.declared.vec.Vec.{Vec}
 use Rattle.data_model.specs.Trees.{Trees}
+use Rattle.node_table.specs.Lists.{Nodes, HasRoomFor}
 use Rattle.node_table.specs.Flat.{Entry, Table, read_trees, parentless}
 use Rattle.data_model.specs.declared.node.Part.{Part}
 use Rattle.data_model.specs.declared.node.Part.TheVariants.{Attributes, Children}
@@ -11,7 +10,7 @@ use Rattle.node_table.specs.declared.table.Row.{Row}
 
 abbrev pub entry_of_row : Row → Entry
 entry_of_row r =
-    record { kind = r.kind; name = string_bytes r.name; text = string_bytes r.text; parent = r.parent; attributes = r.attributes.items; children = r.children.items }
+    record { kind = r.kind; name = r.name; text = string_bytes r.text; parent = r.parent; attributes = r.attributes.items; children = r.children.items }
 
 -- the row of a node
 unfoldable pub row_of : Term Row → ℕ → Option Row
@@ -25,13 +24,13 @@ table_of m i = option_map entry_of_row (get m i)
 unfoldable pub trees_of : Table → ℕ → Trees
 trees_of f n = read_trees n f (parentless f n)
 
-abbrev pub list_in : Part → Row → Vec ℕ Global
+abbrev pub list_in : Part → Row → Nodes
 list_in Attributes r = r.attributes
 list_in Children r = r.children
 
 abbrev pub HasRoomIn : Part → ℕ → Option Row → Type 0
 HasRoomIn part n None = ⊥
-HasRoomIn part n (Some r) = vec_len (list_in part r) + n ≤ vec_capacity (list_in part r)
+HasRoomIn part n (Some r) = HasRoomFor (list_in part r) n
 
 -- the node is there, and n more fit into that list of it with no allocation
 unfoldable pub HasRoom : Part → ℕ → ℕ → Term Row → Type 0

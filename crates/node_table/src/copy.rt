@@ -7,6 +7,7 @@ ghost use Rattle.node_table.specs.Flat.{Holds, AreThere, read_trees, both};
 ghost use Rattle.node_table.specs.Rows.{table_of, entry_of_row, row_of};
 ghost use Rattle.node_table.specs.Labels.{place_of};
 
+use super::list::NodeList;
 use super::table::{Row, Rows};
 use data_model::NodeId;
 use std::alloc::{AllocError, Global};
@@ -33,7 +34,7 @@ pub fn copy_all(
     parent: Option<NodeId>,
     levels: u64,
     next: &mut u64,
-) -> Result<Vec<NodeId>, AllocError>
+) -> Result<NodeList, AllocError>
     requires there { AreThere (both (table_of lent.now) (table_of rows.old)) levels next.old ids.now }
     requires fresh { (i : ℕ) → next.old ≤ i → table_of rows.old i ≡ None }
     requires room { next.old + size (read_trees levels (both (table_of lent.now) (table_of rows.old)) ids.now) ≤ 2 ^ 62 }
@@ -44,7 +45,7 @@ pub fn copy_all(
     ensures fresh { (i : ℕ) → next.new ≤ i → table_of rows.new i ≡ None }
     ensures places { place_of rows.new ≡ place_of rows.old }
 {
-    let mut copies = Vec::new(alloc);
+    let mut copies = NodeList::new(alloc);
     if levels == 0 {
         return Ok(copies);
     }

@@ -7,6 +7,8 @@ pub mod copy;
 pub mod exchange;
 pub mod label;
 pub mod laws;
+pub mod list;
+pub mod name;
 pub mod order;
 pub mod plant;
 pub mod table;

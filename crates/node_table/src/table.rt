@@ -1,12 +1,14 @@
 //! The flat table of nodes that a forest stands on.
 
-ghost use Rattle.std.specs.Prelude.{◌≡◌, ◌≢◌, ℕ, ◌+◌, ◌≤◌, Option, Some, None, OnOk, IsSome, length, filter, not, eqb, cond, vec_len, vec_capacity, string_bytes};
+ghost use Rattle.std.specs.Prelude.{◌≡◌, ◌≢◌, ℕ, ◌+◌, ◌≤◌, Option, Some, None, OnOk, IsSome, length, string_bytes};
 ghost use Rattle.data_model.specs.declared.node.Part.{Part};
-ghost use Rattle.data_model.specs.Walks.{held};
 ghost use Rattle.node_table.specs.Flat.{Entry, IsChangedAt, Puts, with_child, with_parent, with_text, with_name, without_child, listed, IsOnceBelow};
+ghost use Rattle.node_table.specs.Lists.{HasRoomFor};
 ghost use Rattle.node_table.specs.Rows.{table_of, entry_of_row, list_in, HasRoom};
 ghost use Rattle.node_table.specs.Labels.{place_of};
 
+use super::list::NodeList;
+use super::name::Name;
 use data_model::{Kind, NodeId, Part};
 use row_pages::RowPages;
 use std::alloc::AllocError;
@@ -17,15 +19,15 @@ pub struct Row {
     /// Its kind.
     pub kind: Kind,
     /// Its name, empty where its kind has none.
-    pub name: String,
+    pub name: Name,
     /// The text of an attribute, a text, a comment or a processing instruction; empty for other kinds.
     pub text: String,
     /// Its parent.
     pub parent: Option<NodeId>,
     /// Its attributes, in their list's order.
-    pub attributes: Vec<NodeId>,
+    pub attributes: NodeList,
     /// Its children, in document order.
-    pub children: Vec<NodeId>,
+    pub children: NodeList,
     /// A number that rises among its parent's attributes and then its children. A root's counts for nothing.
     pub place: u64,
 }
@@ -37,7 +39,7 @@ pub type Rows = RowPages<Row>;
 fn reserve_in(row: &mut Row, part: Part, additional: usize) -> Result<(), AllocError>
     ensures same { entry_of_row row.new ≡ entry_of_row row.old }
     ensures place { row.new.place ≡ row.old.place }
-    ensures room { OnOk result (vec_len (list_in part row.new) + additional ≤ vec_capacity (list_in part row.new)) }
+    ensures room { OnOk result (HasRoomFor (list_in part row.new) additional) }
 {
     match part {
         Part::Attributes => row.attributes.reserve(additional),
@@ -47,16 +49,16 @@ fn reserve_in(row: &mut Row, part: Part, additional: usize) -> Result<(), AllocE
 
 /// Puts a node into a list of a row, which has room for it.
 fn add_to(row: &mut Row, part: Part, index: usize, child: NodeId)
-    requires within { index ≤ vec_len (list_in part row.old) }
-    requires room { vec_len (list_in part row.old) + 1 ≤ vec_capacity (list_in part row.old) }
+    requires within { index ≤ length (list_in part row.old).items }
+    requires room { HasRoomFor (list_in part row.old) 1 }
     ensures added { entry_of_row row.new ≡ with_child part index child (entry_of_row row.old) }
     ensures place { row.new.place ≡ row.old.place }
-    ensures len { vec_len (list_in part row.new) ≡ vec_len (list_in part row.old) + 1 }
-    ensures capacity { vec_capacity (list_in part row.old) ≤ vec_capacity (list_in part row.new) }
+    ensures len { length (list_in part row.new).items ≡ length (list_in part row.old).items + 1 }
+    ensures capacity { (list_in part row.old).capacity ≤ (list_in part row.new).capacity }
 {
     match part {
-        Part::Attributes => row.attributes.insert(index, child).unwrap(),
-        Part::Children => row.children.insert(index, child).unwrap(),
+        Part::Attributes => row.attributes.insert(index, child),
+        Part::Children => row.children.insert(index, child),
     }
 }
 
@@ -134,7 +136,7 @@ pub fn set_name(rows: &mut Rows, id: NodeId, name: String)
     ensures places { place_of rows.new ≡ place_of rows.old }
 {
     if let Some(row) = rows.get_mut(id.number()) {
-        row.name = name;
+        row.name = Name::new(name);
     }
 }
 
@@ -158,29 +160,14 @@ fn remove_below(row: &mut Row, part: Part, child: NodeId)
 {
     match part {
         Part::Attributes => {
-            if !remove_from(&mut row.attributes, child) {
-                remove_from(&mut row.children, child);
+            if !row.attributes.remove(child) {
+                row.children.remove(child);
             }
         }
         Part::Children => {
-            if !remove_from(&mut row.children, child) {
-                remove_from(&mut row.attributes, child);
+            if !row.children.remove(child) {
+                row.attributes.remove(child);
             }
         }
     }
-}
-
-/// Takes a node out of a list that has it at most once, and says whether it had it.
-fn remove_from(ids: &mut Vec<NodeId>, id: NodeId) -> bool
-    requires { held id ids.old.items ≤ 1 }
-    ensures removed { ids.new.items ≡ filter (λ i. not (eqb id i)) ids.old.items }
-    ensures had { held id ids.old.items ≡ cond result 1 0 }
-{
-    for at in 0..ids.len() {
-        if ids[at] == id {
-            ids.remove(at);
-            return true;
-        }
-    }
-    false
 }

@@ -29,7 +29,7 @@ pub fn trees_of(
         let content = Content {
             identity: *id,
             kind: row.kind,
-            name: row.name.clone()?,
+            name: String::from_str(alloc, row.name.as_str())?,
             text: row.text.clone()?,
         };
         let attributes = trees_of(rows, alloc, &row.attributes, levels - 1)?;

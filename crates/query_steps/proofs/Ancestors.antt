@@ -24,7 +24,7 @@ parent-is (Some p) a h = ⊎_elim (λ t. ap Some t.1) (λ t. (let z : false ≡ 
 pub is-parent : (o : Option ℕ) (a : ℕ) → o ≡ Some a → is_parent_at o a ≡ true
 is-parent o a h = rw h (eqb-same a)
 
-parent-found : (o : Option Place) (a : ℕ) → parent_at o ≡ Some a → IsSome o
+pub parent-found : (o : Option Place) (a : ℕ) → parent_at o ≡ Some a → IsSome o
 parent-found None a h = cc
 parent-found (Some x) a h = refl
 

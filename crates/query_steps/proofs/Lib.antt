@@ -4,3 +4,4 @@ pub mod Descendants
 pub mod Besides
 pub mod Turns
 pub mod Members
+pub mod ByName

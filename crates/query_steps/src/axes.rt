@@ -1,6 +1,6 @@
 //! The axes of a step (XQuery 1.0, section 3.2.1.1).
 
-ghost use Rattle.std.specs.Prelude.{◌≡◌, IfOk, IsSome};
+ghost use Rattle.std.specs.Prelude.{◌≡◌, ◌++◌, IfOk, IsSome};
 ghost use Rattle.data_model.specs.Trees.{find};
 ghost use Rattle.shelves.specs.Shelf.{shelf_trees};
 ghost use Rattle.query_meaning.specs.Paths.{looked_at, tested_nodes};
@@ -8,6 +8,7 @@ ghost use Rattle.query_meaning.specs.Running.{trees_of};
 
 use crate::below::add_descendants;
 use crate::listing::Listing;
+use crate::named::named_descendants;
 use crate::node_tests::{add_passing, passing};
 use crate::siblings::{following, preceding};
 use evaluation::Evaluation;
@@ -139,6 +140,9 @@ fn descendants(
     ensures nodes { IfOk result (λ l. l.nodes.items ≡ tested_nodes Axis.Descendant test.now node (shelf_trees shelf.now)) }
     ensures looked { IfOk result (λ l. l.looked_at ≡ looked_at Axis.Descendant node (shelf_trees shelf.now)) }
 {
+    if let Some(listing) = named_descendants(alloc, shelf, test, node)? {
+        return Ok(listing);
+    }
     shelf.facts();
     let mut nodes = Vec::new(alloc);
     let looked_at = add_descendants(shelf, Axis::Descendant, test, node, &mut nodes)?;
@@ -158,6 +162,26 @@ fn descendants_or_self(
     shelf.facts();
     let mut nodes = Vec::new(alloc);
     add_passing(shelf, Axis::DescendantOrSelf, test, node, &mut nodes)?;
+    if let Some(below) = named_descendants(alloc, shelf, test, node)? {
+        return with_below(nodes, below);
+    }
     let looked_at = add_descendants(shelf, Axis::DescendantOrSelf, test, node, &mut nodes)?;
     Ok(Listing { nodes, looked_at })
+}
+
+/// Some nodes, then those that a step gave.
+fn with_below(nodes: Vec<NodeId>, below: Listing) -> Result<Listing, AllocError>
+    ensures nodes { IfOk result (λ l. l.nodes.items ≡ nodes.items ++ below.nodes.items) }
+    ensures looked { IfOk result (λ l. l.looked_at ≡ below.looked_at) }
+{
+    let Listing {
+        nodes: mut more,
+        looked_at,
+    } = below;
+    let mut all = nodes;
+    all.append(&mut more)?;
+    Ok(Listing {
+        nodes: all,
+        looked_at,
+    })
 }

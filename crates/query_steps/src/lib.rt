@@ -7,6 +7,7 @@ mod axes;
 mod below;
 mod identities;
 mod listing;
+mod named;
 mod node_tests;
 mod sets;
 mod siblings;

@@ -50,7 +50,7 @@ pub(crate) fn passes(axis: Axis, test: &NodeTest, kind: Kind, name: &str) -> boo
 }
 
 /// Whether a node passes the test of a step along that axis.
-fn passes_at(shelf: &Shelf, axis: Axis, test: &NodeTest, node: NodeId) -> bool
+pub(crate) fn passes_at(shelf: &Shelf, axis: Axis, test: &NodeTest, node: NodeId) -> bool
     ensures { result ≡ passes_at axis test.now (find node (shelf_trees shelf.now)) }
 {
     match shelf.node(node) {

@@ -2,6 +2,7 @@
 
 ghost use Rattle.std.specs.Prelude.{◌≡◌, ◌≤◌, ◌+◌, ◌^◌, [], length, ℕ, Some, None, IfSome, IfNone, IfOk, OnOk, OnErr, option_copied, is_some, IsSome};
 ghost use Rattle.std.specs.Borrow.{sem};
+ghost use Rattle.std.specs.Map.{keys_of};
 ghost use Rattle.std.specs.Option.{option_copied_mut};
 ghost use Rattle.row_pages.specs.Rows.{entries, spare, get, Changes};
 
@@ -55,6 +56,13 @@ impl<V: Drop> RowPages<V> {
         ensures { result ≡ length (entries self.now) }
     {
         self.keys.len()
+    }
+
+    /// The keys that have values, in the order of the entries.
+    pub fn keys(&self) -> &[u64]
+        ensures { result.now ≡ keys_of (entries self.now) }
+    {
+        self.keys.as_slice()
     }
 
     /// The value of a key.

@@ -1,10 +1,11 @@
 //! Shelves: a lent forest and an own one, seen as one.
 
-ghost use Rattle.std.specs.Prelude.{◌≡◌, ℕ, ◌+◌, ◌<◌, ◌≤◌, ◌^◌, ◌↔◌, Option, Some, None, IfOk, OnOk, OnErr, IfSome, IfNone, IsErrOf, IsSome, IsTrue, List, [], filter, is_some, string_bytes, option_map};
+ghost use Rattle.std.specs.Prelude.{◌≡◌, ℕ, ◌+◌, ◌<◌, ◌≤◌, ◌^◌, ◌↔◌, Option, Some, None, IfOk, OnOk, OnErr, IfSome, IfNone, IsErrOf, IsSome, IsTrue, List, [], true, filter, is_some, string_bytes, option_map};
 ghost use Rattle.std.specs.Map.{lookup};
 ghost use Rattle.std.specs.Str.{bytes_eq};
 ghost use Rattle.data_model.specs.Trees.{no_trees, append, leaf, find, bytes_in, count, size, children_of, attributes_of, parent_of, string_value_of, text_within, IsAt};
 ghost use Rattle.data_model.specs.Changes.{with_content, taken_out, all_moved_below, CanAllMoveBelow, pick, renumbered};
+ghost use Rattle.data_model.specs.declared.node.Kind.TheVariants.{Element};
 ghost use Rattle.data_model.specs.declared.node.Part.TheVariants.{Attributes, Children};
 ghost use Rattle.data_model.specs.Order.{identities, precedes};
 ghost use Rattle.data_model.specs.Views.{Views};
@@ -161,6 +162,17 @@ impl<'a> Shelf<'a> {
         }
     }
 
+    /// Identities among which those of all elements of a name in the lent forest are; `None` where that forest keeps none. Others may be among them, and
+    /// one may stand there twice. Own nodes need not be.
+    pub fn elements_named(&self, name: &str) -> Option<&[NodeId]>
+        ensures { IfSome result
+            (λ ids. (i : ℕ)
+            → IsAt (find i self.now.lent.trees) (λ c. (c.kind ≡ Element) × (c.name ≡ name.now))
+            → is_in i ids.now ≡ true) }
+    {
+        self.lent.elements_named(name)
+    }
+
     /// What a node says of itself and which nodes stand round it, by one look-up; `None` where none of that identity stands in either forest.
     pub fn node(&self, id: NodeId) -> Option<NodeView<'_>>
         ensures { Views result (find id (shelf_trees self.now)) }
@@ -216,6 +228,14 @@ impl<'a> Shelf<'a> {
         self.home(id).attributes(id)
     }
 
+    /// The string value of a node where it stands in one text, as `Forest::value_in_place` gives it; `None` elsewhere. It takes no memory.
+    pub fn value_in_place(&self, id: NodeId) -> Option<&str>
+        requires { IsSome (find id (shelf_trees self.now)) }
+        ensures { IfSome result (λ s. s.now ≡ string_value_of id (shelf_trees self.now)) }
+    {
+        self.home(id).value_in_place(id)
+    }
+
     /// The string value of a node (XQuery 1.0 and XPath 2.0 Data Model, section 5.13).
     ///
     /// It fails where memory is refused.
@@ -264,6 +284,19 @@ impl<'a> Shelf<'a> {
         let home = self.home(id);
         home.facts();
         home.size_of(id)
+    }
+
+    /// How many nodes the tree of a root of the lent forest has, itself and attributes counted; `None` where that forest does not keep it, or has no
+    /// such node. It does not count them.
+    pub fn tree_size(&self, root: NodeId) -> Option<u64>
+        ensures size { IfSome result (λ n. n ≡ size (pick root (shelf_trees self.now))) }
+        ensures lent { IfSome result (λ _. IsSome (find root self.now.lent.trees)) }
+    {
+        self.facts();
+        match self.lent.tree_size(root) {
+            Some(size) if self.lent.has(root) => Some(size),
+            _ => None,
+        }
     }
 
     /// What is left of so many bytes without those of all texts in the tree of a node; `None` where they are more.

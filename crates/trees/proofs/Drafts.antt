@@ -1,8 +1,9 @@
 -- The fields of a draft, and its trees.
-use Rattle.std.proofs.Common.{◌≡◌, ℕ, ◌+◌, ◌≤◌, ◌<◌, ◌^◌, ap, sym, ◌∙◌, arith, Option, Some, IsSome, is_some, option_map, subst, length}
-use Rattle.row_pages.specs.Rows.{Term}
+use Rattle.std.proofs.Common.{◌≡◌, ◌≢◌, ℕ, ◌-◌, IfSome, ◌+◌, ◌≤◌, ◌<◌, ◌^◌, ap, sym, ◌∙◌, arith, Option, Some, IsSome, is_some, option_map, subst, length}
+use Rattle.row_pages.specs.Rows.{Term, get}
 use Rattle.data_model.specs.Trees.{Trees, Content, append, find, count, size}
-use Rattle.data_model.specs.Changes.{with_content, part_of}
+use Rattle.data_model.specs.Changes.{with_content, with_part, part_of}
+use Rattle.data_model.specs.Walks.{root_of}
 use Rattle.data_model.specs.declared.node.Part.{Part}
 use Rattle.data_model.specs.declared.node.Part.TheVariants.{Attributes, Children}
 use Rattle.data_model.proofs.Weights.{weigh-append}
@@ -18,21 +19,24 @@ use Rattle.node_table.proofs.Numbers.{numbers-changed}
 use Rattle.node_table.proofs.Rows.{rows-table, rows-places}
 use Rattle.node_plans.specs.declared.plan.Plan.{Plan}
 use Rattle.node_plans.specs.Planned.{planned, rows_with, table_with, places_with}
+use Rattle.forest_index.specs.Named.{Covers}
+use Rattle.forest_index.specs.Sized.{AreSizes, kept_sizes, size_with}
 use Rattle.trees.specs.Inside.{term_of, AreStanding, IsSound}
 use Rattle.trees.specs.Drafts.{DraftTerm}
 use Rattle.trees.specs.Drafted.{forest_of, table_after, trees_after, draft_of, IsDrafted}
 use Rattle.trees.specs.declared.draft.Drafted.{Drafted}
-use Rattle.trees.proofs.Forests.{sound-same, term-same, standing-changed, standing-kept}
+use Rattle.forest_index.proofs.Sized.{with-same, sizes-content, sizes-fit, sizes-spliced}
+use Rattle.trees.proofs.Forests.{sound-rows, term-same, standing-changed, standing-kept}
 
 -- ---- from the fields to the term
 pub draft-is : (a : Drafted) (ts : Trees) → IsTableOf (table_after a) a.next ts → draft_of a ≡ record { before = term_of (forest_of a); after = ts; next = a.next }
 draft-is a ts h = λ i. record { before = term_of (forest_of a); after = trees-of (table_after a) a.next ts h i; next = a.next }
 
-pub drafted : (a : Drafted) (ts : Trees) → IsSound (forest_of a) → IsTableOf (table_after a) a.next ts → a.count ≡ size ts → HasNumbers (places_with a.plan a.rows) (table_after a) → a.next ≤ 2 ^ 62 → AreStanding (table_after a) a.documents.entries → IsDrafted a
-drafted a ts before h n w b s =
-    let P : Trees → Type 0 = λ t. IsTableOf (table_after a) a.next t × (a.count ≡ size t) in
-    let z : P (trees_after a) = subst P (sym (trees-of (table_after a) a.next ts h)) (h, n) in
-    record { before = before; table = z.0; counted = z.1; numbered = w; bound = b; standing = s }
+pub drafted : (a : Drafted) (ts : Trees) → IsSound (forest_of a) → IsTableOf (table_after a) a.next ts → a.count ≡ size ts → HasNumbers (places_with a.plan a.rows) (table_after a) → a.next ≤ 2 ^ 62 → AreStanding (table_after a) a.documents.entries → AreSizes (size_with (kept_sizes a.index) a.resized) ts → IsDrafted a
+drafted a ts before h n w b s q =
+    let P : Trees → Type 0 = λ t. IsTableOf (table_after a) a.next t × (a.count ≡ size t) × AreSizes (size_with (kept_sizes a.index) a.resized) t in
+    let z : P (trees_after a) = subst P (sym (trees-of (table_after a) a.next ts h)) (h, n, q) in
+    record { before = before; table = z.0; counted = z.1; numbered = w; bound = b; standing = s; sized = z.2 }
 
 -- ---- what a draft is
 module _ (a : Drafted) (v : DraftTerm) (is : draft_of a ≡ v) (h : IsDrafted a) where
@@ -41,6 +45,9 @@ module _ (a : Drafted) (v : DraftTerm) (is : draft_of a ≡ v) (h : IsDrafted a)
 
   pub now-count : a.count ≡ size v.after
   now-count = h.counted ∙ ap (λ (x : DraftTerm). size x.after) is
+
+  pub now-sizes : AreSizes (size_with (kept_sizes a.index) a.resized) v.after
+  now-sizes = let P : Trees → Type 0 = AreSizes (size_with (kept_sizes a.index) a.resized) in subst P (ap (λ (x : DraftTerm). x.after) is) h.sized
 
   pub entry-is : (i : ℕ) → entry_in i v.after ≡ table_after a i
   entry-is i = find-table (table_after a) a.next v.after i now-table
@@ -71,20 +78,49 @@ module _ (a : Drafted) (v : DraftTerm) (is : draft_of a ≡ v) (h : IsDrafted a)
   pub trees-few : (us : Trees) → ((i : ℕ) → count i (append v.after us) ≤ 1) → ((i : ℕ) → 0 < count i us → i < v.next) → size us ≤ a.next
   trees-few us d below = size-within-identities a.next us (λ i. (let t = trees-apart us d i in omega arith)) (λ i l. (let b = below i l in let n = next-is in omega arith))
 
+  -- sizes, where a list below the node i becomes another: `added` nodes come, and `removed` go
+  module _ (p : Term ℕ) (same : (r : ℕ) → get p r ≡ get a.resized r) (part : Part) (i root : ℕ) (g : Trees → Trees) (root_is : root ≡ root_of i v.after) (has : IsSome (find i v.after)) (us : Trees) (apart : (j : ℕ) → count j (append v.after us) ≤ 1) (added removed : ℕ) (many : added ≡ size us)
+      (total : size (with_part part i g (trees_after a)) + removed ≡ size (trees_after a) + size us) where
+    root-after : root ≡ root_of i (trees_after a)
+    root-after = root_is ∙ ap (root_of i) (sym after-is)
+
+    stands : 0 < count i (trees_after a)
+    stands = let there = table-there i has in let one = h.table.counted i in let z : count i (trees_after a) ≡ 1 = rw there at one in omega arith
+
+    distinct : (j : ℕ) → count j (trees_after a) ≤ 1
+    distinct j = let t = trees-apart us apart j in omega arith
+
+    sizes-now : AreSizes (size_with (kept_sizes a.index) p) (trees_after a)
+    sizes-now = λ r n e. h.sized r n (sym (with-same (kept_sizes a.index) a.resized p same r) ∙ e)
+
+    whole : size (with_part part i g (trees_after a)) + removed ≡ size (trees_after a) + added
+    whole = total ∙ ap (λ n. size (trees_after a) + n) (sym many)
+
+    pub sizes-room : size us ≤ a.next → IfSome (size_with (kept_sizes a.index) p root) (λ n. (n + added < 2 ^ 64) × (removed ≤ n + added))
+    sizes-room few =
+        let P : ℕ → Type 0 = λ r. IfSome (size_with (kept_sizes a.index) p r) (λ n. (n + added < 2 ^ 64) × (removed ≤ n + added)) in
+        subst P (sym root-after) (sizes-fit part i g (size_with (kept_sizes a.index) p) (size_with (kept_sizes a.index) p) (trees_after a) distinct stands added removed whole sizes-now a.next h.table.fits (omega (arith, many, few)) h.bound)
+
+    pub sizes-after : (q : Term ℕ) → size_with (kept_sizes a.index) q root ≡ option_map (λ n. n + added - removed) (size_with (kept_sizes a.index) p root) → ((r : ℕ) → r ≢ root → size_with (kept_sizes a.index) q r ≡ size_with (kept_sizes a.index) p r)
+        → AreSizes (size_with (kept_sizes a.index) q) (with_part part i g (trees_after a))
+    sizes-after q here others =
+        sizes-spliced part i g (size_with (kept_sizes a.index) p) (size_with (kept_sizes a.index) q) (trees_after a) distinct stands added removed whole sizes-now
+        (let P : ℕ → Type 0 = λ r. size_with (kept_sizes a.index) q r ≡ option_map (λ n. n + added - removed) (size_with (kept_sizes a.index) p r) in subst P root-after here) (λ r ne. others r (λ e. ne (e ∙ root-after)))
+
   -- with another plan, in whose rows numbers rise
   module _ (q : Plan) (numbers : HasNumbers (places_with q a.rows) (table_with q a.rows)) where
-    pub drafted-refused : table_with q a.rows ≡ table_after a → IsDrafted (record a { plan = q }) × (draft_of (record a { plan = q }) ≡ v)
-    drafted-refused e =
-        let b : Drafted = record a { plan = q } in
+    pub drafted-refused : (p : Term ℕ) → ((r : ℕ) → get p r ≡ get a.resized r) → table_with q a.rows ≡ table_after a → IsDrafted (record a { plan = q; resized = p }) × (draft_of (record a { plan = q; resized = p }) ≡ v)
+    drafted-refused p same e =
+        let b : Drafted = record a { plan = q; resized = p } in
         let P : Table → Type 0 = λ f. IsTableOf f a.next v.after in
         let whole : IsTableOf (table_after b) a.next v.after = subst P (sym e) now-table in
-        (drafted b v.after h.before whole now-count numbers h.bound (rw e h.standing), draft-is b v.after whole ∙ sym (draft-is a v.after now-table) ∙ is)
+        (drafted b v.after h.before whole now-count numbers h.bound (rw e h.standing) (λ r n f. now-sizes r n (sym (with-same (kept_sizes a.index) a.resized p same r) ∙ f)), draft-is b v.after whole ∙ sym (draft-is a v.after now-table) ∙ is)
 
-    pub drafted-replaced : (g : Trees → Trees) (k : ℕ) → IsTableOf (table_with q a.rows) a.next (g (trees_after a)) → k ≡ size (g (trees_after a)) → ((i : ℕ) → IsDocumentEntry (table_after a i) → IsDocumentEntry (table_with q a.rows i))
-        → IsDrafted (record a { plan = q; count = k }) × (draft_of (record a { plan = q; count = k }) ≡ record v { after = g v.after })
-    drafted-replaced g k whole counted documents =
-        let b : Drafted = record a { plan = q; count = k } in (
-          drafted b (g (trees_after a)) h.before whole counted numbers h.bound (standing-kept (table_after a) (table_with q a.rows) a.documents.entries documents h.standing),
+    pub drafted-replaced : (g : Trees → Trees) (k : ℕ) (p : Term ℕ) → IsTableOf (table_with q a.rows) a.next (g (trees_after a)) → k ≡ size (g (trees_after a)) → ((i : ℕ) → IsDocumentEntry (table_after a i) → IsDocumentEntry (table_with q a.rows i)) → AreSizes (size_with (kept_sizes a.index) p) (g (trees_after a))
+        → IsDrafted (record a { plan = q; count = k; resized = p }) × (draft_of (record a { plan = q; count = k; resized = p }) ≡ record v { after = g v.after })
+    drafted-replaced g k p whole counted documents sizes =
+        let b : Drafted = record a { plan = q; count = k; resized = p } in (
+          drafted b (g (trees_after a)) h.before whole counted numbers h.bound (standing-kept (table_after a) (table_with q a.rows) a.documents.entries documents h.standing) sizes,
           draft-is b (g (trees_after a)) whole ∙ ap (λ (t : DraftTerm). record t { after = g t.after }) is,
         )
 
@@ -98,7 +134,7 @@ module _ (a : Drafted) (v : DraftTerm) (is : draft_of a ≡ v) (h : IsDrafted a)
     drafted-same e =
         let P : Table → Type 0 = λ f. IsTableOf f a.next v.after in
         let whole : IsTableOf (table_after after) a.next v.after = subst P (sym e) now-table in
-        (drafted after v.after h.before whole now-count (rw (e, places) h.numbered) h.bound (rw e h.standing), draft-is after v.after whole ∙ sym (draft-is a v.after now-table) ∙ is)
+        (drafted after v.after h.before whole now-count (rw (e, places) h.numbered) h.bound (rw e h.standing) now-sizes, draft-is after v.after whole ∙ sym (draft-is a v.after now-table) ∙ is)
 
     -- and of one node say something else
     pub drafted-content : (s : Content → Content) (step : Entry → Entry) → SaysSame s step → ((e : Entry) → lists_in (Some (step e)) ≡ lists_in (Some e)) → ((e : Entry) → IsDocumentEntry (Some e) → IsDocumentEntry (Some (step e))) → (k : ℕ) → IsSome (find k v.after) → IsChangedAt (table_after a) (table_with q a.rows) k step
@@ -107,7 +143,7 @@ module _ (a : Drafted) (v : DraftTerm) (is : draft_of a ≡ v) (h : IsDrafted a)
         let e = some-of (table_after a k) (table-there k there) in
         let whole : IsTableOf (table_after after) a.next (with_content k s v.after) = IsTableOf-content s step same k (table_after a) (table_with q a.rows) one e.0 e.1 a.next v.after now-table in (
           drafted after (with_content k s v.after) h.before whole (now-count ∙ sym (weigh-with_content s step same k (λ _. 1) v.after)) (numbers-changed _ _ _ _ k step lists places one (table-there k there) h.numbered) h.bound
-              (standing-changed _ _ k step a.documents.entries (λ d at doc. documents d doc) one h.standing),
+              (standing-changed _ _ k step a.documents.entries (λ d at doc. documents d doc) one h.standing) (sizes-content _ s step same k v.after now-sizes),
           draft-is after (with_content k s v.after) whole ∙ ap (λ (t : DraftTerm). record t { after = with_content k s v.after }) is,
         )
 
@@ -130,7 +166,7 @@ unfolding places_with
 same-places p m n e = λ t i. (let z : places_with p n i ≡ places_with p m i = ap (λ (r : ℕ → Option Row). place_in i (planned p r i)) e in z t)
 
 -- the draft whose rows have more room
-module _ (a : Drafted) (v : DraftTerm) (is : draft_of a ≡ v) (h : IsDrafted a) (b : Drafted) (rows : row_of b.rows ≡ row_of a.rows) (documents : b.documents ≡ a.documents) (first : b.first ≡ a.first) (nodes : b.nodes ≡ a.nodes) (plan : b.plan ≡ a.plan) (next : b.next ≡ a.next) (count_same : b.count ≡ a.count) where
+module _ (a : Drafted) (v : DraftTerm) (is : draft_of a ≡ v) (h : IsDrafted a) (b : Drafted) (rows : row_of b.rows ≡ row_of a.rows) (documents : b.documents ≡ a.documents) (first : b.first ≡ a.first) (nodes : b.nodes ≡ a.nodes) (plan : b.plan ≡ a.plan) (next : b.next ≡ a.next) (count_same : b.count ≡ a.count) (named : Covers b.index (table_of a.rows)) (kept : kept_sizes b.index ≡ kept_sizes a.index) (resized : b.resized ≡ a.resized) where
   f-same : table_after b ≡ table_after a
   f-same = rw plan (same-table a.plan a.rows b.rows rows)
 
@@ -141,5 +177,5 @@ module _ (a : Drafted) (v : DraftTerm) (is : draft_of a ≡ v) (h : IsDrafted a)
   roomy-drafted =
       let P : Table → ℕ → Type 0 = λ f n. IsTableOf f n v.after in
       let whole : IsTableOf (table_after b) b.next v.after = subst (λ n. P (table_after b) n) (sym next) (subst (λ f. P f a.next) (sym f-same) (now-table a v is h)) in
-      drafted b v.after (sound-same (forest_of a) (forest_of b) (rows-table a.rows b.rows rows) (rows-places a.rows b.rows rows) documents first nodes h.before) whole (count_same ∙ now-count a v is h)
-      (let w : places_with b.plan b.rows ≡ places_with a.plan a.rows = rw plan (same-places a.plan a.rows b.rows rows) in rw (f-same, w) h.numbered) (rw next h.bound) (rw (f-same, documents) h.standing)
+      drafted b v.after (sound-rows (forest_of a) (forest_of b) (rows-table a.rows b.rows rows) (rows-places a.rows b.rows rows) documents first nodes (rw (rows-table a.rows b.rows rows) named) (rw kept h.before.sized) h.before) whole (count_same ∙ now-count a v is h)
+      (let w : places_with b.plan b.rows ≡ places_with a.plan a.rows = rw plan (same-places a.plan a.rows b.rows rows) in rw (f-same, w) h.numbered) (rw next h.bound) (rw (f-same, documents) h.standing) (rw (kept, resized) (now-sizes a v is h))

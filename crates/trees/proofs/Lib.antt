@@ -1,4 +1,5 @@
 pub mod Forests
+pub mod InPlace
 pub mod Openings
 pub mod Clones
 pub mod Moves

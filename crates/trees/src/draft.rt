@@ -6,18 +6,26 @@ ghost use Rattle.data_model.specs.Tree.{all_of};
 ghost use Rattle.data_model.specs.Changes.{with_content, with_part, part_of};
 ghost use Rattle.node_plans.specs.Splices.{spliced};
 ghost use Rattle.data_model.specs.Views.{Views};
-ghost use Rattle.data_model.specs.Walks.{depth_of};
 ghost use Rattle.trees.specs.Drafts.{DraftTerm, drafted_forest};
 ghost use Rattle.trees.specs.Inside.{term_of, IsSound};
 ghost use Rattle.trees.specs.Drafted.{forest_of};
+ghost use Rattle.row_pages.specs.Rows.{entries, spare};
+ghost use Rattle.node_table.specs.Rows.{row_of, table_of};
+ghost use Rattle.node_plans.specs.Planned.{table_with};
+ghost use Rattle.forest_index.specs.Named.{Covers};
+ghost use Rattle.forest_index.specs.Sized.{kept_sizes};
+ghost use Rattle.data_model.specs.Walks.{depth_of, root_of};
 
 use super::forest::Forest;
 use data_model::{NodeId, NodeView, Part, Tree};
+use forest_index::{ForestIndex, Sizes};
 use indexmap::IndexMap;
 use node_plans::plan::Plan;
 use node_plans::splice::Span;
 use node_plans::{plan, splice};
+use node_table::name::Names;
 use node_table::table::Rows;
+use row_pages::RowPages;
 use std::alloc::{AllocError, Global};
 use std::marker::Model;
 
@@ -28,7 +36,11 @@ pub struct Drafted {
     pub(crate) documents: IndexMap<String, NodeId>,
     pub(crate) first: u64,
     pub(crate) nodes: u64,
+    pub(crate) index: Option<ForestIndex>,
+    pub(crate) names: Names,
     pub(crate) plan: Plan,
+    /// The sizes of the trees that are to get another.
+    pub(crate) resized: Sizes,
     pub(crate) next: u64,
     pub(crate) count: u64,
 }
@@ -87,6 +99,8 @@ impl Draft {
             documents,
             next: first,
             nodes,
+            index,
+            names,
         } = forest;
         Draft {
             parts: Drafted {
@@ -94,7 +108,10 @@ impl Draft {
                 documents,
                 first,
                 nodes,
+                index,
+                names,
                 plan: Plan::new(alloc),
+                resized: RowPages::new(alloc),
                 next: next.number(),
                 count: nodes,
             },
@@ -161,6 +178,19 @@ impl Draft {
         levels
     }
 
+    /// The root of the tree in which a node is to stand.
+    fn root(&self, id: NodeId) -> NodeId
+        requires { IsSome (find id self.now.after) }
+        ensures { result ≡ root_of id self.now.after }
+    {
+        self.facts();
+        let mut at = id;
+        while let Some(parent) = self.parent(at) {
+            at = parent;
+        }
+        at
+    }
+
     /// Plans another text for a node. Where memory is refused, the draft stays as it was.
     pub fn set_text(&mut self, id: NodeId, text: String) -> Result<(), AllocError>
         requires { IsSome (find id self.old.after) }
@@ -212,10 +242,24 @@ impl Draft {
             from,
             to,
         };
+        let root = self.root(parent);
+        let added = data_model::node_count(trees);
         let rows = &self.parts.rows;
         let levels = self.parts.next;
-        let removed = splice::splice(rows, &mut self.parts.plan, alloc, span, trees, levels)?;
-        self.parts.count = self.parts.count + data_model::node_count(trees) - removed;
+        self.parts.resized.reserve(1)?;
+        let names = &mut self.parts.names;
+        let removed = splice::splice(
+            rows,
+            &mut self.parts.plan,
+            names,
+            alloc,
+            span,
+            trees,
+            levels,
+        )?;
+        self.parts.count = self.parts.count + added - removed;
+        let resized = &mut self.parts.resized;
+        forest_index::plan_size(&self.parts.index, resized, root, added, removed);
         Ok(())
     }
 
@@ -232,7 +276,7 @@ impl Draft {
         ensures refused { IfErr result (λ f. f ≡ self.before) }
     {
         let Draft { mut parts } = self;
-        match plan::reserve(&mut parts.rows, &parts.plan) {
+        match make_room(&mut parts.rows, &mut parts.index, &parts.plan, parts.nodes) {
             Ok(()) => Ok(Prepared { parts }),
             Err(_) => Err(undrafted(parts)),
         }
@@ -247,17 +291,23 @@ impl Prepared {
         let Drafted {
             mut rows,
             documents,
+            mut index,
+            names,
             plan,
+            resized,
             next,
             count,
             ..
         } = self.parts;
         plan::settle(&mut rows, plan);
+        forest_index::settle(&mut index, resized);
         Forest {
             rows,
             documents,
             next,
             nodes: count,
+            index,
+            names,
         }
     }
 
@@ -267,6 +317,25 @@ impl Prepared {
     {
         undrafted(self.parts)
     }
+}
+
+/// Makes room in a table of so many nodes for the rows of a plan, and lists the elements that it adds by their names. The table's rows stay as they were,
+/// and its elements listed, also where memory is refused.
+fn make_room(
+    rows: &mut Rows,
+    index: &mut Option<ForestIndex>,
+    plan: &Plan,
+    nodes: u64,
+) -> Result<(), AllocError>
+    requires { Covers index.old (table_of rows.old) }
+    ensures same { row_of rows.new ≡ row_of rows.old }
+    ensures before { Covers index.new (table_of rows.old) }
+    ensures room { OnOk result (length (entries plan.now.rows) ≤ spare rows.new) }
+    ensures after { OnOk result (Covers index.new (table_with plan.now rows.old)) }
+    ensures sizes { kept_sizes index.new ≡ kept_sizes index.old }
+{
+    forest_index::prepare(index, rows, plan, nodes)?;
+    plan::reserve(rows, plan)
 }
 
 /// The forest as it was.
@@ -279,5 +348,7 @@ fn undrafted(parts: Drafted) -> Forest
         documents: parts.documents,
         next: parts.first,
         nodes: parts.nodes,
+        index: parts.index,
+        names: parts.names,
     }
 }

@@ -1,35 +1,43 @@
 //! Forests: trees of nodes, documents by name, and the next identity.
 
-ghost use Rattle.std.specs.Prelude.{◌≡◌, ◌+◌, ◌<◌, ◌≤◌, ◌^◌, ◌↔◌, ◌-◌, Option, Some, None, IfOk, OnOk, IfSome, IfNone, IsSome, [], ◌∷◌, ◌++◌, is_some, string_bytes, IsTrue, option_map};
+ghost use Rattle.std.specs.Prelude.{◌≡◌, ℕ, List, ◌+◌, ◌<◌, ◌≤◌, ◌^◌, ◌↔◌, ◌-◌, Option, Some, None, IfOk, OnOk, IfSome, IfNone, IsSome, [], true, ◌∷◌, ◌++◌, is_some, string_bytes, IsTrue, option_map};
 ghost use Rattle.std.specs.Map.{lookup};
 ghost use Rattle.std.specs.Str.{bytes_eq};
-ghost use Rattle.data_model.specs.Trees.{no_trees, append, leaf, find, bytes_in, count, size, children_of, attributes_of, parent_of, string_value_of, text_within, IsAt};
+ghost use Rattle.data_model.specs.Trees.{no_trees, append, leaf, find, bytes_in, count, size, children_of, attributes_of, parent_of, string_value_of, text_within, is_text, IsAt};
 ghost use Rattle.data_model.specs.Changes.{pick};
-ghost use Rattle.data_model.specs.declared.node.Kind.TheVariants.{Document};
+ghost use Rattle.data_model.specs.Axes.{is_in};
+ghost use Rattle.data_model.specs.declared.node.Kind.TheVariants.{Document, Element};
 ghost use Rattle.trees.specs.Forest.{ForestTerm, IsForest, IsDocument, document_node, opening_forest};
 ghost use Rattle.data_model.specs.Views.{Views};
 ghost use Rattle.data_model.specs.Tree.{trees_of_tree};
-ghost use Rattle.node_table.specs.Flat.{entry_in};
-ghost use Rattle.node_table.specs.Rows.{entry_of_row};
+ghost use Rattle.node_table.specs.Flat.{Entry, entry_in};
+ghost use Rattle.node_table.specs.Rows.{entry_of_row, table_of};
+ghost use Rattle.forest_index.specs.Named.{IsElement};
+ghost use Rattle.forest_index.specs.Sized.{size_at};
 
 use data_model::{Kind, NodeId, NodeView, Tree};
 use document_names::Names;
+use forest_index::ForestIndex;
+use forest_index::name_lists::NameLists;
 use indexmap::IndexMap;
 use node_table::table::{Row, Rows};
-use node_table::{tree, walk};
+use node_table::{name, tree, walk};
 use row_pages::RowPages;
 use std::alloc::{AllocError, Global};
 use std::marker::Model;
 
 /// Trees of nodes with distinct identities, documents by name in order, and the next identity.
 ///
-/// Nodes lie in one flat table; a node that has no parent is the root of a tree of its own.
+/// Nodes lie in one flat table; a node that has no parent is the root of a tree of its own. A forest of documents, which changes by drafts alone, has
+/// an index too: its elements by name, and the sizes of its trees.
 #[derive(Drop)]
 pub struct Forest {
     pub(crate) rows: Rows,
     pub(crate) documents: IndexMap<String, NodeId>,
     pub(crate) next: u64,
     pub(crate) nodes: u64,
+    pub(crate) index: Option<ForestIndex>,
+    pub(crate) names: name::Names,
 }
 
 impl Model for Forest {
@@ -66,6 +74,8 @@ impl Forest {
             documents: IndexMap::new(alloc),
             next: next.number(),
             nodes: 0,
+            index: None,
+            names: name::Names::new(alloc),
         }
     }
 
@@ -92,6 +102,20 @@ impl Forest {
         }
     }
 
+    /// Keeps an index from now on, in a forest without elements whose trees have one node each, with the identities 1, 2 and so on. It fails where
+    /// memory is refused.
+    fn keep_index(&mut self, alloc: Global) -> Result<(), AllocError>
+        requires elements { (n : List ℕ) (i : ℕ) → IsElement n (entry_in i self.old.trees) → ⊥ }
+        requires sizes { (r : ℕ) → 1 ≤ r → r < self.old.next → size_at r self.old.trees ≡ 1 }
+        ensures { self.new ≡ self.old }
+    {
+        self.index = Some(ForestIndex {
+            names: NameLists::new(alloc),
+            sizes: forest_index::single_sizes(alloc, self.next)?,
+        });
+        Ok(())
+    }
+
     /// A forest with an empty document for each name, in their order, with the identities 1, 2 and so on.
     ///
     /// It fails where memory is refused.
@@ -103,6 +127,7 @@ impl Forest {
         for name in names.as_slice() {
             forest.add_document(alloc, name)?;
         }
+        forest.keep_index(alloc)?;
         Ok(forest)
     }
 
@@ -151,6 +176,18 @@ impl Forest {
         ensures { entry_in id self.now.trees ≡ Some (entry_of_row result.now) }
     {
         self.rows.value(id.number())
+    }
+
+    /// Identities among which those of all elements of a name are; `None` where the forest keeps none. Others may be among them, and one may stand
+    /// there twice. Drafts keep them; any other change lets them go.
+    pub fn elements_named(&self, name: &str) -> Option<&[NodeId]>
+        ensures { IfSome result
+            (λ ids. (i : ℕ) → IsAt (find i self.now.trees) (λ c. (c.kind ≡ Element) × (c.name ≡ name.now)) → is_in i ids.now ≡ true) }
+    {
+        match &self.index {
+            Some(index) => Some(index.names.list(name)),
+            None => None,
+        }
     }
 
     /// What a node says of itself and which nodes stand round it, by one look-up; `None` where none of that identity stands here.
@@ -218,6 +255,24 @@ impl Forest {
         self.row(id).attributes.as_slice()
     }
 
+    /// The string value of a node where it stands in one text (XQuery 1.0 and XPath 2.0 Data Model, section 5.13): that of an attribute, a
+    /// text, a comment or an instruction, of a node with no children, and of one whose only child is a text. `None` elsewhere, where it would have
+    /// to be put together (no clause here says where). It takes no memory.
+    pub fn value_in_place(&self, id: NodeId) -> Option<&str>
+        requires { IsSome (find id self.now.trees) }
+        ensures { IfSome result (λ s. s.now ≡ string_value_of id self.now.trees) }
+    {
+        let row = self.row(id);
+        if !row.kind.is_inner() {
+            return Some(row.text.as_str());
+        }
+        match row.children.as_slice() {
+            [] => Some(""),
+            [only] => text_at(&self.rows, *only),
+            _ => None,
+        }
+    }
+
     /// The string value of a node (XQuery 1.0 and XPath 2.0 Data Model, section 5.13).
     ///
     /// It fails where memory is refused.
@@ -276,6 +331,16 @@ impl Forest {
         walk::count(&self.rows, &[id], self.next)
     }
 
+    /// How many nodes the tree of a root has, itself and attributes counted; `None` where the forest does not keep it. It does not count them.
+    pub fn tree_size(&self, root: NodeId) -> Option<u64>
+        ensures { IfSome result (λ n. n ≡ size (pick root self.now.trees)) }
+    {
+        match &self.index {
+            Some(index) => index.sizes.get(root.number()).copied(),
+            None => None,
+        }
+    }
+
     /// What is left of so many bytes without those of all texts in the tree of a node; `None` where they are more.
     pub fn without_texts(&self, id: NodeId, bytes: u64) -> Option<u64>
         requires { IsSome (find id self.now.trees) }
@@ -302,5 +367,15 @@ impl Forest {
     {
         let mut trees = tree::trees_of(&self.rows, alloc, &[id], self.next)?;
         Ok(trees.remove(0))
+    }
+}
+
+/// The text of a node of the kind of texts; `None` of another kind, and where no node stands.
+fn text_at(rows: &Rows, id: NodeId) -> Option<&str>
+    ensures { IfSome result (λ s. (e : Entry) × (table_of rows.now id ≡ Some e) × (is_text e.kind ≡ true) × (e.text ≡ s.now)) }
+{
+    match rows.get(id.number()) {
+        Some(row) if row.kind.is_text() => Some(row.text.as_str()),
+        _ => None,
     }
 }

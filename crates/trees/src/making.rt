@@ -1,4 +1,4 @@
-//! What changes a forest: nodes and copies that are made, and lists, names and texts that change.
+//! What changes a forest: nodes and copies that are made, and lists, names and texts that change. Each lets the index go.
 
 ghost use Rattle.std.specs.Prelude.{◌≡◌, ℕ, ◌+◌, ◌<◌, ◌≤◌, ◌^◌, ◌↔◌, ◌-◌, Some, None, IfOk, OnOk, OnErr, IsErrOf, IsSome, string_bytes, IsTrue, max};
 ghost use Rattle.data_model.specs.Trees.{append, leaf, find, count, size, parent_of};
@@ -9,6 +9,8 @@ ghost use Rattle.data_model.specs.Planted.{past};
 
 use super::forest::{Forest, MakeFault};
 use data_model::{Kind, NodeId, Part, Tree};
+use node_table::list::NodeList;
+use node_table::name::Name;
 use node_table::table::Row;
 use node_table::{copy, order, plant, table};
 use std::alloc::{AllocError, Global};
@@ -53,11 +55,11 @@ impl Forest {
         }
         let row = Row {
             kind,
-            name,
+            name: Name::new(name),
             text,
             parent: None,
-            attributes: Vec::new(alloc),
-            children: Vec::new(alloc),
+            attributes: NodeList::new(alloc),
+            children: NodeList::new(alloc),
             place: id,
         };
         let Ok(_before) = self.rows.insert(id, row) else {
@@ -65,6 +67,7 @@ impl Forest {
         };
         self.next = id + 1;
         self.nodes += 1;
+        self.index = None;
         Ok(NodeId::new(id))
     }
 
@@ -84,6 +87,7 @@ impl Forest {
             table::drop_child(&mut self.rows, part, parent, id);
             table::set_parent(&mut self.rows, id, None);
         }
+        self.index = None;
     }
 
     /// Puts trees of their own into a list below a node, one after the other.
@@ -99,6 +103,7 @@ impl Forest {
         ensures refused { OnErr result (self.new ≡ self.old) }
     {
         table::reserve(&mut self.rows, part, parent, nodes.len())?;
+        self.index = None;
         let mut at = index;
         for node in nodes {
             table::move_below(&mut self.rows, part, parent, at, *node);
@@ -146,6 +151,7 @@ impl Forest {
         ensures { self.new ≡ record self.old { trees = with_content id (λ c. record c { text = string_bytes text }) self.old.trees } }
     {
         table::set_text(&mut self.rows, id, text);
+        self.index = None;
     }
 
     /// Gives a node another name.
@@ -154,6 +160,7 @@ impl Forest {
         ensures { self.new ≡ record self.old { trees = with_content id (λ c. record c { name = string_bytes name }) self.old.trees } }
     {
         table::set_name(&mut self.rows, id, name);
+        self.index = None;
     }
 
     /// Whether a copy of the tree of a node of this forest or of a lent one can be numbered.
@@ -203,6 +210,7 @@ impl Forest {
             Ok(_) => {
                 self.nodes += next - first;
                 self.next = next;
+                self.index = None;
                 Ok(NodeId::new(first))
             }
             Err(_) => {
@@ -245,10 +253,11 @@ impl Forest {
         ensures refused { OnErr result (self.new ≡ self.old) }
     {
         let trees = slice::from_ref(tree);
-        match plant::plant_all(&mut self.rows, alloc, trees, None, 0) {
+        match plant::plant_all(&mut self.rows, &mut self.names, alloc, trees, None, 0) {
             Ok(_) => {
                 self.nodes += data_model::node_count(trees);
                 self.next = self.next.max(data_model::past_identities(trees));
+                self.index = None;
                 Ok(())
             }
             Err(_) => {
@@ -269,6 +278,8 @@ impl Forest {
             documents: self.documents.clone()?,
             next: self.next,
             nodes: self.nodes,
+            index: None,
+            names: self.names.emptied(),
         })
     }
 }

@@ -13,11 +13,13 @@ ghost use Rattle.trees.specs.Drafts.{drafted_forest};
 use super::draft::{Drafted, Prepared};
 use super::forest::Forest;
 use data_model::{NodeId, NodeView};
+use forest_index::{ForestIndex, Sizes};
 use indexmap::IndexMap;
 use node_plans::changes;
 use node_plans::plan::Plan;
 use node_table::exchange;
 use node_table::exchange::Change;
+use node_table::name::Names;
 use node_table::table::Rows;
 use std::alloc::{AllocError, Global};
 use std::marker::Model;
@@ -29,7 +31,10 @@ pub struct Settled {
     documents: IndexMap<String, NodeId>,
     first: u64,
     nodes: u64,
+    index: Option<ForestIndex>,
+    names: Names,
     back: Vec<Change>,
+    resized: Sizes,
     next: u64,
     count: u64,
 }
@@ -81,7 +86,10 @@ impl Prepared {
             documents,
             first,
             nodes,
+            index,
+            names,
             plan,
+            resized,
             next,
             count,
         } = self.parts;
@@ -94,7 +102,10 @@ impl Prepared {
                         documents,
                         first,
                         nodes,
+                        index,
+                        names,
                         back,
+                        resized,
                         next,
                         count,
                     },
@@ -105,6 +116,8 @@ impl Prepared {
                 documents,
                 next: first,
                 nodes,
+                index,
+                names,
             }),
         }
     }
@@ -142,16 +155,22 @@ impl Undo {
         let Settled {
             mut rows,
             documents,
+            mut index,
+            names,
+            resized,
             next,
             count,
             ..
         } = self.parts;
         rows.shrink();
+        forest_index::settle(&mut index, resized);
         Forest {
             rows,
             documents,
             next,
             nodes: count,
+            index,
+            names,
         }
     }
 
@@ -164,6 +183,8 @@ impl Undo {
             documents,
             first,
             nodes,
+            index,
+            names,
             mut back,
             ..
         } = self.parts;
@@ -174,6 +195,8 @@ impl Undo {
             documents,
             next: first,
             nodes,
+            index,
+            names,
         }
     }
 }

@@ -15,7 +15,7 @@ pub loop-id-init : goal.loop-id-init
 loop-id-init t c =
     let zero = first-zero (read_trees c.args.levels (both (table_of c.args.lent.now) (table_of c.args.rows.now)) c.args.ids.now) in
     let P : Trees → Type 0 = λ us. (c.args.next.now ≡ c.args.next.now + size us) × (c.new-copies.result.items ≡ roots (renumbered c.args.next.now us)) × Holds (table_of c.args.rows.now) c.args.parent (renumbered c.args.next.now us) in
-    let z = subst P (sym zero) (omega arith, c.new-copies.ensures.items, tt) in
+    let z = subst P (sym zero) (omega arith, c.new-copies.ensures, tt) in
     record { next = z.0; copies = z.1; copied = z.2; same = λ i l. refl; fresh = c.requires.fresh; places = refl }
 
 pub overflow_add-next : goal.overflow_add-next
@@ -319,7 +319,7 @@ loop-id-preserved t c =
     rw succ
     (record {
       next = omega arith;
-      copies = c.in_ok-push.ensures.items ∙ rw (c.new-in-loop-id.ensures, inv.copies) (sym listed);
+      copies = c.in_ok-push.ensures ∙ rw (c.new-in-loop-id.ensures, inv.copies) (sym listed);
       copied = subst P (sym t1.more) copied;
       same = λ j l. sets.apart j (λ same. absurd (omega arith)) ∙ kept2 j l;
       fresh = λ j l. sets.apart j (λ same. absurd (omega arith)) ∙ c.copy_all-in-loop-id.ensures.fresh j l;

@@ -10,7 +10,6 @@ pub returns-then-at-attributes : goal.returns-then-at-attributes
 returns-then-at-attributes c =
     let r = c.in-Some.row.now in
     let at = rw c.number.ensures at (row-entry c.args.rows.now c.number.result c.in-Some.row.now (sym c.get.ensures ∙ ap option_copied c.in-Some.is)) in
-    let ok = r.attributes.ok in
     let len = c.len-attributes.ensures in
     let less = c.if-at-attributes.true in
     c.item.ensures ∙ ap (λ l. slice_get l c.args.at) c.deref.ensures.value ∙ sym (ap (λ o. slice_get (lists_in o) c.args.at) at ∙ get-left r.attributes.items r.children.items c.args.at (omega arith))
@@ -19,7 +18,6 @@ pub returns-else-at-attributes : goal.returns-else-at-attributes
 returns-else-at-attributes c =
     let r = c.in-Some.row.now in
     let at = rw c.number.ensures at (row-entry c.args.rows.now c.number.result c.in-Some.row.now (sym c.get.ensures ∙ ap option_copied c.in-Some.is)) in
-    let ok = r.attributes.ok in
     let len = c.len-attributes.ensures in
     let more = c.if-at-attributes.false in
     let left = c.args.at - c.len-attributes.result in

@@ -10,7 +10,6 @@ is : (c : goal.After-len) → c.len.result + c.args.index ≡ position_in c.args
 is c =
     let r = c.in-Some.row.now in
     let at = rw c.number.ensures at (row-entry c.args.rows.now c.number.result c.in-Some.row.now (sym c.get.ensures ∙ ap option_copied c.in-Some.is)) in
-    let ok = r.attributes.ok in
     let len = c.len.ensures in
     let sum : c.len.result + c.args.index ≡ length r.attributes.items + c.args.index = omega arith in
     sum ∙ sym (ap (λ p. position_in p c.args.index (table_of c.args.rows.now c.args.id)) c.in-Children.is ∙ ap (position_in Children c.args.index) at)

@@ -79,7 +79,7 @@ returns-in_err-push-clause-same t c = λ i none.
     let at = c.loop-tree.tree-index in
     let view = c.content.view_is ∙ c.content-content.ensures in
     let id : c.number.result ≡ item.content.identity = c.number.ensures ∙ ap (λ (n : Content). n.identity) view in
-    let r : Row = record { kind = c.content.inside.kind; name = c.in_ok-clone.field-0; text = c.in_ok-clone-2.field-0; parent = c.args.parent; attributes = c.in_ok-plant_all.field-0; children = c.in_ok-plant_all-2.field-0; place = c.loop-tree.place } in
+    let r : Row = record { kind = c.content.inside.kind; name = c.in_ok-name.field-0; text = c.in_ok-clone.field-0; parent = c.args.parent; attributes = c.in_ok-plant_all.field-0; children = c.in_ok-plant_all-2.field-0; place = c.loop-tree.place } in
     let set = rw id at (row-set c.plant_all-in-loop-tree.new.rows c.insert.new.self c.number.result r c.in_ok-insert.ensures.put) in
     let w = weigh-turn (λ j. cond (eqb i j) 1 0) ts at item c.loop-tree-test.true c.tree-item.is in
     let bs : count i (all_of c.attributes-attributes.result.now) ≡ count i item.attributes = ap (count i) c.attributes-attributes.ensures in
@@ -93,12 +93,12 @@ loop-tree-preserved t c =
     let at = c.loop-tree.tree-index in
     let view = c.content.view_is ∙ c.content-content.ensures in
     let id : c.number.result ≡ item.content.identity = c.number.ensures ∙ ap (λ (n : Content). n.identity) view in
-    let name : string_bytes c.in_ok-clone.field-0 ≡ item.content.name = c.in_ok-clone.ensures.cases ∙ ap (λ (n : Content). n.name) view in
-    let text : string_bytes c.in_ok-clone-2.field-0 ≡ item.content.text = c.in_ok-clone-2.ensures.cases ∙ ap (λ (n : Content). n.text) view in
+    let name : c.in_ok-name.field-0 ≡ item.content.name = c.in_ok-name.ensures ∙ c.as_str.ensures.value ∙ ap (λ (n : Content). n.name) view in
+    let text : string_bytes c.in_ok-clone.field-0 ≡ item.content.text = c.in_ok-clone.ensures.cases ∙ ap (λ (n : Content). n.text) view in
     let kind = ap (λ (n : Content). n.kind) view in
     let roots1 : c.in_ok-plant_all.field-0.items ≡ roots item.attributes = c.in_ok-plant_all.ensures.roots ∙ ap roots c.attributes-attributes.ensures in
     let roots2 : c.in_ok-plant_all-2.field-0.items ≡ roots item.children = c.in_ok-plant_all-2.ensures.roots ∙ ap roots c.children.ensures in
-    let r : Row = record { kind = c.content.inside.kind; name = c.in_ok-clone.field-0; text = c.in_ok-clone-2.field-0; parent = c.args.parent; attributes = c.in_ok-plant_all.field-0; children = c.in_ok-plant_all-2.field-0; place = c.loop-tree.place } in
+    let r : Row = record { kind = c.content.inside.kind; name = c.in_ok-name.field-0; text = c.in_ok-clone.field-0; parent = c.args.parent; attributes = c.in_ok-plant_all.field-0; children = c.in_ok-plant_all-2.field-0; place = c.loop-tree.place } in
     let says : entry_of_row r ≡ entry_of item.content c.args.parent (roots item.attributes) (roots item.children) =
     λ j. record { kind = kind j; name = name j; text = text j; parent = c.args.parent; attributes = roots1 j; children = roots2 j } in
     let g0 = table_of c.loop-tree.rows in
@@ -124,7 +124,7 @@ loop-tree-preserved t c =
     let P : Trees → Type 0 = Holds g3 c.args.parent in
     let R : Trees → Type 0 = AreRanked (place_of c.insert.new.self) c.args.first in
     record {
-      ids = c.in_ok-push.ensures.items ∙ rw (inv.ids, same) (sym (ap roots more ∙ roots-append front (trees_of_tree item)));
+      ids = c.in_ok-push.ensures ∙ rw (inv.ids, same) (sym (ap roots more ∙ roots-append front (trees_of_tree item)));
       planted = subst P (sym more)
           (Holds-planted g0 g1 g2 g3 c.args.parent item.content front item.attributes item.children (λ i. (let w = weigh-turn (λ j. cond (eqb i j) 1 0) ts at item c.loop-tree-test.true c.tree-item.is in let d = c.requires.distinct i in omega arith)) inv.planted same1 holds1 same2 holds2 sets);
       place = ap (λ n. n + 1) inv.place ∙ rw (more, longer) (omega arith);

@@ -3,14 +3,14 @@ use Rattle.std.proofs.Common.{◌∙◌, ap, sym, arith, ◌+◌}
 use Rattle.std.specs.Option.{option_copied_mut}
 use Rattle.node_table.specs.Flat.{with_child}
 use Rattle.node_table.specs.Rows.{entry_of_row}
-use Rattle.node_table.proofs.Rows.{written, changed, placed, room-written, room-at, room-none, row-entry, listed-len}
+use Rattle.node_table.proofs.Rows.{written, changed, placed, room-written, room-at, room-none, row-entry, listed-items}
 use Rattle.node_table.proofs.table.add_below.Goals as goal
 
 pub add_to-requires-clause-within : goal.add_to-requires-clause-within
 add_to-requires-clause-within c =
     let r = c.in-Some.row.now in
     let w = c.requires.within (entry_of_row r) (row-entry c.args.rows.now c.args.parent r (rw c.number.ensures at (sym c.get_mut.ensures.value ∙ ap option_copied_mut c.in-Some.is))) in
-    rw (listed-len c.args.part r) w
+    rw (listed-items c.args.part r) w
 
 pub add_to-requires-clause-room : goal.add_to-requires-clause-room
 add_to-requires-clause-room c =

@@ -22,7 +22,7 @@ invariant_of-result c =
     let lent = c.deref_mut.ensures in
     let made = rw lent.value at c.exchange.ensures in
     let plan = with_items_is c.in-Ok.back c.exchange.new.plan (omega (arith, c.exchange.auto.plan, lent.len)) ∙ made.plan in
-    undo-sound c.self.inside.parts c.args.self c.self.view_is c.self.invariant.drafted c.in-Ok.back.items c.changes_with_room.new.rows c.exchange.new.rows (with_items c.in-Ok.back c.exchange.new.plan) c.in-Ok.ensures.changes c.changes_with_room.ensures.same made.rows plan c.in-Ok.ensures.room made.spare
+    undo-sound c.self.inside.parts c.args.self c.self.view_is c.self.invariant.drafted c.in-Ok.back.items c.changes_with_room.new.rows c.exchange.new.rows (with_items c.in-Ok.back c.exchange.new.plan) c.in-Ok.ensures.changes c.changes_with_room.ensures.same made.rows plan c.self.invariant.named c.in-Ok.ensures.room made.spare
 
 pub returns-in-Ok-clause-before : goal.returns-in-Ok-clause-before
 returns-in-Ok-clause-before c =
@@ -43,7 +43,7 @@ invariant_of-result-in-Err c =
     let a = c.self.inside.parts in
     let m = c.changes_with_room.new.rows in
     let same = c.changes_with_room.ensures.same in
-    sound-same (forest_of a) (record (forest_of a) { rows = m }) (rows-table a.rows m same) (rows-places a.rows m same) refl refl refl c.self.invariant.drafted.before
+    sound-same (forest_of a) (record (forest_of a) { rows = m }) (rows-table a.rows m same) (rows-places a.rows m same) refl refl refl refl c.self.invariant.drafted.before
 
 pub returns-in-Err-clause-refused : goal.returns-in-Err-clause-refused
 returns-in-Err-clause-refused c =

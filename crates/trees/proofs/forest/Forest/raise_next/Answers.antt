@@ -4,7 +4,7 @@ use Rattle.node_table.specs.Flat.{IsTableOf}
 use Rattle.node_table.specs.Rows.{table_of}
 use Rattle.trees.specs.declared.forest.Forest.TheInside.{Inside}
 use Rattle.node_table.proofs.Tables.{IsTableOf-later}
-use Rattle.trees.proofs.Forests.{now-table, now-nodes, term-is, sound}
+use Rattle.trees.proofs.Forests.{now-table, now-nodes, now-sizes, term-is, sound}
 use Rattle.trees.proofs.forest.Forest.raise_next.Goals as goal
 
 abbrev after : goal.After-self-1 → Inside
@@ -21,7 +21,7 @@ holds c =
 pub invariant_of-self : goal.invariant_of-self
 invariant_of-self c =
     let bound : c.number-self-inside.result ≤ 2 ^ 62 = rw c.number-self-inside.ensures c.requires.bound in
-    sound (after c) c.args.self.now.trees (holds c) (now-nodes c.self.inside c.args.self.now c.self.view_is c.self.invariant) c.self.invariant.numbered bound c.self.invariant.standing
+    sound (after c) c.args.self.now.trees (holds c) (now-nodes c.self.inside c.args.self.now c.self.view_is c.self.invariant) c.self.invariant.numbered bound c.self.invariant.standing c.self.invariant.named (now-sizes c.self.inside c.args.self.now c.self.view_is c.self.invariant)
 
 pub returns : goal.returns
 returns c = term-is (after c) c.args.self.now.trees (holds c) ∙ rw c.number-self-inside.ensures (ap (λ (t : ForestTerm). record t { trees = c.args.self.now.trees; next = c.args.next }) c.self.view_is)

@@ -6,7 +6,7 @@ use Rattle.trees.specs.Settled.{rows_before}
 use Rattle.trees.proofs.Undone.{back-sound, back-is}
 use Rattle.trees.proofs.undo.Undo.back.Goals as goal
 
-rows : (c : goal.After-drop-back) → row_of c.shrink.new.self ≡ rows_before c.self.inside.parts
+rows : (c : goal.After-drop-self-inside-3) → row_of c.shrink.new.self ≡ rows_before c.self.inside.parts
 rows c =
     let same : row_of c.shrink.new.self ≡ row_of c.exchange.new.rows = λ t i. rows-same c.exchange.new.rows c.shrink.new.self c.shrink.ensures i t in
     same ∙ rw c.deref_mut.ensures.value at c.exchange.ensures.rows

@@ -2,7 +2,7 @@ use Rattle.std.proofs.Common.{◌≡◌, ◌<◌, ◌++◌, length, take, drop, 
 use Prim.Native.Nat.{suc}
 use Rattle.data_model.specs.Walks.{held}
 use Rattle.node_table.proofs.Onces.{held-first, held-next, held-none}
-use Rattle.node_table.proofs.table.remove_from.Goals as goal
+use Rattle.node_table.proofs.list.remove_from.Goals as goal
 
 first : (c : goal.After-remove) → (take c.loop-at.at c.loop-at.ids.items ++ drop (suc c.loop-at.at) c.loop-at.ids.items ≡ filter (λ j. not (eqb c.args.id j)) c.loop-at.ids.items) × (held c.args.id c.loop-at.ids.items ≡ 1)
 first c =
