@@ -4,9 +4,8 @@ use Rattle.std.specs.Prelude.{option_map}
 use Rattle.std.proofs.lemmas.Option.{none-some, same_Some}
 use Rattle.ballots.specs.declared.ballot.Ballot.{Ballot}
 use Rattle.paxos.specs.Records.{Record, writes}
-use Rattle.ballots.specs.declared.value.Value.{Value}
 use Rattle.ballots.specs.declared.value.Pair.{Pair}
-use Rattle.ballots.specs.Messages.{Packet, packet, Body, Chosen}
+use Rattle.ballots.specs.Messages.{Packet, packet}
 use Rattle.paxos.specs.Lists.{Has}
 use Rattle.paxos.specs.Knowledge.{numbered}
 use Rattle.paxos.specs.Step.{Running, Effect, quiet, chosen_packet, resumed}

@@ -8,7 +8,7 @@ ghost use Rattle.std.specs.Prelude.{◌≡◌, ℕ, suc, ◌<◌, ◌≤◌, Boo
 ghost use Rattle.paxos.specs.Lists.{at};
 ghost use Rattle.paxos.specs.Agreement.{Agreement};
 ghost use Rattle.paxos.specs.Examples.{accepted_from, ballot, request, vote, no_op, votes_to, reporting, after_stop, straight, after_straight, applied_in, leader_change, gap_heard, gap_leader, gap_proposed, gap_accepted, other_request};
-ghost use Rattle.paxos.specs.Knowledge.{Heard, AcceptedBy, learnt, pair_of, IsHeard, prefix, values_to, reported};
+ghost use Rattle.paxos.specs.Knowledge.{Heard, learnt, pair_of, IsHeard, prefix, values_to, reported};
 ghost use Rattle.ballots.specs.Ballot.{most_members};
 ghost use Rattle.ballots.specs.Values.{positions};
 ghost use Rattle.ballots.specs.declared.value.Value.{Value};

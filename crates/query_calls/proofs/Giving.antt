@@ -7,7 +7,7 @@ use Rattle.values.specs.declared.fault.ValueFault.{ValueFault}
 use Rattle.values.specs.declared.fault.ValueFault.TheVariants as fault
 use Rattle.query_grammar.specs.declared.ast.Expr.{Expr}
 use Rattle.query_grammar.specs.declared.functions.Function.{Function}
-use Rattle.query_meaning.specs.Environment.{Environment}
+use Rattle.query_meaning.specs.Environment.{Environment, Focus}
 use Rattle.query_meaning.specs.Functions.{all_texts, and_addend, application, applied, arguments, call, first_printed, integer, items_of, string, string_join, string_of}
 use Rattle.query_meaning.specs.Meaning.{mean}
 use Rattle.query_meaning.specs.Running.{M, Run, and_then, pure, ◌>>=◌, come_to, each, atoms}
@@ -16,7 +16,8 @@ use Rattle.evaluation.specs.Gives.{Any, Fails, Gives, GivesIn, Says, Stand}
 use Rattle.evaluation.proofs.Counted.{grows_spent}
 use Rattle.evaluation.proofs.Each.{grows_refl, then_gives}
 use Rattle.query_calls.specs.Arguments.{AllStand}
-use Rattle.query_calls.specs.Parts.{sum_of}
+use Rattle.query_calls.specs.Parts.{context, of_context, items_in, sum_of}
+use Rattle.query_meaning.specs.Sequences.{focus_of}
 use Rattle.query_calls.specs.Table.{of_more}
 use Rattle.query_calls.proofs.Rows.{application_is}
 
@@ -120,3 +121,17 @@ call_gives f? xs ys env old mid new values seen r all same g h =
     let P : List Expr → Type 0 = λ zs. GivesIn AllStand (arguments env (map mean zs)) old (Ok values) mid in
     let R : List (List Item) → Type 0 = λ us. Gives (applied f? env us) mid r new in
     then_gives AllStand Stand (arguments env (map mean xs)) (applied f? env) old mid new values r (subst P all g) (subst R same h)
+
+-- what a function makes of the context item
+items_or : Result (List Item) Code → List Item
+items_or (Ok xs) = xs
+items_or (Err code) = []
+
+pub context_gives : (env : Environment) (f : List Item → M (List Item)) (items : List Item) (old new : Run) (r : Result (List Item) ValueFault)
+    → context env ≡ Ok items → Gives (f items) old r new → Gives (of_context env f) old r new
+unfolding items_or
+context_gives env f items old new r e g = at (focus_of env) e
+  where
+    at : (o : Result Focus Code) → items_in o ≡ Ok items → Gives (come_to o >>= (λ (focus : Focus). f (focus.item ∷ []))) old r new
+    at (Ok focus) same = gives_same (come_to (Ok focus) >>= (λ (focus : Focus). f (focus.item ∷ []))) (f items) old new r (ap (λ xs. f xs old) (ap items_or same)) g
+    at (Err code) same = cc

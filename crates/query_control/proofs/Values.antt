@@ -1,5 +1,5 @@
 -- Values of variables, and nodes among items.
-use Rattle.std.proofs.Common.{◌≡◌, ℕ, zero, suc, ◌+◌, pos, List, [], ◌∷◌, Option, None, Some, Bool, true, false, cond, sym, ap, Result, Ok, ◌∙◌, arith, subst}
+use Rattle.std.proofs.Common.{◌≡◌, ℕ, zero, suc, ◌+◌, pos, List, [], ◌∷◌, ◌++◌, Option, None, Some, Bool, true, false, cond, sym, ap, Result, Ok, Err, ◌∙◌, arith, subst}
 use Rattle.std.specs.List.{All}
 use Rattle.std.specs.Str.{bytes_eq}
 use Rattle.values.specs.Items.{IsThere}
@@ -8,8 +8,8 @@ use Rattle.values.specs.declared.atom.Atom.TheVariants as atom
 use Rattle.values.specs.declared.atom.Item.{Item}
 use Rattle.values.specs.declared.fault.ValueFault.{ValueFault}
 use Rattle.query_meaning.specs.Environment.{Bound, looked_at, value_in}
-use Rattle.query_meaning.specs.Running.{Run, and_then, come_to, counted, trees_of, work}
-use Rattle.evaluation.specs.Gives.{Any, Grows, Stand, GivesIn, IsReady, Turns}
+use Rattle.query_meaning.specs.Running.{Run, and_then, come_to, counted, joined, trees_of, within, work}
+use Rattle.evaluation.specs.Gives.{Any, Gives, Grows, Says, Stand, GivesIn, IsReady, Turns}
 use Rattle.query_meaning.specs.Sequences.{one, tested, variable}
 use Rattle.query_meaning.specs.Meaning.{mean}
 use Rattle.query_grammar.specs.declared.ast.Expr.{Expr}
@@ -19,6 +19,10 @@ use Rattle.query_control.specs.Lasting.{there_on, ready_on}
 use Rattle.query_control.proofs.Unfolded.{of_variable}
 use Rattle.query_meaning.specs.Environment.{Environment, with_variable}
 use Rattle.evaluation.proofs.Counted.{stand_spent}
+use Rattle.evaluation.proofs.Each.{grows_refl}
+use Rattle.evaluation.proofs.Limits.{within_is}
+use Rattle.std.proofs.lemmas.List.Elements.{All-append}
+use Rattle.values.specs.declared.fault.ValueFault.TheVariants as fault
 use Rattle.values.specs.Atoms.{or_fault}
 use Rattle.fault_codes.specs.declared.code.Code.TheVariants.{XPST0008}
 use Rattle.std.proofs.lemmas.Option.{none-some, same_Some}
@@ -79,3 +83,11 @@ pub ready_in_turn : (x : List ℕ) (at : Option (List ℕ)) (i : ℕ) (item : It
 ready_in_turn x at i item env bs old new u ready there turned is =
     let grown = grows_turned old new u turned in
     subst (λ bs. IsReady (with_variables bs env) new) (sym is) (ready_at_item x at i item env new (ready_on env old new grown ready) (there_on item old new grown there))
+
+-- items after others
+pub joined_gives : (given items : List Item) (run : Run) (r : Result (List Item) ValueFault)
+    → Stand given run → Stand items run → Says (within (given ++ items)) r → Gives (joined given items) run r run
+joined_gives given items run (Ok xs) stand more says =
+    (ap (λ o. come_to o run) says, (grows_refl run, subst (λ ys. Stand ys run) (sym (within_is (given ++ items) xs says)) (All-append (IsThere (trees_of run)) given items stand more)))
+joined_gives given items run (Err fault.Memory) stand more says = tt
+joined_gives given items run (Err (fault.Code code)) stand more says = ap (λ o. come_to o run) says

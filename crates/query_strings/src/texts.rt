@@ -17,8 +17,8 @@ pub fn printed(alloc: Global, value: &Atom) -> Result<Text, AllocError>
 {
     match value {
         Atom::String(text) | Atom::Untyped(text) => text.clone(),
-        Atom::Boolean(true) => Ok(Text::new(String::from_str(alloc, "true")?)),
-        Atom::Boolean(false) => Ok(Text::new(String::from_str(alloc, "false")?)),
+        Atom::Boolean(true) => Text::of(alloc, "true"),
+        Atom::Boolean(false) => Text::of(alloc, "false"),
         Atom::Integer(value) => Ok(Text::new(format!(in alloc; "{value}")?)),
     }
 }

@@ -2,7 +2,7 @@
 use Rattle.std.specs.Prelude.{ℕ, Bool, true, cond, List, [], ◌∷◌, ◌++◌, codes, string_bytes}
 use Rattle.std.specs.Rc.{rc_value}
 use Rattle.values.specs.declared.text.Kept.{Kept}
-use Rattle.values.specs.declared.text.Kept.TheVariants.{Alone, Shared}
+use Rattle.values.specs.declared.text.Kept.TheVariants.{Alone, Shared, Short}
 use Rattle.data_model.specs.declared.node.Kind.{Kind}
 use Rattle.data_model.specs.declared.node.Kind.TheVariants.{Document, Element, Attribute, Text, Comment, Instruction}
 
@@ -33,3 +33,4 @@ nothing Instruction b = []
 abbrev pub bytes_of : Kept → List ℕ
 bytes_of (Alone text) = string_bytes text
 bytes_of (Shared text) = string_bytes (rc_value text)
+bytes_of (Short text) = text

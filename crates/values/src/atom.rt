@@ -70,6 +70,20 @@ fn typed_value(alloc: Global, shelf: &Shelf, id: NodeId) -> Result<Atom, ValueFa
     ensures atom { IfOk result (λ a. typed_at (find id (shelf_trees shelf.now)) ≡ Ok a) }
     ensures code { IfErr result (λ fault. (code : Code) → fault ≡ ValueFault.Code code → typed_at (find id (shelf_trees shelf.now)) ≡ Err code) }
 {
+    match shelf.value_in_place(id) {
+        Some(text) if text.len() <= MOST_BYTES => {
+            Ok(typed(shelf.kind(id), Text::of(alloc, text)?))
+        }
+        _ => gathered_value(alloc, shelf, id),
+    }
+}
+
+/// The typed value of a node, whose string value is put together first, with the same faults.
+fn gathered_value(alloc: Global, shelf: &Shelf, id: NodeId) -> Result<Atom, ValueFault>
+    requires there { IsSome (find id (shelf_trees shelf.now)) }
+    ensures atom { IfOk result (λ a. typed_at (find id (shelf_trees shelf.now)) ≡ Ok a) }
+    ensures code { IfErr result (λ fault. (code : Code) → fault ≡ ValueFault.Code code → typed_at (find id (shelf_trees shelf.now)) ≡ Err code) }
+{
     match shelf.string_value_within(alloc, id, MOST_BYTES)? {
         Some(text) => Ok(typed(shelf.kind(id), Text::shared(alloc, text)?)),
         None => Err(Code::PXQ0002.into()),

@@ -10,6 +10,7 @@ mod operand;
 mod operators;
 mod print;
 mod readings;
+mod short_text;
 mod text;
 mod work;
 

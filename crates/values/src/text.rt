@@ -2,13 +2,15 @@
 
 ghost use Rattle.std.specs.Prelude.{◌≡◌, IfOk, string_bytes};
 
+use super::short_text::ShortText;
 use std::alloc::{AllocError, Global};
 use std::marker::Model;
 use std::rc::Rc;
 
 /// The text of a string or an untyped value, or a name. Contracts see it as its bytes.
 ///
-/// A text that is made as `shared` costs one more piece of memory, and a clone of it copies no bytes.
+/// A text of at most 30 bytes takes no piece of memory, and nor does a clone of it. A longer one that is made as `of` or `shared` costs one more
+/// piece of memory, and a clone of it copies no bytes.
 #[derive(Drop)]
 pub struct Text(Kept);
 
@@ -19,6 +21,8 @@ enum Kept {
     Alone(String),
     /// Where the clones have them too.
     Shared(Rc<String>),
+    /// In the value itself.
+    Short(ShortText),
 }
 
 impl Model for Text {
@@ -38,15 +42,30 @@ impl Text {
     pub fn new(text: String) -> Text
         ensures { result ≡ string_bytes text }
     {
-        Text(Kept::Alone(text))
+        match ShortText::of(text.as_str()) {
+            Some(short) => Text(Kept::Short(short)),
+            None => Text(Kept::Alone(text)),
+        }
     }
 
     /// The text of a string, which clones share. It fails where memory is refused.
     pub fn shared(alloc: Global, text: String) -> Result<Text, AllocError>
         ensures { IfOk result (λ t. t ≡ string_bytes text) }
     {
-        let shared = Rc::new(alloc, text)?;
-        Ok(Text(Kept::Shared(shared)))
+        match ShortText::of(text.as_str()) {
+            Some(short) => Ok(Text(Kept::Short(short))),
+            None => share(alloc, text),
+        }
+    }
+
+    /// A copy of a text, which clones share. It fails where memory is refused, which a text of at most 30 bytes does not ask for.
+    pub fn of(alloc: Global, text: &str) -> Result<Text, AllocError>
+        ensures { IfOk result (λ t. t ≡ text.now) }
+    {
+        match ShortText::of(text) {
+            Some(short) => Ok(Text(Kept::Short(short))),
+            None => share(alloc, String::from_str(alloc, text)?),
+        }
     }
 
     /// The text.
@@ -56,8 +75,17 @@ impl Text {
         match &self.0 {
             Kept::Alone(text) => text.as_str(),
             Kept::Shared(text) => text.as_str(),
+            Kept::Short(text) => text.as_str(),
         }
     }
+}
+
+/// The text of a string, where the clones have it too.
+fn share(alloc: Global, text: String) -> Result<Text, AllocError>
+    ensures { IfOk result (λ t. t ≡ string_bytes text) }
+{
+    let shared = Rc::new(alloc, text)?;
+    Ok(Text(Kept::Shared(shared)))
 }
 
 impl Clone for Text {
@@ -67,6 +95,7 @@ impl Clone for Text {
         Ok(Text(match &self.0 {
             Kept::Alone(text) => Kept::Alone(text.clone()?),
             Kept::Shared(text) => Kept::Shared(text.clone()?),
+            Kept::Short(text) => Kept::Short(text.clone()?),
         }))
     }
 }

@@ -30,3 +30,9 @@ returns-clause-next c =
     let next = c.next-next.ensures in
     let after = c.update.ensures.next in
     omega arith
+
+pub update-requires-clause-later : goal.update-requires-clause-later
+update-requires-clause-later c =
+    let limited = (c.identities_are_limited.ensures c.args.x.now c.args.forest.now _ c.in-Ok.ensures.outcome).0 in
+    let next = c.next-next.ensures in
+    omega arith
