@@ -27,9 +27,14 @@ enum Shown {
 }
 
 /// A draft of a forest, in which all of its trees are to be seen, or those of some roots alone. The other trees stay as they are.
-#[derive(Drop)]
 pub struct ChosenDraft {
     shown: Shown,
+}
+
+impl Drop for ChosenDraft {
+    fn drop(self) {
+        let ChosenDraft { shown: _ } = self;
+    }
 }
 
 impl Model for ChosenDraft {
@@ -172,7 +177,8 @@ impl ChosenDraft {
         ensures prepared { IfOk result (λ p. p ≡ whole_draft self) }
         ensures refused { IfErr result (λ f. f ≡ self.before) }
     {
-        match self.shown {
+        let ChosenDraft { shown } = self;
+        match shown {
             Shown::Whole(draft) => draft.prepare(),
             Shown::Chosen(draft) => draft.prepare(),
         }
@@ -182,7 +188,8 @@ impl ChosenDraft {
     pub fn discard(self) -> Forest
         ensures { result ≡ self.before }
     {
-        match self.shown {
+        let ChosenDraft { shown } = self;
+        match shown {
             Shown::Whole(draft) => draft.discard(),
             Shown::Chosen(draft) => draft.discard(),
         }

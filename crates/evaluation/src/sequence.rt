@@ -21,10 +21,15 @@ use values::{Atom, Item, ValueFault};
 pub const MOST_ITEMS: usize = 10_000;
 
 /// The items of an expression's value, at most 10,000. Contracts see them as a list.
-#[derive(Drop)]
 pub struct Sequence {
     alloc: Global,
     items: Held,
+}
+
+impl Drop for Sequence {
+    fn drop(self) {
+        let Sequence { alloc: _, items: _ } = self;
+    }
 }
 
 /// Items as they are held. One alone takes no piece of memory, and most values are of one item.
@@ -137,7 +142,11 @@ impl Sequence {
         }
         let Sequence { alloc, items } = self;
         let mut items = listed(alloc, items)?;
-        match other.items {
+        let Sequence {
+            alloc: _,
+            items: last,
+        } = other;
+        match last {
             Held::Single(item) => items.push(item)?,
             Held::Many(mut others) => items.append(&mut others)?,
         }

@@ -17,10 +17,15 @@ use trees::{Forest, NodeId};
 use values::{Item, ValueFault};
 
 /// What an expression gives over a lent forest: its items, its update primitives, and the trees, those that it made beside the lent ones.
-#[derive(Drop)]
 pub struct Outcome<'a> {
     items: Sequence,
     run: Evaluation<'a>,
+}
+
+impl Drop for Outcome<'_> {
+    fn drop(self) {
+        let Outcome { items: _, run: _ } = self;
+    }
 }
 
 impl<'a> Model for Outcome<'a> {
@@ -60,7 +65,7 @@ impl<'a> Outcome<'a> {
     pub fn into_primitives(self) -> PendingList
         ensures { map primitive_term result ≡ self.entry.run.primitives }
     {
-        let Outcome { run, .. } = self;
+        let Outcome { items: _, run } = self;
         run.into_primitives()
     }
 }

@@ -19,10 +19,15 @@ enum Kept {
 }
 
 /// A list of nodes, which takes two words of its own. A list of one node takes no memory beside them.
-#[derive(Drop)]
 pub struct NodeList {
     kept: Kept,
     alloc: Global,
+}
+
+impl Drop for NodeList {
+    fn drop(self) {
+        let NodeList { kept: _, alloc: _ } = self;
+    }
 }
 
 impl Model for NodeList {

@@ -18,9 +18,14 @@ enum Text {
 }
 
 /// The name of a node, empty where its kind has none. A clone of a shared name takes no memory.
-#[derive(Drop)]
 pub struct Name {
     text: Text,
+}
+
+impl Drop for Name {
+    fn drop(self) {
+        let Name { text: _ } = self;
+    }
 }
 
 impl Model for Name {
@@ -80,10 +85,15 @@ impl Clone for Name {
 }
 
 /// Names that rows to come share with those that came before. What it holds shows in no result.
-#[derive(Drop)]
 pub struct Names {
     held: HashMap<String, Name>,
     alloc: Global,
+}
+
+impl Drop for Names {
+    fn drop(self) {
+        let Names { held: _, alloc: _ } = self;
+    }
 }
 
 impl Model for Names {

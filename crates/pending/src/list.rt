@@ -15,9 +15,14 @@ use std::marker::Model;
 pub const MOST_PRIMITIVES: usize = 10_000;
 
 /// Primitives in the order in which they were asked for, at most 10,000 (XQuery Update Facility 1.0, section 3.1).
-#[derive(Drop)]
 pub struct PendingList {
     primitives: Vec<Primitive>,
+}
+
+impl Drop for PendingList {
+    fn drop(self) {
+        let PendingList { primitives: _ } = self;
+    }
 }
 
 impl Model for PendingList {
@@ -84,7 +89,8 @@ impl PendingList {
     pub fn into_vec(self) -> Vec<Primitive>
         ensures { result.items ≡ self }
     {
-        self.primitives
+        let PendingList { primitives } = self;
+        primitives
     }
 
     /// Adds a primitive at the end. It fails where it would be the 10,001st (`TooMany`) or memory is refused (`Memory`); the list is then

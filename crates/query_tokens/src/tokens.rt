@@ -29,11 +29,20 @@ struct Content {
 ///
 /// Half of a text's tokens say no more than their kind, and the kinds are gone through more than once. So what tokens say beside
 /// their kinds stands in a queue of its own.
-#[derive(Drop)]
 pub struct Tokens {
     alloc: Global,
     marks: VecDeque<Mark>,
     contents: VecDeque<Content>,
+}
+
+impl Drop for Tokens {
+    fn drop(self) {
+        let Tokens {
+            alloc: _,
+            marks: _,
+            contents: _,
+        } = self;
+    }
 }
 
 impl Model for Tokens {

@@ -26,11 +26,20 @@ pub struct NoMemory;
 /// A store with the replies to the requests that it has run.
 ///
 /// It is what the list of all values that were applied means.
-#[derive(Drop)]
 pub struct State {
     forest: Forest,
     replies: IndexMap<RequestId, Reply>,
     applied: u32,
+}
+
+impl Drop for State {
+    fn drop(self) {
+        let State {
+            forest: _,
+            replies: _,
+            applied: _,
+        } = self;
+    }
 }
 
 impl Model for State {

@@ -22,10 +22,15 @@ use trees::{Forest, Kind, MakeFault, NodeId, NodeView, Tree};
 /// A lent forest that stays as it is, and an own forest of the nodes that are made beside it, seen as one.
 ///
 /// What evaluation makes stands in the own forest, whose identities come after all of the lent one's; it has no documents.
-#[derive(Drop)]
 pub struct Shelf<'a> {
     lent: &'a Forest,
     own: Forest,
+}
+
+impl Drop for Shelf<'_> {
+    fn drop(self) {
+        let Shelf { lent: _, own: _ } = self;
+    }
 }
 
 impl<'a> Model for Shelf<'a> {
@@ -62,7 +67,7 @@ impl<'a> Shelf<'a> {
     pub fn into_own(self) -> Forest
         ensures { result ≡ self.entry.own }
     {
-        let Shelf { own, .. } = self;
+        let Shelf { lent: _, own } = self;
         own
     }
 

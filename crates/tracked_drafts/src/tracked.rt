@@ -27,10 +27,18 @@ use trees::{Forest, Prepared};
 ///
 /// What was not touched stays as an update leaves it: below the roots no texts are adjacent or empty there, names are distinct, and the limits of a store
 /// are kept. What was touched is to be seen to before the draft is settled.
-#[derive(Drop)]
 pub struct TrackedDraft {
     draft: ChosenDraft,
     touched: IndexSet<u64>,
+}
+
+impl Drop for TrackedDraft {
+    fn drop(self) {
+        let TrackedDraft {
+            draft: _,
+            touched: _,
+        } = self;
+    }
 }
 
 impl Model for TrackedDraft {
@@ -198,7 +206,8 @@ impl TrackedDraft {
     pub fn discard(self) -> Forest
         ensures { result ≡ self.draft.before }
     {
-        self.draft.discard()
+        let TrackedDraft { draft, touched: _ } = self;
+        draft.discard()
     }
 
     /// Takes the memory that it takes to settle the draft, with hidden trees as they are. Where it is refused, it gives the forest as it was.
@@ -206,7 +215,8 @@ impl TrackedDraft {
         ensures prepared { IfOk result (λ p. p ≡ whole_draft self.draft) }
         ensures refused { IfErr result (λ f. f ≡ self.draft.before) }
     {
-        self.draft.prepare()
+        let TrackedDraft { draft, touched: _ } = self;
+        draft.prepare()
     }
 }
 

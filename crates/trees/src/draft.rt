@@ -48,9 +48,14 @@ pub struct Drafted {
 /// A forest together with rows that are planned in the place of some of its own.
 ///
 /// The forest is not touched before the draft is settled, so a draft that is discarded leaves no trace. Its documents stay those of the forest.
-#[derive(Drop)]
 pub struct Draft {
     parts: Drafted,
+}
+
+impl Drop for Draft {
+    fn drop(self) {
+        let Draft { parts: _ } = self;
+    }
 }
 
 impl Model for Draft {
@@ -94,27 +99,8 @@ impl Draft {
         requires bound { next ≤ 2 ^ 62 }
         ensures { result ≡ record { before = forest; after = forest.trees; next = next } }
     {
-        let Forest {
-            rows,
-            documents,
-            next: first,
-            nodes,
-            index,
-            names,
-        } = forest;
         Draft {
-            parts: Drafted {
-                rows,
-                documents,
-                first,
-                nodes,
-                index,
-                names,
-                plan: Plan::new(alloc),
-                resized: RowPages::new(alloc),
-                next: next.number(),
-                count: nodes,
-            },
+            parts: forest.drafted(alloc, next),
         }
     }
 
@@ -267,7 +253,8 @@ impl Draft {
     pub fn discard(self) -> Forest
         ensures { result ≡ self.before }
     {
-        undrafted(self.parts)
+        let Draft { parts } = self;
+        undrafted(parts)
     }
 
     /// Takes the memory that it takes to settle the draft. Where it is refused, it gives the forest as it was.

@@ -14,12 +14,15 @@ ghost use Rattle.node_table.specs.Flat.{Entry, entry_in};
 ghost use Rattle.node_table.specs.Rows.{entry_of_row, table_of};
 ghost use Rattle.forest_index.specs.Named.{IsElement};
 ghost use Rattle.forest_index.specs.Sized.{size_at};
+ghost use Rattle.trees.specs.Drafted.{draft_of, IsDrafted};
 
+use super::draft::Drafted;
 use data_model::{Kind, NodeId, NodeView, Tree};
 use document_names::Names;
 use forest_index::ForestIndex;
 use forest_index::name_lists::NameLists;
 use indexmap::IndexMap;
+use node_plans::plan::Plan;
 use node_table::table::{Row, Rows};
 use node_table::{name, tree, walk};
 use row_pages::RowPages;
@@ -30,7 +33,6 @@ use std::marker::Model;
 ///
 /// Nodes lie in one flat table; a node that has no parent is the root of a tree of its own. A forest of documents, which changes by drafts alone, has
 /// an index too: its elements by name, and the sizes of its trees.
-#[derive(Drop)]
 pub struct Forest {
     pub(crate) rows: Rows,
     pub(crate) documents: IndexMap<String, NodeId>,
@@ -38,6 +40,19 @@ pub struct Forest {
     pub(crate) nodes: u64,
     pub(crate) index: Option<ForestIndex>,
     pub(crate) names: name::Names,
+}
+
+impl Drop for Forest {
+    fn drop(self) {
+        let Forest {
+            rows: _,
+            documents: _,
+            next: _,
+            nodes: _,
+            index: _,
+            names: _,
+        } = self;
+    }
 }
 
 impl Model for Forest {
@@ -114,6 +129,35 @@ impl Forest {
             sizes: forest_index::single_sizes(alloc, self.next)?,
         });
         Ok(())
+    }
+
+    /// What a draft of this forest begins with.
+    pub(super) fn drafted(self, alloc: Global, next: NodeId) -> Drafted
+        requires later { self.next ≤ next }
+        requires bound { next ≤ 2 ^ 62 }
+        ensures drafted { IsDrafted result }
+        ensures shown { draft_of result ≡ record { before = self; after = self.trees; next = next } }
+    {
+        let Forest {
+            rows,
+            documents,
+            next: first,
+            nodes,
+            index,
+            names,
+        } = self;
+        Drafted {
+            rows,
+            documents,
+            first,
+            nodes,
+            index,
+            names,
+            plan: Plan::new(alloc),
+            resized: RowPages::new(alloc),
+            next: next.number(),
+            count: nodes,
+        }
     }
 
     /// A forest with an empty document for each name, in their order, with the identities 1, 2 and so on.

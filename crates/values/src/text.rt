@@ -11,8 +11,13 @@ use std::rc::Rc;
 ///
 /// A text of at most 30 bytes takes no piece of memory, and nor does a clone of it. A longer one that is made as `of` or `shared` costs one more
 /// piece of memory, and a clone of it copies no bytes.
-#[derive(Drop)]
 pub struct Text(Kept);
+
+impl Drop for Text {
+    fn drop(self) {
+        let Text(_) = self;
+    }
+}
 
 /// Where the bytes are.
 #[derive(Drop)]
