@@ -43,14 +43,9 @@ pub struct Settled {
 ///
 /// It owns the forest, so nobody changes that before the undo is decided on. The rows that the change replaced stand in it, with room in the table to put
 /// them back.
+#[derive(Drop)]
 pub struct Undo {
     parts: Settled,
-}
-
-impl Drop for Undo {
-    fn drop(self) {
-        let Undo { parts: _ } = self;
-    }
 }
 
 impl Model for Undo {
@@ -157,7 +152,6 @@ impl Undo {
     pub fn keep(self) -> Forest
         ensures { result ≡ self.after }
     {
-        let Undo { parts } = self;
         let Settled {
             mut rows,
             documents,
@@ -167,7 +161,7 @@ impl Undo {
             next,
             count,
             ..
-        } = parts;
+        } = self.parts;
         rows.shrink();
         forest_index::settle(&mut index, resized);
         Forest {
@@ -184,7 +178,6 @@ impl Undo {
     pub fn back(self) -> Forest
         ensures { result ≡ self.before }
     {
-        let Undo { parts } = self;
         let Settled {
             mut rows,
             documents,
@@ -194,7 +187,7 @@ impl Undo {
             names,
             mut back,
             ..
-        } = parts;
+        } = self.parts;
         exchange::exchange(&mut rows, &mut back);
         rows.shrink();
         Forest {
