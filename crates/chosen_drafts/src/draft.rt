@@ -31,6 +31,7 @@ pub struct ChosenDraft {
     shown: Shown,
 }
 
+// By one call, whose contract is all that a caller's proof sees of it.
 impl Drop for ChosenDraft {
     fn drop(self) {
         let ChosenDraft { shown: _ } = self;

@@ -26,6 +26,7 @@ pub struct Sequence {
     items: Held,
 }
 
+// By one call, whose contract is all that a caller's proof sees of it.
 impl Drop for Sequence {
     fn drop(self) {
         let Sequence { alloc: _, items: _ } = self;

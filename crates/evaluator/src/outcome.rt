@@ -22,6 +22,7 @@ pub struct Outcome<'a> {
     run: Evaluation<'a>,
 }
 
+// By one call, whose contract is all that a caller's proof sees of it.
 impl Drop for Outcome<'_> {
     fn drop(self) {
         let Outcome { items: _, run: _ } = self;

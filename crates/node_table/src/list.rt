@@ -24,6 +24,7 @@ pub struct NodeList {
     alloc: Global,
 }
 
+// By one call, whose contract is all that a caller's proof sees of it.
 impl Drop for NodeList {
     fn drop(self) {
         let NodeList { kept: _, alloc: _ } = self;

@@ -22,6 +22,7 @@ pub struct Name {
     text: Text,
 }
 
+// By one call, whose contract is all that a caller's proof sees of it.
 impl Drop for Name {
     fn drop(self) {
         let Name { text: _ } = self;
@@ -90,6 +91,7 @@ pub struct Names {
     alloc: Global,
 }
 
+// By one call, whose contract is all that a caller's proof sees of it.
 impl Drop for Names {
     fn drop(self) {
         let Names { held: _, alloc: _ } = self;

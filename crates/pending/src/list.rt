@@ -19,6 +19,7 @@ pub struct PendingList {
     primitives: Vec<Primitive>,
 }
 
+// By one call, whose contract is all that a caller's proof sees of it.
 impl Drop for PendingList {
     fn drop(self) {
         let PendingList { primitives: _ } = self;

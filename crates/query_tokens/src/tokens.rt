@@ -35,6 +35,7 @@ pub struct Tokens {
     contents: VecDeque<Content>,
 }
 
+// By one call, whose contract is all that a caller's proof sees of it.
 impl Drop for Tokens {
     fn drop(self) {
         let Tokens {

@@ -32,6 +32,7 @@ pub struct State {
     applied: u32,
 }
 
+// By one call, whose contract is all that a caller's proof sees of it.
 impl Drop for State {
     fn drop(self) {
         let State {

@@ -27,6 +27,7 @@ pub struct Shelf<'a> {
     own: Forest,
 }
 
+// By one call, whose contract is all that a caller's proof sees of it.
 impl Drop for Shelf<'_> {
     fn drop(self) {
         let Shelf { lent: _, own: _ } = self;

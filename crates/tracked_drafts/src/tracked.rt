@@ -32,6 +32,7 @@ pub struct TrackedDraft {
     touched: IndexSet<u64>,
 }
 
+// By one call, whose contract is all that a caller's proof sees of it.
 impl Drop for TrackedDraft {
     fn drop(self) {
         let TrackedDraft {

@@ -52,6 +52,7 @@ pub struct Draft {
     parts: Drafted,
 }
 
+// By one call, whose contract is all that a caller's proof sees of it.
 impl Drop for Draft {
     fn drop(self) {
         let Draft { parts: _ } = self;

@@ -42,6 +42,7 @@ pub struct Forest {
     pub(crate) names: name::Names,
 }
 
+// By one call, whose contract is all that a caller's proof sees of it.
 impl Drop for Forest {
     fn drop(self) {
         let Forest {

@@ -13,6 +13,7 @@ use std::rc::Rc;
 /// piece of memory, and a clone of it copies no bytes.
 pub struct Text(Kept);
 
+// By one call, whose contract is all that a caller's proof sees of it.
 impl Drop for Text {
     fn drop(self) {
         let Text(_) = self;
