@@ -12,7 +12,7 @@ ghost use Rattle.query_meaning.specs.Copies.{copy_of};
 ghost use Rattle.query_meaning.specs.Environment.{looked_at};
 ghost use Rattle.query_meaning.specs.Meaning.{start};
 ghost use Rattle.query_meaning.specs.Operators.{ordering};
-ghost use Rattle.query_meaning.specs.Running.{Run, trees_of, adding, atom, atoms, copying, most_nodes, nodes_of, new_nodes, standing, work};
+ghost use Rattle.query_meaning.specs.Running.{Run, trees_of, adding, atom, atoms, copying, most_nodes, nodes_of, new_nodes, standing, turns, work};
 ghost use Rattle.evaluation.specs.Copying.{standing_copy};
 ghost use Rattle.evaluation.specs.Gives.{Any, Fails, GivesIn, Judged, Says, Stand, Turns};
 
@@ -104,6 +104,22 @@ impl<'a> Evaluation<'a> {
         }
         self.turns -= 1;
         Ok(())
+    }
+
+    /// Takes so many turns at once. Code: PXQ0002 where fewer are left, and then nothing changes.
+    pub fn take_turns(&mut self, count: usize) -> Result<(), ValueFault>
+        ensures taken { GivesIn Any (turns count) self.old result self.new }
+        ensures same { self.new ≡ record self.old { turns = self.new.turns } }
+        ensures refused { OnErr result (self.new ≡ self.old) }
+        ensures judged { IsErrOf result ValueFault.Memory → ⊥ }
+    {
+        match self.turns.checked_sub(count as u64) {
+            Some(left) => {
+                self.turns = left;
+                Ok(())
+            }
+            None => Err(ValueFault::Code(Code::PXQ0002)),
+        }
     }
 
     /// Takes so much work. Code: PXQ0002 where less is left, and then nothing changes.
