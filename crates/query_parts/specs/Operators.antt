@@ -1,7 +1,9 @@
 -- Operators, by how tightly they bind (XQuery 1.0, appendix A.4), and how loosely tokens stand after an operand.
-use Rattle.std.specs.Prelude.{ℕ, Bool, true, false, Option, Some, None}
+use Rattle.std.specs.Prelude.{ℕ, Bool, true, false, ◌&&◌, nat_le, List, Option, Some, None}
 use Rattle.query_tokens.specs.declared.kind.Kind.{Kind}
 use Rattle.query_grammar.specs.declared.ast.Binary.{Binary}
+use Rattle.query_tokens.specs.declared.token.Token.{Token}
+use Rattle.query_grammar.specs.Loose.{looseness_of}
 use Rattle.query_grammar.specs.Words.{intersect_operator, union_operator, multiply_operator, add_operator, range_operator, comparison_operator, and_operator, or_operator}
 use Rattle.query_parts.specs.declared.precedence.Precedence.{Precedence}
 use Rattle.query_parts.specs.declared.precedence.Precedence.TheVariants as precedence
@@ -51,6 +53,10 @@ level_of looseness.Clause = 13
 level_of looseness.Where = 14
 level_of looseness.Order = 15
 level_of looseness.End = 16
+
+-- whether the next token is one of them, or binds more tightly
+abbrev pub goes_on : Precedence → List Token → Bool
+goes_on p ts = nat_le 3 (looseness_of ts) && nat_le (looseness_of ts) (looseness_at p)
 
 -- whether at most one of them stands between operands
 abbrev pub is_once : Precedence → Bool

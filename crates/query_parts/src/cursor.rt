@@ -11,6 +11,7 @@ ghost use Rattle.query_grammar.specs.Reading as reading;
 ghost use Rattle.query_grammar.specs.Words as table;
 
 use crate::looseness::Looseness;
+use crate::precedence::Precedence;
 use crate::words::{axis_of, is_function, kind_test_of, looseness, sign_of};
 use fault_codes::Code;
 use query_grammar::{KindTest, Sign};
@@ -41,6 +42,14 @@ pub fn at_level(tokens: &Tokens, level: Looseness) -> bool
     ensures { result ≡ reading.at_level (part.level_of level) tokens.now }
 {
     looseness(tokens.peek_at(0)).level() == level.level()
+}
+
+/// Whether the next token is an operator that binds as tightly as those of this precedence, or more tightly.
+pub fn goes_on(tokens: &Tokens, precedence: Precedence) -> bool
+    ensures { result ≡ part.goes_on precedence tokens.now }
+{
+    let level = looseness(tokens.peek_at(0)).level();
+    3 <= level && level <= precedence.looseness()
 }
 
 /// Takes the next token, which must be of this kind.

@@ -1,5 +1,6 @@
 -- A recursion on a count of turns, beside a loop that counts up; and the readers by the parts that the code has.
-use Rattle.std.proofs.Common.{◌≡◌, ℕ, zero, suc, ◌+◌, ◌-◌, ◌<◌, Bool, true, false, cond, if◌then◌else◌, map, length, List, [], ◌∷◌, ◌++◌, refl, Option, None, Some, sym, ap, ◌∙◌, arith}
+use Rattle.std.proofs.Common.{◌≡◌, ℕ, zero, suc, ◌+◌, ◌-◌, ◌<◌, ◌≤◌, ◌==◌, ◌&&◌, nat_le, Bool, true, false, cond, if◌then◌else◌, map, length, List, [], ◌∷◌, ◌++◌, refl, Option, None, Some, sym, ap, ◌∙◌, arith}
+use Rattle.std.proofs.lemmas.Bool.Decides.{nat_tests}
 use Rattle.query_tokens.specs.declared.kind.Kind.TheVariants as k
 use Rattle.query_tokens.specs.declared.token.Token.{Token}
 use Rattle.query_grammar.specs.declared.ast.Expr.{Expr}
@@ -9,8 +10,13 @@ use Rattle.query_grammar.specs.declared.ast.Operation.{Operation}
 use Rattle.query_grammar.specs.Grammar as grammar
 use Rattle.query_grammar.specs.Reader as r
 use Rattle.query_grammar.specs.Reading.{Reader, pure, ◌>>=◌, ◌>>◌, and_then, rounds, many, at_level, sees, eat}
-use Rattle.query_parts.specs.Operators.{operator_at, looseness_at, is_once}
+use Rattle.query_grammar.specs.Loose.{looseness_of}
+use Rattle.query_parts.specs.Operators.{operator_at, tighter, looseness_at, is_once, goes_on}
 use Rattle.query_parts.specs.declared.precedence.Precedence.{Precedence}
+use Rattle.query_parts.specs.declared.precedence.Precedence.TheVariants as precedence
+use Rattle.query_parts.specs.Gives.{Fails}
+use Rattle.query_tokens.specs.declared.fault.ParseFault.{ParseFault}
+use Rattle.query_tokens.specs.declared.fault.ParseFault.TheVariants as fault
 use Rattle.query_rules.specs.Parts as part
 
 -- a turn of the loop is a step of the recursion
@@ -151,6 +157,136 @@ binary_by single p true ts = same_after (part.operand single p ts) _ _ (λ first
 
 pub binary_is : (single : Reader Expr) (p : Precedence) (ts : List Token) → part.binary single p ts ≡ part.chain single p ts
 binary_is single p ts = binary_by single p (is_once p) ts
+
+-- Operands, before their operators are read.
+
+pub operand_then : (single : Reader Expr) (p : Precedence) (first : Expr) (ts mid : List Token) → part.operand single p ts ≡ Some (first, mid)
+    → part.binary single p ts ≡ and_then (part.operations single p mid) (λ others. pure (grammar.chain_of first others))
+operand_then single p first ts mid e =
+    binary_is single p ts
+    ∙ ap (λ o. and_then o (λ x rest. and_then (part.operations single p rest) (λ others. pure (grammar.chain_of x others)))) e
+
+no_operand : (single : Reader Expr) (p : Precedence) (ts : List Token) → part.operand single p ts ≡ None → part.binary single p ts ≡ None
+no_operand single p ts none =
+    binary_is single p ts
+    ∙ ap (λ o. and_then o (λ x rest. and_then (part.operations single p rest) (λ others. pure (grammar.chain_of x others)))) none
+
+-- what stands between operators, by the tighter ones
+operand_by : Reader Expr → Option Precedence → Reader Expr
+operand_by single None = r.unary single
+operand_by single (Some p) = part.binary single p
+
+operand_is : (single : Reader Expr) (p : Precedence) (ts : List Token) → part.operand single p ts ≡ operand_by single (tighter p) ts
+unfolding operand_by r.inter r.union r.multiplication r.addition r.range r.comparison r.conjunction
+operand_is single precedence.Intersection ts = refl
+operand_is single precedence.Union ts = refl
+operand_is single precedence.Multiplication ts = refl
+operand_is single precedence.Addition ts = refl
+operand_is single precedence.Range ts = refl
+operand_is single precedence.Comparison ts = refl
+operand_is single precedence.Conjunction ts = refl
+operand_is single precedence.Disjunction ts = refl
+
+pub tightest : (single : Reader Expr) (p : Precedence) (ts : List Token) → tighter p ≡ None → part.operand single p ts ≡ r.unary single ts
+unfolding operand_by
+tightest single p ts none = operand_is single p ts ∙ ap (λ o. operand_by single o ts) none
+
+pub tighter_is : (single : Reader Expr) (p q : Precedence) (ts : List Token) → tighter p ≡ Some q → part.operand single p ts ≡ part.binary single q ts
+unfolding operand_by
+tighter_is single p q ts some = operand_is single p ts ∙ ap (λ o. operand_by single o ts) some
+
+-- What a first operand gives is what is read, where that holds at each precedence for itself.
+module _ (single : Reader Expr) (ts : List Token) (o : Option (Expr × List Token)) (top : ℕ)
+    (goes : (p : Precedence) → looseness_at p ≤ top → part.operand single p ts ≡ o → part.binary single p ts ≡ o) (operand : r.unary single ts ≡ o) where
+  abbrev Given : Precedence → Type 0
+  Given p = looseness_at p ≤ top → part.binary single p ts ≡ o
+
+  in_intersection : Given precedence.Intersection
+  in_intersection within = goes precedence.Intersection within operand
+
+  in_union : Given precedence.Union
+  unfolding r.inter
+  in_union within = goes precedence.Union within (in_intersection (omega (arith, within)))
+
+  in_multiplication : Given precedence.Multiplication
+  unfolding r.union
+  in_multiplication within = goes precedence.Multiplication within (in_union (omega (arith, within)))
+
+  in_addition : Given precedence.Addition
+  unfolding r.multiplication
+  in_addition within = goes precedence.Addition within (in_multiplication (omega (arith, within)))
+
+  in_range : Given precedence.Range
+  unfolding r.addition
+  in_range within = goes precedence.Range within (in_addition (omega (arith, within)))
+
+  in_comparison : Given precedence.Comparison
+  unfolding r.range
+  in_comparison within = goes precedence.Comparison within (in_range (omega (arith, within)))
+
+  in_conjunction : Given precedence.Conjunction
+  unfolding r.comparison
+  in_conjunction within = goes precedence.Conjunction within (in_comparison (omega (arith, within)))
+
+  in_disjunction : Given precedence.Disjunction
+  unfolding r.conjunction
+  in_disjunction within = goes precedence.Disjunction within (in_conjunction (omega (arith, within)))
+
+  given : (p : Precedence) → Given p
+  given precedence.Intersection = in_intersection
+  given precedence.Union = in_union
+  given precedence.Multiplication = in_multiplication
+  given precedence.Addition = in_addition
+  given precedence.Range = in_range
+  given precedence.Comparison = in_comparison
+  given precedence.Conjunction = in_conjunction
+  given precedence.Disjunction = in_disjunction
+
+none_read : (goes_on : List Token → Bool) (item : Reader (Operation Expr)) (first : Expr) (mid : List Token) → goes_on mid ≡ false → (n : ℕ)
+    → and_then (rounds goes_on item n [] mid) (λ others. pure (grammar.chain_of first others)) ≡ Some (first, mid)
+unfolding rounds
+none_read goes_on item first mid none zero = refl
+none_read goes_on item first mid none (suc n) =
+    ap (λ b. and_then (cond b (and_then (item mid) (λ x. rounds goes_on item n ([] ++ x ∷ []))) (Some ([], mid))) (λ others. pure (grammar.chain_of first others))) none
+
+absent : (level l top : ℕ) → (nat_le 3 level && nat_le level top) ≡ false → 3 ≤ l → l ≤ top → (level == l) ≡ false
+absent level l top none least most = grind (arith, nat_tests)
+
+least_loose : (p : Precedence) → 3 ≤ looseness_at p
+least_loose precedence.Intersection = omega arith
+least_loose precedence.Union = omega arith
+least_loose precedence.Multiplication = omega arith
+least_loose precedence.Addition = omega arith
+least_loose precedence.Range = omega arith
+least_loose precedence.Comparison = omega arith
+least_loose precedence.Conjunction = omega arith
+least_loose precedence.Disjunction = omega arith
+
+-- an operand that no operator follows
+pub alone : (single : Reader Expr) (p : Precedence) (first : Expr) (ts mid : List Token) → r.unary single ts ≡ Some (first, mid) → goes_on p mid ≡ false
+    → part.binary single p ts ≡ Some (first, mid)
+unfolding at_level
+alone single p first ts mid operand none = given single ts (Some (first, mid)) (looseness_at p) stays operand p (omega arith)
+  where
+    stays : (q : Precedence) → looseness_at q ≤ looseness_at p → part.operand single q ts ≡ Some (first, mid) → part.binary single q ts ≡ Some (first, mid)
+    stays q within e =
+        operand_then single q first ts mid e
+        ∙ none_read (at_level (looseness_at q)) (part.operation single q) first mid (absent (looseness_of mid) (looseness_at q) (looseness_at p) none (least_loose q) within) (part.turns q mid)
+
+-- faults of a first operand, of what stands before operators, and of operations
+pub first_fails : (single : Reader Expr) (p : Precedence) (ts : List Token) (f : ParseFault) → Fails (r.unary single ts) f → Fails (part.binary single p ts) f
+first_fails single p ts fault.Memory failed = tt
+first_fails single p ts (fault.Static code) failed = (failed.0, given single ts None (looseness_at p) (λ q _ none. no_operand single q ts none) failed.1 p (omega arith))
+
+pub operand_fails : (single : Reader Expr) (p : Precedence) (ts : List Token) (f : ParseFault) → Fails (part.operand single p ts) f → Fails (part.binary single p ts) f
+operand_fails single p ts fault.Memory failed = tt
+operand_fails single p ts (fault.Static code) failed = (failed.0, no_operand single p ts failed.1)
+
+pub operations_fail : (single : Reader Expr) (p : Precedence) (first : Expr) (ts mid : List Token) (f : ParseFault) → part.operand single p ts ≡ Some (first, mid)
+    → Fails (part.operations single p mid) f → Fails (part.binary single p ts) f
+operations_fail single p first ts mid fault.Memory e failed = tt
+operations_fail single p first ts mid (fault.Static code) e failed =
+    (failed.0, operand_then single p first ts mid e ∙ ap (λ o. and_then o (λ others. pure (grammar.chain_of first others))) failed.1)
 
 pub path_is : (single : Reader Expr) (ts : List Token) → r.path single ts ≡ part.path single ts
 unfolding r.path

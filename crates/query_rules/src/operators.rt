@@ -1,6 +1,6 @@
 //! Signs and operators between expressions.
 
-ghost use Rattle.std.specs.Prelude.{◌≡◌, IfOk};
+ghost use Rattle.std.specs.Prelude.{◌≡◌, List, Some, IfOk};
 ghost use Rattle.query_parts.specs.Gives.{Gives};
 ghost use Rattle.query_parts.specs.Operators.{operator_at};
 ghost use Rattle.query_rules.specs.Reads.{HasReader};
@@ -9,11 +9,12 @@ ghost use Rattle.query_grammar.specs.Grammar as grammar;
 ghost use Rattle.query_grammar.specs.Reader as read;
 ghost use Rattle.query_grammar.specs.Reading as reading;
 ghost use Rattle.query_grammar.specs.Words as table;
+ghost use Rattle.query_tokens.specs.declared.token.Token.{Token};
 
 use crate::rules::Rules;
 use held_values::beside;
 use query_grammar::{Binary, Expr, Operation, Sign};
-use query_parts::cursor::{REFUSED, at_level, sign};
+use query_parts::cursor::{REFUSED, at_level, goes_on, sign};
 use query_parts::lists::push;
 use query_parts::words::sign_of;
 use query_parts::{Looseness, Precedence};
@@ -88,8 +89,8 @@ fn turns(tokens: &Tokens, precedence: Precedence) -> usize
     }
 }
 
-// An expression in brackets goes through `operand` and `binary` once for each precedence. What they call beside each other stays out
-// of them by `inline(never)`, or else each would have the stack of all of it.
+// An expression in brackets may go through `operand`, `operations` and `continued` once for each precedence. What they call beside each other
+// stays out of them by `inline(never)`, or else each would have the stack of all of it.
 impl<F: Fn(Global, u8, &mut Tokens, usize) -> Result<Expr, ParseFault>> Rules<F> {
     /// Takes a path with its signs.
     #[inline(never)]
@@ -152,10 +153,44 @@ impl<F: Fn(Global, u8, &mut Tokens, usize) -> Result<Expr, ParseFault>> Rules<F>
         Ok(found)
     }
 
+    /// Takes what follows an operand that was read: operators of this precedence and of tighter ones, with theirs.
+    #[cycle(binary)]
+    fn continued(
+        &self,
+        tokens: &mut Tokens,
+        first: Expr,
+        precedence: Precedence,
+    ) -> Result<Expr, ParseFault>
+        requires { HasReader F.pre F.post self.now }
+        ensures { (ts : List Token) → read.unary (read.single self.now.level self.now.depth) ts ≡ Some (first, tokens.old) → Gives (part.binary (read.single self.now.level self.now.depth) precedence ts) result tokens.new }
+    {
+        let first = self.operand_from(tokens, first, precedence)?;
+        let (first, others) = beside(first, self.operations(tokens, precedence))?;
+        Ok(chain_of(self.alloc, first, others)?)
+    }
+
+    /// The same of tighter operators alone: what then stands before the first of this precedence.
+    #[cycle(binary)]
+    fn operand_from(
+        &self,
+        tokens: &mut Tokens,
+        first: Expr,
+        precedence: Precedence,
+    ) -> Result<Expr, ParseFault>
+        requires { HasReader F.pre F.post self.now }
+        ensures { (ts : List Token) → read.unary (read.single self.now.level self.now.depth) ts ≡ Some (first, tokens.old) → Gives (part.operand (read.single self.now.level self.now.depth) precedence ts) result tokens.new }
+    {
+        match precedence.tighter() {
+            None => Ok(first),
+            Some(tighter) => self.continued(tokens, first, tighter),
+        }
+    }
+
     /// Takes an expression of operators of this precedence and of tighter ones. Codes: `Static(XPST0003)` where none comes next; `Memory`
     /// where memory is refused.
+    ///
+    /// Most operands stand alone, and then no precedence is gone through.
     #[cycle(binary)]
-    #[tactic(auto, using(crate::proofs::Turns::binary_is))]
     pub(crate) fn binary(
         &self,
         tokens: &mut Tokens,
@@ -164,9 +199,11 @@ impl<F: Fn(Global, u8, &mut Tokens, usize) -> Result<Expr, ParseFault>> Rules<F>
         requires { HasReader F.pre F.post self.now }
         ensures { Gives (part.binary (read.single self.now.level self.now.depth) precedence tokens.old) result tokens.new }
     {
-        let first = self.operand(tokens, precedence)?;
-        let (first, others) = beside(first, self.operations(tokens, precedence))?;
-        Ok(chain_of(self.alloc, first, others)?)
+        let first = self.unary(tokens)?;
+        if !goes_on(tokens, precedence) {
+            return Ok(first);
+        }
+        self.continued(tokens, first, precedence)
     }
 
     /// Takes an expression of operators. Codes: `Static(XPST0003)` where none comes next; `Memory` where memory is refused.
