@@ -1,5 +1,6 @@
 -- What a step gives, by what its predicates keep.
-use Rattle.std.proofs.Common.{◌≡◌, ℕ, zero, suc, List, [], ◌∷◌, reverse, Bool, true, false, ◌&&◌, cond, ap, sym, ◌∙◌, subst, arith, Result, Ok, Err}
+use Rattle.std.proofs.Common.{◌≡◌, ℕ, zero, suc, ◌==◌, List, [], ◌∷◌, length, reverse, Bool, true, false, ◌&&◌, cond, refl, ap, sym, ◌∙◌, subst, arith, Result, Ok, Err}
+use Rattle.std.proofs.lemmas.Bool.Decides.{nat_tests}
 use Rattle.std.proofs.lemmas.List.{reverse-append}
 use Rattle.std.proofs.lemmas.List.Elements.{All-append}
 use Rattle.data_model.specs.Axes.{is_on}
@@ -13,7 +14,7 @@ use Rattle.values.specs.declared.fault.ValueFault.TheVariants as fault
 use Rattle.query_grammar.specs.declared.ast.NodeTest.{NodeTest}
 use Rattle.query_meaning.specs.Environment.{Environment}
 use Rattle.query_meaning.specs.Operators.{nodes}
-use Rattle.query_meaning.specs.Paths.{looked_at, tested_nodes, passes_at, predicates, in_direction, is_reverse}
+use Rattle.query_meaning.specs.Paths.{looked_at, tested_nodes, passes_at, filtered, predicates, in_direction, is_reverse}
 use Rattle.query_meaning.specs.Running as running
 use Rattle.query_meaning.specs.Running.{M, Run, ◌>>=◌, come_to, trees_of, within, work}
 use Rattle.query_meaning.specs.Sequences.{Meaning}
@@ -71,6 +72,35 @@ chosen_gives a ms is env old mid xs left turned r directed kept back says =
     let Q : List Item → Type 0 = λ ys. Says (within ys) r in
     then_gives Stand Stand (predicates ms env (in_direction a (nodes is))) (λ ys. come_to (within (in_direction a ys))) old mid mid left r
     (subst P directed kept) (within_gives (in_direction a left) mid r (directed_stand a left mid kept.1.1) (subst Q back says))
+
+-- nothing is chosen from nothing
+nothing_left : (env : Environment) (n : ℕ) (ms : List Meaning) (run : Run) → running.each (λ _. filtered env) n ms [] run ≡ Ok ([], run)
+nothing_left env n [] run = refl
+nothing_left env n (m ∷ ms) run = nothing_left env (suc n) ms run
+
+nothing_turned : (a : Axis) → in_direction a [] ≡ []
+nothing_turned a = at (is_reverse a)
+  where
+    at : (b : Bool) → cond b (reverse {A = Item} []) [] ≡ []
+    at true = refl
+    at false = refl
+
+nothing_stands : (run : Run) → Stand [] run
+nothing_stands run k d h = absurd (omega (arith, h))
+
+no_nodes : (is : List ℕ) → (length is == 0) ≡ true → is ≡ []
+no_nodes [] none = refl
+no_nodes (i ∷ is) none = absurd (grind (arith, nat_tests))
+
+pub nothing_gives : (a : Axis) (ms : List Meaning) (is : List ℕ) (env : Environment) (run : Run) → (length is == 0) ≡ true → Gives (chosen_from a ms is env) run (Ok []) run
+unfolding running.most_items
+nothing_gives a ms is env run none = (
+  ap (λ js. chosen_from a ms js env run) (no_nodes is none)
+      ∙ ap (λ xs. (predicates ms env xs >>= (λ ys. come_to (within (in_direction a ys)))) run) (nothing_turned a)
+      ∙ ap (λ r. running.and_then r (λ ys. come_to (within (in_direction a ys)))) (nothing_left env 0 ms run)
+      ∙ ap (λ xs. come_to (within xs) run) (nothing_turned a),
+  (grows_refl run, nothing_stands run),
+)
 
 -- the step, by its work and what is chosen
 pub step_gives : (a : Axis) (t : NodeTest) (ms : List Meaning) (i : ℕ) (env : Environment) (old mid new : Run) (looked : ℕ) (is seen : List ℕ) (r : Result (List Item) ValueFault)

@@ -1,9 +1,7 @@
 -- What a predicate says of a position.
-use Rattle.std.specs.Prelude.{ℕ, ℤ, pos, Bool, Result, Ok, Err}
-use Rattle.std.specs.Ordering.{is_eq, int_cmp}
-use Rattle.fault_codes.specs.declared.code.Code.{Code}
-use Rattle.values.specs.Arithmetic.{in_range}
-use Rattle.query_meaning.specs.Running.{M, ◌>>=◌, come_to}
+use Rattle.std.specs.Prelude.{ℕ, ◌-◌, ◌==◌, Bool, if◌then◌else◌, List, [], ◌∷◌, length, Option, Some, None, slice_get}
+use Rattle.values.specs.declared.atom.Item.{Item}
+use Rattle.query_meaning.specs.Running.{M, ◌>>=◌, come_to, pure, turns, work}
 use Rattle.query_meaning.specs.Environment.{Environment}
 use Rattle.query_meaning.specs.Sequences.{Meaning}
 use Rattle.query_meaning.specs.Paths.{selects}
@@ -12,11 +10,15 @@ use Rattle.query_meaning.specs.Paths.{selects}
 abbrev pub selected : (position : ℕ) → Meaning → Environment → M Bool
 selected i m env = m env >>= (λ items. come_to (selects i items))
 
--- whether a number is that position
-abbrev pub is_position : (position : ℕ) → Result ℤ Code → Result Bool Code
-is_position i (Ok z) = Ok (is_eq (int_cmp z (pos i)))
-is_position i (Err code) = Err code
+-- what may be there, as a list
+abbrev pub option_list : Option Item → List Item
+option_list None = []
+option_list (Some x) = x ∷ []
 
--- the same of a number that is written
-abbrev pub selected_by_number : (number position : ℕ) → Result Bool Code
-selected_by_number n i = is_position i (in_range (pos n))
+-- the item at the position that a number is
+abbrev pub at_position : (number : ℕ) → List Item → Option Item
+at_position n items = if n == 0 then None else slice_get items (n - 1)
+
+-- what the turns of a written number come to: each item takes a turn, a unit of work for the number and one for what it gives
+abbrev pub numbered : (number : ℕ) → List Item → M (List Item)
+numbered n items = turns (length items) >>= (λ _. work (length items) >>= (λ _. work (length items) >>= (λ _. pure (option_list (at_position n items)))))

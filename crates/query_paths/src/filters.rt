@@ -1,14 +1,15 @@
 //! Predicates, and the filter expressions that have them (XQuery 1.0, sections 3.2.2 and 3.3.2).
 
-ghost use Rattle.std.specs.Prelude.{◌≡◌, ◌≤◌, ◌<◌, ◌+◌, ◌∷◌, [], length, map, IfOk, Ok};
+ghost use Rattle.std.specs.Prelude.{◌≡◌, ◌≤◌, ◌<◌, ◌+◌, ◌∷◌, [], length, map, pos, option_copied, IfOk, Ok};
 ghost use Rattle.values.specs.Items.{IsThere};
+ghost use Rattle.values.specs.Arithmetic.{in_range};
 ghost use Rattle.query_meaning.specs.Environment.{with_focus};
 ghost use Rattle.query_meaning.specs.Meaning.{mean};
 ghost use Rattle.query_meaning.specs.Paths as meaning;
 ghost use Rattle.query_meaning.specs.Running.{trees_of};
 ghost use Rattle.evaluation.specs.Evaluates.{Evaluates};
 ghost use Rattle.evaluation.specs.Gives.{Any, Gives, GivesIn, IsReady, Says, Stand};
-ghost use Rattle.query_paths.specs.Predicates.{selected, selected_by_number};
+ghost use Rattle.query_paths.specs.Predicates.{at_position, numbered, selected};
 
 use crate::kept::Kept;
 use evaluation::{Environment, Evaluation, Sequence};
@@ -16,9 +17,6 @@ use fault_codes::Code;
 use query_grammar::{Expr, IntegerLiteral};
 use sqlite_items::{Boxed, Items};
 use values::{Atom, Item, ValueFault, truth};
-
-/// The work of a number that is written: a unit, and one for the item that it gives.
-const NUMBER_WORK: u64 = 2;
 
 /// Steps, filters and paths, over a function that evaluates their parts.
 #[derive(Clone, Copy)]
@@ -148,6 +146,9 @@ impl<F: Fn(&mut Evaluation, &Expr, &Environment) -> Result<Sequence, ValueFault>
         ensures kept { Gives (meaning.filtered env.now items.now (mean predicate.now)) run.old result run.new }
         ensures few { IfOk result (λ kept. length kept ≤ length items.now) }
     {
+        if let Expr::Integer(literal) = predicate {
+            return numbered(run, items, *literal);
+        }
         let mut kept = Kept::new(run.alloc());
         let mut index = 0;
         for item in items {
@@ -182,8 +183,7 @@ impl<F: Fn(&mut Evaluation, &Expr, &Environment) -> Result<Sequence, ValueFault>
         Ok(given.and_if(is_kept, item)?)
     }
 
-    /// Whether a predicate selects a position (XQuery 1.0, section 3.2.2). A number that is written is not evaluated, but takes the work of its
-    /// value.
+    /// Whether a predicate selects a position (XQuery 1.0, section 3.2.2).
     fn selects(
         &self,
         run: &mut Evaluation,
@@ -195,21 +195,45 @@ impl<F: Fn(&mut Evaluation, &Expr, &Environment) -> Result<Sequence, ValueFault>
         requires ready { IsReady env.now run.old }
         ensures { GivesIn Any (selected position (mean predicate.now) env.now) run.old result run.new }
     {
-        if let Expr::Integer(literal) = predicate {
-            let is_selected = is_position(*literal, position);
-            run.spend(NUMBER_WORK)?;
-            return Ok(is_selected);
-        }
         let items = self.value_of(run, predicate, env)?;
         Ok(selects(position, items.as_slice())?)
     }
 }
 
-/// Whether a written number is that position.
-fn is_position(literal: IntegerLiteral, position: usize) -> bool
-    ensures { Ok result ≡ selected_by_number literal position }
+/// The item at the position that a written number is (XQuery 1.0, section 3.2.2). The number is not evaluated for each item, but each takes its turn,
+/// and the work of the number's value: a unit, and one for the item that it gives. Code: PXQ0002 where fewer turns or less work is left.
+fn numbered(
+    run: &mut Evaluation,
+    items: &[Item],
+    literal: IntegerLiteral,
+) -> Result<Kept, ValueFault>
+    requires stand { Stand items.now run.old }
+    ensures kept { Gives (numbered literal items.now) run.old result run.new }
+    ensures few { IfOk result (λ kept. length kept ≤ length items.now) }
+    ensures in_range { in_range (pos literal) ≡ Ok (pos literal) }
 {
-    u64::try_from(literal.value()) == Ok(position as u64)
+    let found = at_position(items, literal);
+    let units = items.len() as u64;
+    run.take_turns(items.len())?;
+    run.spend(units)?; // for the number
+    run.spend(units)?; // for what it gives
+    let kept = Kept::new(run.alloc());
+    match found {
+        None => Ok(kept),
+        Some(item) => Ok(kept.and_if(true, item)?),
+    }
+}
+
+/// The item at the position that a written number is.
+fn at_position(items: &[Item], literal: IntegerLiteral) -> Option<&Item>
+    ensures item { option_copied result ≡ at_position literal items.now }
+    ensures in_range { in_range (pos literal) ≡ Ok (pos literal) }
+{
+    let position = literal.value() as usize;
+    if position == 0 {
+        return None;
+    }
+    items.get(position - 1)
 }
 
 /// Whether a predicate's value selects a position. Code: FORG0006 where it has no effective boolean value.

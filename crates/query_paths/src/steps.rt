@@ -76,6 +76,10 @@ impl<F: Fn(&mut Evaluation, &Expr, &Environment) -> Result<Sequence, ValueFault>
         requires stand { Stand (nodes found.now) run.old }
         ensures { Gives (chosen_from axis (map mean predicates.now) found.now env.now) run.old result run.new }
     {
+        // Nothing is left of nothing, and no predicate is evaluated.
+        if found.is_empty() {
+            return Ok(Sequence::new(run.alloc()));
+        }
         let items = in_direction(run.alloc(), axis, found)?;
         let left = self.filtered_by_all(run, items, predicates, env)?;
         turned(axis, left).into_sequence()

@@ -1,4 +1,5 @@
-use Rattle.query_paths.proofs.Directions.{chosen_gives, kept_stand}
+use Rattle.std.proofs.Common.{sym, ◌∙◌}
+use Rattle.query_paths.proofs.Directions.{chosen_gives, kept_stand, nothing_gives}
 use Rattle.query_paths.proofs.filters.Paths.chosen_from.Goals as goal
 
 pub filtered_by_all-requires-clause-stand : goal.filtered_by_all-requires-clause-stand
@@ -8,3 +9,7 @@ pub returns : goal.returns
 returns g c =
     chosen_gives c.args.axis _ c.args.found.now c.args.env.now c.args.run.now c.filtered_by_all.new.run c.in_ok-items.items c.in_ok-left.left c.turned.result c.into_sequence.result
     c.in_ok-items.ensures c.in_ok-left.ensures c.turned.ensures c.into_sequence.ensures
+
+pub returns-then-is_empty : goal.returns-then-is_empty
+returns-then-is_empty g c =
+    rw c.new.ensures (nothing_gives c.args.axis _ c.args.found.now c.args.env.now c.args.run.now (sym c.is_empty.ensures ∙ c.if-is_empty.true))
