@@ -1,3 +1,4 @@
+pub mod Held
 pub mod Arguments
 pub mod Distinct
 pub mod Keys

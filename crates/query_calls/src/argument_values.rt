@@ -1,15 +1,36 @@
 //! The values of arguments.
 
 ghost use Rattle.std.specs.Prelude.{◌≡◌, ◌∷◌, ◌++◌, [], IfOk};
+ghost use Rattle.query_calls.specs.Held.{values_of};
 
 use evaluation::Sequence;
 use std::alloc::{AllocError, Global};
 use std::marker::Model;
+use std::slice;
 
 /// The value of each argument so far, from the left. Contracts see them as a list.
-#[derive(Drop)]
 pub(crate) struct Values {
-    values: Vec<Sequence>,
+    alloc: Global,
+    values: Held,
+}
+
+// By one call, whose contract is all that a caller's proof sees of it.
+impl Drop for Values {
+    fn drop(self) {
+        let Values {
+            alloc: _,
+            values: _,
+        } = self;
+    }
+}
+
+/// Values as they are held. That of the only argument takes no piece of memory, and most calls have one.
+#[derive(Drop)]
+enum Held {
+    /// One value.
+    Single(Sequence),
+    /// As many as there are.
+    Many(Vec<Sequence>),
 }
 
 impl Model for Values {
@@ -22,16 +43,24 @@ impl Model for Values {
 
     ghost coded = { coded_list (coded_list item.the_row.coded) };
 
-    ghost view = { λ v. v.values.items };
+    ghost use Rattle.query_calls.specs.Held.{values_of};
+
+    ghost view = { λ v. values_of v.values };
 }
 
 impl Values {
-    /// None, with room for so many. It fails where memory is refused.
+    /// None, with room for so many. It fails where memory is refused, which no value or one does not ask for.
     pub(crate) fn with_capacity(alloc: Global, count: usize) -> Result<Values, AllocError>
         ensures { IfOk result (λ values. values ≡ []) }
     {
+        let values = if count > 1 {
+            Vec::with_capacity(alloc, count)?
+        } else {
+            Vec::new(alloc)
+        };
         Ok(Values {
-            values: Vec::with_capacity(alloc, count)?,
+            alloc,
+            values: Held::Many(values),
         })
     }
 
@@ -39,15 +68,40 @@ impl Values {
     pub(crate) fn and(self, value: Sequence) -> Result<Values, AllocError>
         ensures { IfOk result (λ values. values ≡ self ++ value ∷ []) }
     {
-        let Values { mut values } = self;
-        values.push(value)?;
-        Ok(Values { values })
+        let Values { alloc, values } = self;
+        let values = with_value(alloc, values, value)?;
+        Ok(Values { alloc, values })
     }
 
     /// The values.
     pub(crate) fn as_slice(&self) -> &[Sequence]
         ensures { result.now ≡ self.now }
     {
-        &self.values
+        match &self.values {
+            Held::Single(value) => slice::from_ref(value),
+            Held::Many(values) => values.as_slice(),
+        }
+    }
+}
+
+/// Values, and one more. Where there was no room for more, the first is held alone.
+fn with_value(alloc: Global, values: Held, value: Sequence) -> Result<Held, AllocError>
+    ensures { IfOk result (λ held. values_of held ≡ values_of values ++ value ∷ []) }
+{
+    match values {
+        Held::Single(first) => {
+            let mut values = Vec::with_capacity(alloc, 2)?;
+            values.push(first)?;
+            values.push(value)?;
+            Ok(Held::Many(values))
+        }
+        Held::Many(values) => {
+            if values.is_empty() && values.capacity() == 0 {
+                return Ok(Held::Single(value));
+            }
+            let mut values = values;
+            values.push(value)?;
+            Ok(Held::Many(values))
+        }
     }
 }
