@@ -1,11 +1,10 @@
 //! Signs and operators between expressions.
 
-ghost use Rattle.std.specs.Prelude.{◌≡◌, List, Some, IfOk};
+ghost use Rattle.std.specs.Prelude.{◌≡◌, List, Some};
 ghost use Rattle.query_parts.specs.Gives.{Gives};
 ghost use Rattle.query_parts.specs.Operators.{operator_at};
 ghost use Rattle.query_rules.specs.Reads.{HasReader};
 ghost use Rattle.query_rules.specs.Parts as part;
-ghost use Rattle.query_grammar.specs.Grammar as grammar;
 ghost use Rattle.query_grammar.specs.Reader as read;
 ghost use Rattle.query_grammar.specs.Reading as reading;
 ghost use Rattle.query_grammar.specs.Words as table;
@@ -16,33 +15,12 @@ use held_values::beside;
 use query_grammar::{Binary, Expr, Operation, Sign};
 use query_parts::cursor::{REFUSED, at_level, goes_on, sign};
 use query_parts::lists::push;
+use query_parts::whole::{chain_of, signed_of};
 use query_parts::words::sign_of;
 use query_parts::{Looseness, Precedence};
 use query_tokens::{ParseFault, Tokens};
-use sqlite_items::{Boxed, Items};
-use std::alloc::{AllocError, Global};
-
-/// An expression that no operator follows is itself. Fails where memory is refused.
-fn chain_of(alloc: Global, first: Expr, others: Items<Operation<Expr>>) -> Result<Expr, AllocError>
-    ensures { IfOk result (λ x. x ≡ grammar.chain_of first others) }
-{
-    if others.is_empty() {
-        Ok(first)
-    } else {
-        Ok(Expr::Chain(Boxed::new(alloc, first)?, others))
-    }
-}
-
-/// An expression without signs is itself. Fails where memory is refused.
-fn signed_of(alloc: Global, signs: Items<Sign>, operand: Expr) -> Result<Expr, AllocError>
-    ensures { IfOk result (λ x. x ≡ grammar.signed_of signs operand) }
-{
-    if signs.is_empty() {
-        Ok(operand)
-    } else {
-        Ok(Expr::Signed(signs, Boxed::new(alloc, operand)?))
-    }
-}
+use sqlite_items::Items;
+use std::alloc::Global;
 
 #[tactic(auto, unfolding(query_grammar::specs::Reader::sees_sign))]
 fn sees_sign(tokens: &Tokens) -> bool

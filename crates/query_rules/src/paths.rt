@@ -1,11 +1,9 @@
 //! Paths (XQuery 1.0, section 3.2).
 
-ghost use Rattle.std.specs.Prelude.{◌≡◌, IfOk};
 ghost use Rattle.query_parts.specs.Gives.{Gives, GivesAs};
 ghost use Rattle.query_parts.specs.Steps.{as_step};
 ghost use Rattle.query_rules.specs.Reads.{HasReader};
 ghost use Rattle.query_rules.specs.Parts as part;
-ghost use Rattle.query_grammar.specs.Grammar as grammar;
 ghost use Rattle.query_grammar.specs.Reader as read;
 
 use crate::primaries::sees_primary;
@@ -17,20 +15,10 @@ use query_parts::cursor::{at_level, eat};
 use query_parts::held::followed;
 use query_parts::lists::{append, push};
 use query_parts::steps::{Step, axis_step, slash, step_of, steps_of};
+use query_parts::whole::path_of;
 use query_tokens::{Kind, ParseFault, Tokens};
-use sqlite_items::{Boxed, Items};
-use std::alloc::{AllocError, Global};
-
-/// An expression that no step follows is itself. Fails where memory is refused.
-fn path_of(alloc: Global, first: Expr, others: Items<Expr>) -> Result<Expr, AllocError>
-    ensures { IfOk result (λ x. x ≡ grammar.path_of first others) }
-{
-    if others.is_empty() {
-        Ok(first)
-    } else {
-        Ok(Expr::Path(Boxed::new(alloc, first)?, others))
-    }
-}
+use sqlite_items::Items;
+use std::alloc::Global;
 
 impl<F: Fn(Global, u8, &mut Tokens, usize) -> Result<Expr, ParseFault>> Rules<F> {
     #[tactic(auto, unfolding(query_grammar::specs::Reader::predicate))]

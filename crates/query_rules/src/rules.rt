@@ -4,7 +4,6 @@ ghost use Rattle.std.specs.Prelude.{◌≡◌, ◌∷◌, IfOk};
 ghost use Rattle.query_parts.specs.Gives.{Gives};
 ghost use Rattle.query_rules.specs.Reads.{HasReader};
 ghost use Rattle.query_rules.specs.Parts as part;
-ghost use Rattle.query_grammar.specs.Grammar as grammar;
 ghost use Rattle.query_grammar.specs.Reader as read;
 
 use held_values::beside;
@@ -12,6 +11,7 @@ use query_grammar::Expr;
 use query_parts::Looseness;
 use query_parts::cursor::{at_level, eat};
 use query_parts::lists::{one, push};
+use query_parts::whole::of_list;
 use query_tokens::{Kind, ParseFault, Tokens};
 use sqlite_items::Items;
 use std::alloc::{AllocError, Global};
@@ -38,17 +38,6 @@ pub(crate) fn with_first<T: Drop>(
     let mut all = one(alloc, first)?;
     all.append(others)?;
     Ok(all)
-}
-
-/// One expression is itself; none or more are a sequence.
-fn of_list(mut xs: Items<Expr>) -> Expr
-    ensures { result ≡ grammar.of_list xs }
-{
-    if xs.len() == 1 {
-        xs.remove(0)
-    } else {
-        Expr::Sequence(xs)
-    }
 }
 
 impl<F: Fn(Global, u8, &mut Tokens, usize) -> Result<Expr, ParseFault>> Rules<F> {
