@@ -5,8 +5,10 @@ ghost use Rattle.std.specs.Thread.{IsSend, IsSync};
 use super::asking::{LEVEL, RowReader};
 use super::calls::{applied_text, publish, submit_numbered};
 use super::submitting::RowSite;
-use published::{Opening, ReadFault};
+use applications::Application;
+use published::{Opening, ReadFault, Reader};
 use rows::{RowFault, Words};
+use sessions::State;
 use sight::Naming;
 use std::alloc::{AllocError, Global};
 use std::sync::Wait;
@@ -24,8 +26,8 @@ struct Load {
 
 /// A reader, and how often it has answered.
 #[derive(Drop)]
-struct Asked<J: Naming + Opening> {
-    reader: RowReader<J>,
+struct Asked<A: Application + Drop, J: Naming + Opening> {
+    reader: Reader<A, J>,
     answers: Result<u64, RowFault>,
 }
 
@@ -62,7 +64,7 @@ pub(super) fn kept_busy<J: Naming + Opening + Send + Sync, R: Threads + Wait + S
     let question = question.as_str();
     let (asked, taken) = join(
         rt,
-        || -> Result<Vec<Asked<J>>, AllocError>
+        || -> Result<Vec<Asked<State, J>>, AllocError>
             requires { IsSync R.row × IsSend J.row × IsSync J.row }
         { ask_all(rt, alloc, theirs, (count, question), &left) },
         || take_on(rt, alloc, site, &load, rate, &left),
@@ -81,26 +83,30 @@ fn load_of(alloc: Global, words: &mut Words<'_>) -> Result<Load, RowFault> {
 }
 
 /// Has each reader answer a question so many times, in a thread of its own.
-fn ask_all<J: Naming + Opening + Send + Sync, R: Threads + Sync>(
+fn ask_all<
+    A: Application + Drop + Send + Sync,
+    J: Naming + Opening + Send + Sync,
+    R: Threads + Sync,
+>(
     rt: &R,
     alloc: Global,
-    readers: Vec<RowReader<J>>,
+    readers: Vec<Reader<A, J>>,
     (count, question): (u64, &str),
     left: &AtomicU64,
-) -> Result<Vec<Asked<J>>, AllocError> {
-    let part = |reader: RowReader<J>| -> Asked<J> {
+) -> Result<Vec<Asked<A, J>>, AllocError> {
+    let part = |reader: Reader<A, J>| -> Asked<A, J> {
         ask_often(alloc, reader, (count, question), left)
     };
     map_vec(rt, readers, &part)
 }
 
 /// Has a reader answer a question so many times, and says that it is done.
-fn ask_often<J: Naming + Opening>(
+fn ask_often<A: Application + Drop, J: Naming + Opening>(
     alloc: Global,
-    reader: RowReader<J>,
+    reader: Reader<A, J>,
     (count, question): (u64, &str),
     left: &AtomicU64,
-) -> Asked<J> {
+) -> Asked<A, J> {
     let mut reader = reader;
     let answers = ask_times(alloc, &mut reader, count, question);
     left.fetch_sub(1, Ordering::SeqCst);
@@ -108,9 +114,9 @@ fn ask_often<J: Naming + Opening>(
 }
 
 /// Has a reader answer a question so many times. Faults: `NotARow` where it refuses the question, and `Memory`.
-fn ask_times<J: Naming + Opening>(
+fn ask_times<A: Application + Drop, J: Naming + Opening>(
     alloc: Global,
-    reader: &mut RowReader<J>,
+    reader: &mut Reader<A, J>,
     count: u64,
     question: &str,
 ) -> Result<u64, RowFault> {
@@ -162,7 +168,7 @@ fn wait_for<R: Clock>(rt: &R, start: Instant, number: u64, rate: u64) {
 fn total_text<J: Naming + Opening>(
     alloc: Global,
     readers: &mut Vec<RowReader<J>>,
-    asked: Vec<Asked<J>>,
+    asked: Vec<Asked<State, J>>,
 ) -> Result<String, RowFault> {
     let mut total: u64 = 0;
     for one in asked {

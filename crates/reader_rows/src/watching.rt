@@ -5,9 +5,11 @@ ghost use Rattle.std.specs.Thread.{IsSend, IsSync};
 use super::asking::{LEVEL, RowReader, text_of};
 use super::calls::submit_numbered;
 use super::submitting::RowSite;
+use applications::Application;
 use node::{NodeFault, Reading};
-use published::{Opening, ReadFault};
+use published::{Opening, ReadFault, Reader};
 use rows::{RowFault, Words};
+use sessions::State;
 use sight::Naming;
 use std::alloc::{AllocError, Global};
 use std::collections::HashMap;
@@ -52,8 +54,8 @@ struct Taken {
 
 /// A reader, and its answers, each with how many values it is over, but those that were like the one before.
 #[derive(Drop)]
-struct Saw<J: Naming + Opening> {
-    reader: RowReader<J>,
+struct Saw<A: Application + Drop, J: Naming + Opening> {
+    reader: Reader<A, J>,
     answers: Result<Vec<(u64, String)>, RowFault>,
 }
 
@@ -78,7 +80,7 @@ pub(super) fn watched<J: Naming + Opening + Send + Sync, R: Threads + Wait + Syn
     let question = work.question.as_str();
     let (saw, taken) = join(
         rt,
-        || -> Result<Vec<Saw<J>>, AllocError>
+        || -> Result<Vec<Saw<State, J>>, AllocError>
             requires { IsSync R.row × IsSend J.row × IsSync J.row }
         { watch_all(rt, alloc, theirs, question, &watch) },
         || take_all(rt, alloc, site, &work, &watch, count),
@@ -100,24 +102,28 @@ fn work_of(alloc: Global, words: &mut Words<'_>) -> Result<Work, RowFault> {
 }
 
 /// Has each reader ask in a thread of its own, as [`watch_with`] does.
-fn watch_all<J: Naming + Opening + Send + Sync, R: Threads + Sync>(
+fn watch_all<
+    A: Application + Drop + Send + Sync,
+    J: Naming + Opening + Send + Sync,
+    R: Threads + Sync,
+>(
     rt: &R,
     alloc: Global,
-    readers: Vec<RowReader<J>>,
+    readers: Vec<Reader<A, J>>,
     question: &str,
     watch: &Watch,
-) -> Result<Vec<Saw<J>>, AllocError> {
-    let part = |reader: RowReader<J>| -> Saw<J> { watch_with(alloc, reader, question, watch) };
+) -> Result<Vec<Saw<A, J>>, AllocError> {
+    let part = |reader: Reader<A, J>| -> Saw<A, J> { watch_with(alloc, reader, question, watch) };
     map_vec(rt, readers, &part)
 }
 
 /// Has a reader ask until it has answered over all that is shown at the end.
-fn watch_with<J: Naming + Opening>(
+fn watch_with<A: Application + Drop, J: Naming + Opening>(
     alloc: Global,
-    reader: RowReader<J>,
+    reader: Reader<A, J>,
     question: &str,
     watch: &Watch,
-) -> Saw<J> {
+) -> Saw<A, J> {
     let mut reader = reader;
     let answers = answers_of(alloc, &mut reader, question, watch);
     if answers.is_err() {
@@ -128,9 +134,9 @@ fn watch_with<J: Naming + Opening>(
 
 /// A reader's answers until the end. Faults: `NotARow` where it refuses the question; `Memory`, also where it is shown no more before the end comes:
 /// then memory was refused for the threads, and the site has no turn before its readers end.
-fn answers_of<J: Naming + Opening>(
+fn answers_of<A: Application + Drop, J: Naming + Opening>(
     alloc: Global,
-    reader: &mut RowReader<J>,
+    reader: &mut Reader<A, J>,
     question: &str,
     watch: &Watch,
 ) -> Result<Vec<(u64, String)>, RowFault> {
@@ -157,9 +163,9 @@ fn answers_of<J: Naming + Opening>(
 }
 
 /// A reader's answer, and how many values it is over.
-fn answer_of<J: Naming + Opening>(
+fn answer_of<A: Application + Drop, J: Naming + Opening>(
     alloc: Global,
-    reader: &mut RowReader<J>,
+    reader: &mut Reader<A, J>,
     question: &str,
 ) -> Result<(String, u64), RowFault> {
     match reader.ask(alloc, LEVEL, question) {
@@ -279,7 +285,7 @@ fn have_begun(watch: &Watch, readers: u64) -> bool {
 fn outcome_text<J: Naming + Opening>(
     alloc: Global,
     readers: &mut Vec<RowReader<J>>,
-    saw: Vec<Saw<J>>,
+    saw: Vec<Saw<State, J>>,
     taken: &Taken,
 ) -> Result<String, RowFault> {
     let mut out = String::new(alloc);
