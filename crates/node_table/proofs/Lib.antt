@@ -20,3 +20,5 @@ pub mod Ordered
 pub mod Numbers
 pub mod Listings
 pub mod Ups
+pub mod InPlace
+pub mod Views

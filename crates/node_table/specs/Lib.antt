@@ -5,3 +5,5 @@ pub mod Named
 pub mod Rows
 pub mod Labels
 pub mod Plans
+pub mod Plain
+pub mod Cursors

@@ -4,12 +4,14 @@
 #![tactic(auto)]
 
 pub mod copy;
+pub mod cursor;
 pub mod exchange;
 pub mod label;
 pub mod laws;
 pub mod list;
 pub mod name;
 pub mod order;
+pub mod plain;
 pub mod plant;
 pub mod table;
 pub mod tree;

@@ -6,6 +6,7 @@ ghost use Rattle.std.specs.Map.{keys_of};
 ghost use Rattle.std.specs.Option.{option_copied_mut};
 ghost use Rattle.row_pages.specs.Rows.{entries, spare, get, Changes};
 
+use super::cursor::Cursor;
 use super::index::{add_key, append, remove_key, shrink_list};
 use super::pages::{Pages, number, shrink_pages};
 use std::alloc::{AllocError, Global};
@@ -83,6 +84,13 @@ impl<V: Drop> RowPages<V> {
     {
         let at = number(&self.pages, key) as usize - 1;
         &self.values[at]
+    }
+
+    /// What looks values up one after the other.
+    pub fn cursor(&self) -> Cursor<'_, V>
+        ensures { result ≡ self.now }
+    {
+        Cursor::new(&self.pages, &self.keys, &self.values)
     }
 
     /// Whether a key has a value.

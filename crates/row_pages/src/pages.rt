@@ -3,6 +3,7 @@
 ghost use Rattle.std.specs.Prelude.{◌≡◌, ◌≢◌, ◌≤◌, ◌<◌, ◌+◌, ◌^◌, ℕ, ◌/◌, true, false, set, get_or};
 ghost use Rattle.std.specs.HashMap.{spare};
 ghost use Rattle.row_pages.specs.Pages.{number_of, HasPage};
+ghost use Rattle.row_pages.specs.AtHand.{IsAtHand};
 
 use std::collections::HashMap;
 
@@ -16,6 +17,32 @@ pub(super) fn number(pages: &Pages, key: u64) -> u32
     match pages.get(&(key / 16)) {
         Some(page) => page[(key % 16) as usize],
         None => 0,
+    }
+}
+
+/// The page that was read last, with its number; none before the first.
+#[derive(Clone, Copy)]
+pub(super) struct AtHand<'m> {
+    pub(super) at: u64,
+    pub(super) page: Option<&'m [u32; 16]>,
+}
+
+/// The number of a key, 0 for none, read off the page at hand, where that is the key's.
+pub(super) fn number_by<'m>(pages: &'m Pages, at_hand: &mut AtHand<'m>, key: u64) -> u32
+    requires { IsAtHand pages.now at_hand.old }
+    ensures number { result ≡ number_of pages.now key }
+    ensures at_hand { IsAtHand pages.now at_hand.new }
+{
+    match at_hand.page {
+        Some(page) if at_hand.at == key / 16 => page[(key % 16) as usize],
+        _ => match pages.get(&(key / 16)) {
+            Some(page) => {
+                at_hand.at = key / 16;
+                at_hand.page = Some(page);
+                page[(key % 16) as usize]
+            }
+            None => 0,
+        },
     }
 }
 

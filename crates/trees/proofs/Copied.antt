@@ -1,5 +1,5 @@
 -- A forest with a copy of a tree.
-use Rattle.std.proofs.Common.{◌≡◌, ℕ, ◌+◌, ◌≤◌, ◌<◌, [], ◌∷◌, refl, sym, arith, ⊎_elim, Option, Some, None, IsSome, subst, leb, IsTrue, ◌-◌}
+use Rattle.std.proofs.Common.{◌≡◌, ℕ, ◌+◌, ◌≤◌, ◌<◌, [], ◌∷◌, refl, sym, arith, ⊎_elim, Option, Some, None, IsSome, subst, leb, IsTrue, ◌-◌, ◌∙◌}
 use Rattle.std.proofs.lemmas.Bool.{cases_lt}
 use Rattle.std.proofs.lemmas.Bool.Decides.{nat_tests}
 use Rattle.data_model.specs.Trees.{Trees, no_trees, tree, append, roots, count, size, find}
@@ -23,6 +23,13 @@ module _ (a : Inside) (v : ForestTerm) (is : term_of a ≡ v) (h : IsSound a) (k
 
   pub own-read : read_trees a.next (table_of a.rows) (k ∷ []) ≡ pick k v.trees
   own-read = (forest-copies (table_of a.rows) a.next (omega arith) (λ i l. refl)).read
+
+  -- one level more is no more
+  pub deep-read : read_trees (a.next + 1) (table_of a.rows) (k ∷ []) ≡ pick k v.trees
+  deep-read = (forest-copies (table_of a.rows) (a.next + 1) (omega arith) (λ i l. refl)).read
+
+  pub stands-below : k < a.next
+  stands-below = ⊎_elim (λ l. l) (λ l. (let none = (now-table a v is h).above k l in let e = entry-k.1 in absurd (let z : None ≡ Some entry-k.0 = sym none ∙ e in cc))) (cases_lt k a.next)
 
   pub own-root : roots (pick k v.trees) ≡ k ∷ []
   own-root = (forest-copies (table_of a.rows) a.next (omega arith) (λ i l. refl)).root

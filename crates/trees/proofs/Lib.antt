@@ -10,6 +10,5 @@ pub mod Nests
 pub mod Planted
 pub mod Rising
 pub mod Numbered
-pub mod Views
 pub mod Drafts
 pub mod Undone

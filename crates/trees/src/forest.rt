@@ -3,15 +3,16 @@
 ghost use Rattle.std.specs.Prelude.{◌≡◌, ℕ, List, ◌+◌, ◌<◌, ◌≤◌, ◌^◌, ◌↔◌, ◌-◌, Option, Some, None, IfOk, OnOk, IfSome, IfNone, IsSome, [], true, ◌∷◌, ◌++◌, is_some, string_bytes, IsTrue, option_map};
 ghost use Rattle.std.specs.Map.{lookup};
 ghost use Rattle.std.specs.Str.{bytes_eq};
-ghost use Rattle.data_model.specs.Trees.{no_trees, append, leaf, find, bytes_in, count, size, children_of, attributes_of, parent_of, string_value_of, text_within, is_text, IsAt};
+ghost use Rattle.data_model.specs.Trees.{no_trees, append, leaf, find, bytes_in, count, size, children_of, attributes_of, parent_of, string_value_of, text_within, IsAt};
 ghost use Rattle.data_model.specs.Changes.{pick};
 ghost use Rattle.data_model.specs.Axes.{is_in};
 ghost use Rattle.data_model.specs.declared.node.Kind.TheVariants.{Document, Element};
 ghost use Rattle.trees.specs.Forest.{ForestTerm, IsForest, IsDocument, document_node, opening_forest};
 ghost use Rattle.data_model.specs.Views.{Views};
 ghost use Rattle.data_model.specs.Tree.{trees_of_tree};
-ghost use Rattle.node_table.specs.Flat.{Entry, entry_in};
-ghost use Rattle.node_table.specs.Rows.{entry_of_row, table_of};
+ghost use Rattle.node_table.specs.Flat.{entry_in};
+ghost use Rattle.node_table.specs.Plain.{IsPlainValue};
+ghost use Rattle.node_table.specs.Rows.{entry_of_row};
 ghost use Rattle.forest_index.specs.Named.{IsElement};
 ghost use Rattle.forest_index.specs.Sized.{size_at};
 ghost use Rattle.trees.specs.Drafted.{draft_of, IsDrafted};
@@ -23,8 +24,10 @@ use forest_index::ForestIndex;
 use forest_index::name_lists::NameLists;
 use indexmap::IndexMap;
 use node_plans::plan::Plan;
+use node_table::cursor::NodeCursor;
+use node_table::plain::PlainValue;
 use node_table::table::{Row, Rows};
-use node_table::{name, tree, walk};
+use node_table::{name, plain, tree, walk};
 use row_pages::RowPages;
 use std::alloc::{AllocError, Global};
 use std::marker::Model;
@@ -252,6 +255,13 @@ impl Forest {
         }
     }
 
+    /// What looks nodes up one after the other.
+    pub fn cursor(&self) -> NodeCursor<'_>
+        ensures { result ≡ self.now.trees }
+    {
+        NodeCursor::new(&self.rows, self.next)
+    }
+
     /// The kind of a node.
     pub fn kind(&self, id: NodeId) -> Kind
         requires { IsSome (find id self.now.trees) }
@@ -300,22 +310,14 @@ impl Forest {
         self.row(id).attributes.as_slice()
     }
 
-    /// The string value of a node where it stands in one text (XQuery 1.0 and XPath 2.0 Data Model, section 5.13): that of an attribute, a
-    /// text, a comment or an instruction, of a node with no children, and of one whose only child is a text. `None` elsewhere, where it would have
-    /// to be put together (no clause here says where). It takes no memory.
-    pub fn value_in_place(&self, id: NodeId) -> Option<&str>
+    /// What the typed value of a node is made of, where its string value (XQuery 1.0 and XPath 2.0 Data Model, section 5.13) stands in one text:
+    /// that of an attribute, a text, a comment or an instruction, of a node with no children, and of one whose only child is a text. `None` elsewhere,
+    /// where it would have to be put together (no clause here says where). It takes no memory.
+    pub fn plain_value(&self, id: NodeId) -> Option<PlainValue<'_>>
         requires { IsSome (find id self.now.trees) }
-        ensures { IfSome result (λ s. s.now ≡ string_value_of id self.now.trees) }
+        ensures { IfSome result (IsPlainValue self.now.trees id) }
     {
-        let row = self.row(id);
-        if !row.kind.is_inner() {
-            return Some(row.text.as_str());
-        }
-        match row.children.as_slice() {
-            [] => Some(""),
-            [only] => text_at(&self.rows, *only),
-            _ => None,
-        }
+        plain::plain_value(&self.rows, id, self.next)
     }
 
     /// The string value of a node (XQuery 1.0 and XPath 2.0 Data Model, section 5.13).
@@ -412,15 +414,5 @@ impl Forest {
     {
         let mut trees = tree::trees_of(&self.rows, alloc, &[id], self.next)?;
         Ok(trees.remove(0))
-    }
-}
-
-/// The text of a node of the kind of texts; `None` of another kind, and where no node stands.
-fn text_at(rows: &Rows, id: NodeId) -> Option<&str>
-    ensures { IfSome result (λ s. (e : Entry) × (table_of rows.now id ≡ Some e) × (is_text e.kind ≡ true) × (e.text ≡ s.now)) }
-{
-    match rows.get(id.number()) {
-        Some(row) if row.kind.is_text() => Some(row.text.as_str()),
-        _ => None,
     }
 }

@@ -13,4 +13,6 @@ mod undo;
 pub use data_model::{Axis, Content, Kind, NodeId, NodeView, Tree};
 pub use draft::{Draft, Prepared};
 pub use forest::{Forest, MakeFault};
+pub use node_table::cursor::{NodeCursor, NodeName};
+pub use node_table::plain::PlainValue;
 pub use undo::Undo;

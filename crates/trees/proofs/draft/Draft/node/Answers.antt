@@ -4,7 +4,7 @@ use Rattle.node_table.specs.Rows.{entry_of_row}
 use Rattle.node_table.specs.declared.table.Row.{Row}
 use Rattle.std.proofs.Common.{Some, None, Bor}
 use Rattle.trees.proofs.Drafts.{row-is}
-use Rattle.trees.proofs.Views.{view-entry, view-none}
+use Rattle.node_table.proofs.Views.{view-entry, view-none}
 use Rattle.trees.proofs.draft.Draft.node.Goals as goal
 
 pub returns-in-Some : goal.returns-in-Some

@@ -3,7 +3,7 @@ use Rattle.data_model.specs.Trees.{find}
 use Rattle.node_table.specs.Rows.{entry_of_row}
 use Rattle.trees.proofs.Forests.{entry-is}
 use Rattle.node_table.proofs.Rows.{row-entry, row-none}
-use Rattle.trees.proofs.Views.{view-entry, view-none}
+use Rattle.node_table.proofs.Views.{view-entry, view-none}
 use Rattle.trees.proofs.forest.Forest.node.Goals as goal
 
 pub returns-in-Some : goal.returns-in-Some

@@ -5,7 +5,7 @@ use Rattle.node_table.proofs.Rows.{row-entry, row-none}
 use Rattle.trees.specs.Undo.{UndoTerm}
 use Rattle.trees.specs.Settled.{changed_forest}
 use Rattle.trees.proofs.Forests.{entry-is}
-use Rattle.trees.proofs.Views.{view-entry, view-none}
+use Rattle.node_table.proofs.Views.{view-entry, view-none}
 use Rattle.trees.proofs.undo.Undo.node.Goals as goal
 
 pub returns-in-Some : goal.returns-in-Some

@@ -1,0 +1,77 @@
+//! Values of nodes that stand in one text.
+
+ghost use Rattle.std.specs.Prelude.{◌≡◌, ◌≤◌, ◌<◌, ◌+◌, ◌^◌, ◌∷◌, [], true, Some, IfSome};
+ghost use Rattle.data_model.specs.Trees.{size, is_text};
+ghost use Rattle.node_table.specs.Flat.{Entry, read_trees};
+ghost use Rattle.node_table.specs.Plain.{IsPlain, IsTextBelow, IsLeafText};
+ghost use Rattle.node_table.specs.Rows.{table_of, entry_of_row};
+
+use super::table::{Row, Rows};
+use super::walk::count;
+use data_model::{Kind, NodeId};
+use row_pages::Cursor;
+
+/// What the typed value of a node is made of, where its string value stands in one text.
+#[derive(Clone, Copy)]
+pub struct PlainValue<'r> {
+    /// The node's kind.
+    pub kind: Kind,
+    /// Its string value.
+    pub text: &'r str,
+    /// How many nodes its tree has, itself and attributes counted.
+    pub size: u64,
+}
+
+/// The text below a row, and how many nodes stand among its children.
+#[derive(Clone, Copy)]
+struct TextBelow<'r> {
+    text: &'r str,
+    nodes: u64,
+}
+
+/// What the value of a node is made of, where it stands in one text: that of an attribute, a text, a comment or an instruction, of a node with
+/// no children, and of one whose only child is a text. `None` elsewhere, and where there is no row. The tree is read so many levels down.
+pub fn plain_value(rows: &Rows, id: NodeId, levels: u64) -> Option<PlainValue<'_>>
+    requires deep { 1 ≤ levels }
+    requires few { size (read_trees (levels + 1) (table_of rows.now) (id ∷ [])) < 2 ^ 64 }
+    ensures { IfSome result (IsPlain (table_of rows.now) levels id) }
+{
+    let mut cursor = rows.cursor();
+    let row = cursor.seek(id.number())?;
+    let below = text_below(&mut cursor, row)?;
+    Some(PlainValue {
+        kind: row.kind,
+        text: below.text,
+        size: 1 + count(rows, &row.attributes, levels) + below.nodes,
+    })
+}
+
+/// The string value of a row, where it stands in one text, and how many nodes stand below its children, these counted.
+fn text_below<'r>(cursor: &mut Cursor<'r, Row>, row: &'r Row) -> Option<TextBelow<'r>>
+    ensures { IfSome result (IsTextBelow (table_of cursor.old) (entry_of_row row.now)) }
+{
+    match row.children.as_slice() {
+        [] if row.kind.is_inner() => Some(TextBelow { text: "", nodes: 0 }),
+        [] => Some(TextBelow {
+            text: row.text.as_str(),
+            nodes: 0,
+        }),
+        [only] if row.kind.is_inner() => Some(TextBelow {
+            text: leaf_text(cursor, *only)?,
+            nodes: 1,
+        }),
+        _ => None,
+    }
+}
+
+/// The text of a node of the kind of texts with nothing below it; `None` of another one, and where there is no row.
+fn leaf_text<'r>(cursor: &mut Cursor<'r, Row>, id: NodeId) -> Option<&'r str>
+    ensures { IfSome result (λ s. IsLeafText (table_of cursor.old) id s.now) }
+{
+    let row = cursor.seek(id.number())?;
+    if row.kind.is_text() && row.attributes.is_empty() && row.children.is_empty() {
+        Some(row.text.as_str())
+    } else {
+        None
+    }
+}
