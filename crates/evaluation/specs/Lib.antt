@@ -7,3 +7,4 @@ pub mod Gives
 pub mod Held
 pub mod Linked
 pub mod Within
+pub mod Kept

@@ -3,10 +3,12 @@
 //! Contracts see them as the run, the environment and the items of the definition of what expressions mean.
 #![tactic(auto)]
 
+mod atoms;
 mod environment;
 mod run;
 mod sequence;
 
+pub use atoms::Atoms;
 pub use environment::{Environment, KeptEnvironment, Variables};
 pub use run::Evaluation;
 pub use sequence::{MOST_ITEMS, Sequence};

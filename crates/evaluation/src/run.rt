@@ -16,6 +16,7 @@ ghost use Rattle.query_meaning.specs.Running.{Run, trees_of, adding, atom, atoms
 ghost use Rattle.evaluation.specs.Copying.{standing_copy};
 ghost use Rattle.evaluation.specs.Gives.{Any, Fails, GivesIn, Judged, Says, Stand, Turns};
 
+use crate::atoms::Atoms;
 use crate::environment::Variables;
 use crate::sequence::Sequence;
 use data_model::limits::MOST_NODES;
@@ -26,7 +27,9 @@ use std::alloc::{AllocError, Global};
 use std::marker::Model;
 use std::mem;
 use trees::{Forest, NodeId, Tree};
-use values::{Atom, Comparison, Item, ValueFault, atom_work, atomize_item, compare_general};
+use values::{
+    Atom, Comparison, Item, ValueFault, atom_work, atomize_item, compare_general, plain_atom,
+};
 
 /// The most turns in an evaluation (our own limit).
 const MOST_TURNS: u64 = 1_000_000;
@@ -201,7 +204,20 @@ impl<'a> Evaluation<'a> {
     /// The typed values of items, whose nodes stand. Each takes the work of the nodes that are walked for it, and of its text.
     ///
     /// Faults: `Memory`; `Code` with PXQ0002 where the string value of a node is longer than 65,536 bytes, or where less work is left.
-    pub fn atoms(&mut self, items: &Sequence) -> Result<Vec<Atom>, ValueFault>
+    pub fn atoms(&mut self, items: &Sequence) -> Result<Atoms, ValueFault>
+        requires stand { Stand items.now self.old }
+        ensures ok { IfOk result (λ v. atoms items.now self.old ≡ Ok (v.items, self.new)) }
+        ensures err { IfErr result (λ fault. Fails (atoms items.now self.old) fault) }
+        ensures same { self.new ≡ record self.old { work = self.new.work } }
+    {
+        match items.as_slice() {
+            [item] => Ok(Atoms::one(self.atom(item)?)),
+            _ => Ok(Atoms::of(self.atom_list(items)?)),
+        }
+    }
+
+    /// The same, in a list that more can be appended to.
+    pub fn atom_list(&mut self, items: &Sequence) -> Result<Vec<Atom>, ValueFault>
         requires stand { Stand items.now self.old }
         ensures ok { IfOk result (λ v. atoms items.now self.old ≡ Ok (v.items, self.new)) }
         ensures err { IfErr result (λ fault. Fails (atoms items.now self.old) fault) }
@@ -216,6 +232,29 @@ impl<'a> Evaluation<'a> {
 
     /// The typed value of one item, with the same work and the same faults.
     fn atom(&mut self, item: &Item) -> Result<Atom, ValueFault>
+        requires there { IsThere (trees_of self.old) item.now }
+        ensures given { GivesIn Any (atom item.now) self.old result self.new }
+        ensures same { self.new ≡ record self.old { work = self.new.work } }
+        ensures judged { Judged (work (nodes_of (trees_of self.old) item.now) self.old) result }
+    {
+        if let Item::Node(id) = item {
+            if let Some(plain) = self.shelf.plain_value(*id) {
+                // What stands in one text is read by the look-ups that count its nodes too.
+                let nodes = plain.size;
+                if self.work < nodes {
+                    return Err(ValueFault::Code(Code::PXQ0002));
+                }
+                let atom = plain_atom(self.alloc, plain)?;
+                self.spend(nodes)?;
+                self.spend(atom_work(&atom))?;
+                return Ok(atom);
+            }
+        }
+        self.gathered_atom(item)
+    }
+
+    /// The same, whatever the item is.
+    fn gathered_atom(&mut self, item: &Item) -> Result<Atom, ValueFault>
         requires there { IsThere (trees_of self.old) item.now }
         ensures given { GivesIn Any (atom item.now) self.old result self.new }
         ensures same { self.new ≡ record self.old { work = self.new.work } }

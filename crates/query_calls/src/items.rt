@@ -75,6 +75,6 @@ pub fn data(run: &mut Evaluation, items: &Sequence) -> Result<Sequence, ValueFau
 {
     // There are at most 10,000 of them.
     let _most = items.as_slice();
-    let values = run.atoms(items)?;
+    let values = run.atom_list(items)?;
     sequence_of(run.alloc(), values)
 }

@@ -231,7 +231,7 @@ fn and_argument(
         mut values,
         has_several,
     } = gathered;
-    let mut more = run.atoms(argument)?;
+    let mut more = run.atom_list(argument)?;
     let has_several = has_several || more.len() > 1;
     values.append(&mut more)?;
     Ok(ArgumentValues {

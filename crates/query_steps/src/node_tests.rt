@@ -7,7 +7,7 @@ ghost use Rattle.query_meaning.specs.Paths.{is_of_kind, is_principal, passes, pa
 
 use crate::listing::Listing;
 use query_grammar::{KindTest, NodeTest};
-use shelves::Shelf;
+use shelves::{Shelf, ShelfCursor};
 use std::alloc::{AllocError, Global};
 use trees::{Axis, Kind, NodeId};
 
@@ -59,6 +59,17 @@ pub(crate) fn passes_at(shelf: &Shelf, axis: Axis, test: &NodeTest, node: NodeId
     }
 }
 
+/// Whether a node that a cursor looks up passes it.
+fn is_passing(cursor: &mut ShelfCursor, axis: Axis, test: &NodeTest, node: NodeId) -> bool
+    ensures passes { result ≡ passes_at axis test.now (find node cursor.old) }
+    ensures same { cursor.new ≡ cursor.old }
+{
+    let Some(it) = cursor.name(node) else {
+        return false;
+    };
+    passes(axis, test, it.kind, it.name)
+}
+
 /// Adds a node where it passes the test. It fails where memory is refused; which nodes are listed then isn't said.
 pub(crate) fn add_passing(
     shelf: &Shelf,
@@ -70,7 +81,22 @@ pub(crate) fn add_passing(
     ensures { OnOk result
         (nodes.new.items ≡ nodes.old.items ++ filter (λ i. passes_at axis test.now (find i (shelf_trees shelf.now))) (node ∷ [])) }
 {
-    if passes_at(shelf, axis, test, node) {
+    add_passing_by(&mut shelf.cursor(), axis, test, node, nodes)
+}
+
+/// The same, of a node that a cursor looks up.
+fn add_passing_by(
+    cursor: &mut ShelfCursor,
+    axis: Axis,
+    test: &NodeTest,
+    node: NodeId,
+    nodes: &mut Vec<NodeId>,
+) -> Result<(), AllocError>
+    ensures added { OnOk result
+        (nodes.new.items ≡ nodes.old.items ++ filter (λ i. passes_at axis test.now (find i cursor.old)) (node ∷ [])) }
+    ensures same { cursor.new ≡ cursor.old }
+{
+    if is_passing(cursor, axis, test, node) {
         nodes.push(node)?;
     }
     Ok(())
@@ -89,8 +115,9 @@ pub(crate) fn passing(
     ensures looked { IfOk result (λ l. l.looked_at ≡ length nodes.now) }
 {
     let mut passing = Vec::new(alloc);
+    let mut cursor = shelf.cursor();
     for node in nodes {
-        add_passing(shelf, axis, test, *node, &mut passing)?;
+        add_passing_by(&mut cursor, axis, test, *node, &mut passing)?;
     }
     Ok(Listing {
         nodes: passing,

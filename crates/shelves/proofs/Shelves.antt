@@ -4,9 +4,12 @@ use Prim.Native.Nat.{suc}
 use Rattle.std.proofs.lemmas.List.{map-append}
 use Rattle.std.proofs.lemmas.List.Elements.{filter-append}
 use Rattle.std.proofs.lemmas.Bool.Decides.{eqb_tells}
-use Rattle.data_model.specs.Trees.{Trees, no_trees, tree, Content, Place, append, leaf, listing, count, size, find, first, parent_at, IsAt}
-use Rattle.data_model.specs.Changes.{all_moved_below, CanAllMoveBelow, ranked}
+use Rattle.data_model.specs.Trees.{Trees, no_trees, tree, Content, Place, value_at, append, leaf, listing, count, size, find, first, parent_at, IsAt}
+use Rattle.data_model.specs.Changes.{all_moved_below, CanAllMoveBelow, pick, ranked}
 use Rattle.data_model.specs.Planted.{past}
+use Rattle.node_table.specs.Plain.{IsPlainValue}
+use Rattle.node_table.specs.declared.plain.PlainValue.{PlainValue}
+use Rattle.shelves.specs.Parted.{IsParted}
 use Rattle.data_model.specs.Tree.{TreeTerm, trees_of_tree}
 use Rattle.data_model.specs.declared.node.Kind.TheVariants.{Document}
 use Rattle.data_model.specs.declared.node.Part.{Part}
@@ -63,6 +66,25 @@ document-both i ts us h =
 pub documents-both : (o : Option ℕ) (ts us : Trees) → IfSome o (IsDocument ts) → IfSome o (IsDocument (append ts us))
 documents-both None ts us h = h
 documents-both (Some i) ts us h = document-both i ts us h
+
+-- ---- what is said of a node that stands in both lists
+pub plain-same : (i : ℕ) (ts us : Trees) (v : PlainValue) → find i ts ≡ find i us → pick i ts ≡ pick i us → IsPlainValue ts i v → IsPlainValue us i v
+plain-same i ts us v same picked h =
+    let P : Option Place → Type 0 = λ o. IsAt o (λ c. v.kind ≡ c.kind) in
+    record { kind = subst P same h.kind; text = h.text ∙ ap value_at same; size = h.size ∙ ap size picked }
+
+-- ---- forests that a number parts
+pub parted-shelf : (s : ShelfTerm) → IsShelf s → IsParted s.lent.next s.lent.trees s.own.trees
+parted-shelf s h = record { below = h.lent.below; above = h.after.apart }
+
+module _ (n i : ℕ) (ts us : Trees) (h : IsParted n ts us) where
+  pub parted-lent : i < n → find i (append ts us) ≡ find i ts
+  parted-lent l =
+      let none : count i us ≡ 0 = ⊎_elim (λ t. (let m = h.above i t.1 in absurd (omega (arith, l, m)))) (λ t. t.1) (any-tells (count i us)) in
+      find-append None i ts us ∙ ap (first (find i ts)) (find-absent None i us none) ∙ first-none (find i ts)
+
+  pub parted-own : n ≤ i → find i (append ts us) ≡ find i us
+  parted-own l = find-own i ts us (⊎_elim (λ t. (let m = h.below i t.1 in absurd (omega (arith, l, m)))) (λ t. t.1) (any-tells (count i ts)))
 
 -- ---- document order
 listing-append : (ts us : Trees) → listing (append ts us) ≡ listing ts ++ listing us

@@ -1,7 +1,9 @@
 //! A lent forest and an own one seen as one: what evaluation makes stands beside the stored trees, which are never copied.
 #![tactic(auto)]
 
+mod cursor;
 pub mod laws;
 mod shelf;
 
+pub use cursor::ShelfCursor;
 pub use shelf::Shelf;

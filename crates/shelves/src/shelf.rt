@@ -10,14 +10,16 @@ ghost use Rattle.data_model.specs.declared.node.Part.TheVariants.{Attributes, Ch
 ghost use Rattle.data_model.specs.Order.{identities, precedes};
 ghost use Rattle.data_model.specs.Views.{Views};
 ghost use Rattle.data_model.specs.Axes.{is_in};
+ghost use Rattle.node_table.specs.Plain.{IsPlainValue};
 ghost use Rattle.trees.specs.Forest.{IsDocument};
 ghost use Rattle.shelves.specs.Shelf.{ShelfTerm, shelf_trees, ComesAfter, IsShelf};
 ghost use Rattle.data_model.specs.Tree.{trees_of_tree};
 
+use super::cursor::ShelfCursor;
 use std::alloc::{AllocError, Global};
 use std::marker::Model;
 use std::mem;
-use trees::{Forest, Kind, MakeFault, NodeId, NodeView, Tree};
+use trees::{Forest, Kind, MakeFault, NodeId, NodeView, PlainValue, Tree};
 
 /// A lent forest that stays as it is, and an own forest of the nodes that are made beside it, seen as one.
 ///
@@ -186,6 +188,18 @@ impl<'a> Shelf<'a> {
         self.home(id).node(id)
     }
 
+    /// What looks nodes up one after the other.
+    pub fn cursor(&self) -> ShelfCursor<'_>
+        ensures { result ≡ shelf_trees self.now }
+    {
+        self.facts();
+        ShelfCursor::new(
+            self.lent.cursor(),
+            self.own.cursor(),
+            self.lent.next().number(),
+        )
+    }
+
     /// The kind of a node.
     pub fn kind(&self, id: NodeId) -> Kind
         requires { IsSome (find id (shelf_trees self.now)) }
@@ -234,12 +248,16 @@ impl<'a> Shelf<'a> {
         self.home(id).attributes(id)
     }
 
-    /// The string value of a node where it stands in one text, as `Forest::value_in_place` gives it; `None` elsewhere. It takes no memory.
-    pub fn value_in_place(&self, id: NodeId) -> Option<&str>
+    /// What the typed value of a node is made of, where its string value stands in one text, as `Forest::plain_value` gives it; `None` elsewhere. It
+    /// takes no memory.
+    pub fn plain_value(&self, id: NodeId) -> Option<PlainValue<'_>>
         requires { IsSome (find id (shelf_trees self.now)) }
-        ensures { IfSome result (λ s. s.now ≡ string_value_of id (shelf_trees self.now)) }
+        ensures { IfSome result (IsPlainValue (shelf_trees self.now) id) }
     {
-        self.home(id).value_in_place(id)
+        self.facts();
+        let home = self.home(id);
+        home.facts();
+        home.plain_value(id)
     }
 
     /// The string value of a node (XQuery 1.0 and XPath 2.0 Data Model, section 5.13).

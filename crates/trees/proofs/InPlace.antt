@@ -1,6 +1,5 @@
 -- String values that stand in one text.
-use Prim.Native.Nat.{suc}
-use Rattle.std.proofs.Common.{◌≡◌, ℕ, ◌+◌, ap, sym, ◌∙◌, arith, [], ◌∷◌, Option, Some, None, IfSome, option_map}
+use Rattle.std.proofs.Common.{◌≡◌, ℕ, ◌+◌, ap, sym, ◌∙◌, [], ◌∷◌, Option, Some, None, IfSome, option_map}
 use Rattle.data_model.specs.Trees.{Place, find, size, IsAt}
 use Rattle.data_model.specs.Changes.{pick}
 use Rattle.data_model.specs.declared.node.Kind.{Kind}

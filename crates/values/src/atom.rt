@@ -5,7 +5,7 @@ ghost use Rattle.shelves.specs.Shelf.{shelf_trees};
 ghost use Rattle.data_model.specs.Trees.{find};
 ghost use Rattle.fault_codes.specs.declared.code.Code.{Code};
 ghost use Rattle.values.specs.declared.fault.ValueFault.{ValueFault};
-ghost use Rattle.values.specs.Atoms.{typed, typed_at, atom_of, atomized, atom_truth, truth};
+ghost use Rattle.values.specs.Atoms.{bounded, typed, typed_at, atom_of, atomized, atom_truth, truth};
 ghost use Rattle.values.specs.Items.{IsThere, AreThere};
 
 use super::fault::ValueFault;
@@ -14,7 +14,7 @@ use data_model::limits::MOST_BYTES;
 use fault_codes::Code;
 use shelves::Shelf;
 use std::alloc::Global;
-use trees::{Kind, NodeId};
+use trees::{Kind, NodeId, PlainValue};
 
 /// An atomic value, of one of the four types that there are (XQuery 1.0 and XPath 2.0 Data Model, section 2.7).
 #[derive(Clone, Drop)]
@@ -70,12 +70,21 @@ fn typed_value(alloc: Global, shelf: &Shelf, id: NodeId) -> Result<Atom, ValueFa
     ensures atom { IfOk result (λ a. typed_at (find id (shelf_trees shelf.now)) ≡ Ok a) }
     ensures code { IfErr result (λ fault. (code : Code) → fault ≡ ValueFault.Code code → typed_at (find id (shelf_trees shelf.now)) ≡ Err code) }
 {
-    match shelf.value_in_place(id) {
-        Some(text) if text.len() <= MOST_BYTES => {
-            Ok(typed(shelf.kind(id), Text::of(alloc, text)?))
-        }
-        _ => gathered_value(alloc, shelf, id),
+    match shelf.plain_value(id) {
+        Some(plain) => plain_atom(alloc, plain),
+        None => gathered_value(alloc, shelf, id),
     }
+}
+
+/// The typed value of a node whose string value stands in one text. Faults: `Memory`; `Code` with PXQ0002 where it is longer than 65,536 bytes.
+pub fn plain_atom(alloc: Global, plain: PlainValue) -> Result<Atom, ValueFault>
+    ensures atom { IfOk result (λ a. bounded plain.kind plain.text.now ≡ Ok a) }
+    ensures code { IfErr result (λ fault. (code : Code) → fault ≡ ValueFault.Code code → bounded plain.kind plain.text.now ≡ Err code) }
+{
+    if plain.text.len() > MOST_BYTES {
+        return Err(Code::PXQ0002.into());
+    }
+    Ok(typed(plain.kind, Text::of(alloc, plain.text)?))
 }
 
 /// The typed value of a node, whose string value is put together first, with the same faults.

@@ -1,6 +1,6 @@
 //! Comparisons of atomic values (XQuery 1.0, section 3.5).
 
-ghost use Rattle.std.specs.Prelude.{◌≡◌, ◌-◌, ◌&&◌, nat_le, if◌then◌else◌, Ok, Err, IfOk, IfErr, OnOk, map, take};
+ghost use Rattle.std.specs.Prelude.{◌≡◌, ◌-◌, ◌&&◌, ◌∷◌, [], nat_le, if◌then◌else◌, Ok, Err, IfOk, IfErr, OnOk, map, take};
 ghost use Rattle.std.specs.List.{sum};
 ghost use Rattle.fault_codes.specs.declared.code.Code.{Code};
 ghost use Rattle.values.specs.declared.fault.ValueFault.{ValueFault};
@@ -13,6 +13,7 @@ use super::operand::{Operand, Types, operands};
 use fault_codes::Code;
 use std::alloc::Global;
 use std::cmp::Ordering;
+use std::slice;
 
 /// The comparisons that value comparisons (`eq`, `ne`, ..) and general comparisons (`=`, `!=`, ..) make.
 #[derive(Clone, Copy, PartialEq, Eq, Debug)]
@@ -187,9 +188,31 @@ pub fn compare_general(
     ensures left { OnOk result ((turns.new ≡ turns.old - tried (pairs_compared op left.now right.now)) × (work.new ≡ work.old - tried_work op left.now right.now)) }
     ensures refused { result ≡ Err ValueFault.Memory → (turns.new ≡ turns.old) × (work.new ≡ work.old) }
 {
+    if let [only] = right {
+        return match compare_with_one(op, left, only, turns, work) {
+            Ok(holds) => Ok(holds),
+            Err(code) => Err(ValueFault::Code(code)),
+        };
+    }
     let operands = operands(alloc, right, Types::of(left))?;
     match compare_all(op, left, Types::of(right), &operands, turns, work) {
         Ok(holds) => Ok(holds),
         Err(code) => Err(ValueFault::Code(code)),
     }
+}
+
+/// The same with one value on the right side, which takes no memory.
+fn compare_with_one(
+    op: Comparison,
+    left: &[Atom],
+    right: &Atom,
+    turns: &mut u64,
+    work: &mut u64,
+) -> Result<bool, Code>
+    ensures compared { result ≡ general_compared op left.now (right.now ∷ []) turns.old work.old }
+    ensures left { OnOk result ((turns.new ≡ turns.old - tried (pairs_compared op left.now (right.now ∷ []))) × (work.new ≡ work.old - tried_work op left.now (right.now ∷ []))) }
+{
+    let operand = Operand::new(right, Types::of(left));
+    let types = Types::of(slice::from_ref(right));
+    compare_all(op, left, types, slice::from_ref(&operand), turns, work)
 }

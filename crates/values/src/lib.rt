@@ -14,7 +14,7 @@ mod short_text;
 mod text;
 mod work;
 
-pub use atom::{Atom, Item, atomize, atomize_item, truth};
+pub use atom::{Atom, Item, atomize, atomize_item, plain_atom, truth};
 pub use compare::{Comparison, compare_general, compare_value};
 pub use fault::ValueFault;
 pub use laws::examples;

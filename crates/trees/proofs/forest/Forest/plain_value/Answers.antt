@@ -1,7 +1,4 @@
-use Rattle.std.proofs.Common.{◌≡◌, ◌∙◌, arith, suc, ap, refl, ◌∷◌, []}
-use Rattle.data_model.specs.Trees.{size}
-use Rattle.data_model.specs.Changes.{pick}
-use Rattle.node_table.specs.Flat.{read_trees}
+use Rattle.std.proofs.Common.{arith}
 use Rattle.node_table.specs.Plain.{IsPlain, IsPlainValue}
 use Rattle.node_table.specs.Rows.{table_of}
 use Rattle.node_table.specs.declared.plain.PlainValue.{PlainValue}
@@ -17,7 +14,7 @@ plain_value-requires c =
     let next = c.self.invariant.bound in
     let nodes = c.self.invariant.nodes in
     let fits = c.self.invariant.table.fits in
-    (omega (arith, below), rw read (omega arith))
+    record { deep = omega (arith, below); few = rw read (omega arith) }
 
 pub returns : goal.returns
 returns c =
