@@ -5,6 +5,7 @@ pub mod Copying
 pub mod Evaluates
 pub mod Gives
 pub mod Held
+pub mod Kept
+pub mod Lent
 pub mod Linked
 pub mod Within
-pub mod Kept

@@ -94,39 +94,40 @@ impl Variables {
         let _few = &self.last;
     }
 
-    /// The value of a variable: the one that was bound last counts. `None` where no variable has that name.
-    pub fn get(&self, name: &str) -> Option<&Sequence>
-        ensures { option_copied result ≡ value_in name.now self.now }
-    {
-        match &self.last {
-            Link::End => None,
-            Link::More(binding) => {
-                if name == binding.name.as_str() {
-                    Some(&binding.items)
-                } else {
-                    binding.others.get(name)
-                }
-            }
-        }
-    }
-
-    /// What is left of so many units once one is taken for each variable that is looked at for this name; `None` where they are too few.
-    pub(crate) fn without(&self, name: &str, units: u64) -> Option<u64>
-        ensures left { IfSome result (λ left. left + looked_at name.now self.now ≡ units) }
+    /// The value of a variable, and what is left of so many units once one is taken for each variable that is looked at: the one that was bound last
+    /// counts. `None` where the units are too few.
+    pub(crate) fn sought(&self, name: &str, units: u64) -> Option<Sought<'_>>
+        ensures value { IfSome result (λ s. option_copied s.value ≡ value_in name.now self.now) }
+        ensures left { IfSome result (λ s. s.left + looked_at name.now self.now ≡ units) }
         ensures more { IfNone result (units < looked_at name.now self.now) }
     {
         match &self.last {
-            Link::End => Some(units),
+            Link::End => Some(Sought {
+                value: None,
+                left: units,
+            }),
             Link::More(binding) => {
                 let left = units.checked_sub(1)?;
                 if name == binding.name.as_str() {
-                    Some(left)
+                    Some(Sought {
+                        value: Some(&binding.items),
+                        left,
+                    })
                 } else {
-                    binding.others.without(name, left)
+                    binding.others.sought(name, left)
                 }
             }
         }
     }
+}
+
+/// What a look for a variable comes to.
+#[derive(Clone, Copy)]
+pub(crate) struct Sought<'v> {
+    /// The variable's value; none where no variable has that name.
+    pub(crate) value: Option<&'v Sequence>,
+    /// The units that are left.
+    pub(crate) left: u64,
 }
 
 impl Clone for Variables {

@@ -7,8 +7,10 @@ mod atoms;
 mod environment;
 mod run;
 mod sequence;
+mod value;
 
 pub use atoms::Atoms;
 pub use environment::{Environment, KeptEnvironment, Variables};
 pub use run::Evaluation;
 pub use sequence::{MOST_ITEMS, Sequence};
+pub use value::{Value, value_of_part};

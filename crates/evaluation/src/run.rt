@@ -1,6 +1,6 @@
 //! What an evaluation has come to.
 
-ghost use Rattle.std.specs.Prelude.{◌≡◌, ◌≤◌, ◌<◌, ◌^◌, ◌-◌, ℕ, [], length, Ok, Err, IfOk, IfErr, IfSome, IfNone, IsSome, IsTrue, OnOk, OnErr, IsErrOf, ◌+◌, ◌↔◌, map};
+ghost use Rattle.std.specs.Prelude.{◌≡◌, ◌≤◌, ◌<◌, ◌^◌, ◌-◌, ℕ, [], length, option_copied, Ok, Err, IfOk, IfErr, IfSome, IfNone, IsSome, IsTrue, OnOk, OnErr, IsErrOf, ◌+◌, ◌↔◌, map};
 ghost use Rattle.data_model.specs.Tree.{trees_of_tree};
 ghost use Rattle.data_model.specs.Changes.{pick};
 ghost use Rattle.data_model.specs.Trees.{count, find, no_trees, size};
@@ -9,15 +9,16 @@ ghost use Rattle.shelves.specs.Shelf.{ComesAfter};
 ghost use Rattle.values.specs.Comparisons.{general_compared, pairs_compared, tried, tried_work};
 ghost use Rattle.values.specs.Items.{IsThere};
 ghost use Rattle.query_meaning.specs.Copies.{copy_of};
-ghost use Rattle.query_meaning.specs.Environment.{looked_at};
+ghost use Rattle.query_meaning.specs.Environment.{looked_at, value_in};
 ghost use Rattle.query_meaning.specs.Meaning.{start};
 ghost use Rattle.query_meaning.specs.Operators.{ordering};
+ghost use Rattle.query_meaning.specs.Sequences.{variable};
 ghost use Rattle.query_meaning.specs.Running.{Run, trees_of, adding, atom, atoms, copying, most_nodes, nodes_of, new_nodes, standing, turns, work};
 ghost use Rattle.evaluation.specs.Copying.{standing_copy};
-ghost use Rattle.evaluation.specs.Gives.{Any, Fails, GivesIn, Judged, Says, Stand, Turns};
+ghost use Rattle.evaluation.specs.Gives.{Any, Fails, Gives, GivesIn, IsReady, Judged, Says, Stand, Turns};
 
 use crate::atoms::Atoms;
-use crate::environment::Variables;
+use crate::environment::{Environment, Variables};
 use crate::sequence::Sequence;
 use data_model::limits::MOST_NODES;
 use fault_codes::Code;
@@ -28,7 +29,7 @@ use std::marker::Model;
 use std::mem;
 use trees::{Forest, NodeId, Tree};
 use values::{
-    Atom, Comparison, Item, ValueFault, atom_work, atomize_item, compare_general, plain_atom,
+    Atom, Comparison, Item, Text, ValueFault, atom_work, atomize_item, compare_general, plain_atom,
 };
 
 /// The most turns in an evaluation (our own limit).
@@ -150,16 +151,40 @@ impl<'a> Evaluation<'a> {
         self.spend(1 + items.as_slice().len() as u64)
     }
 
-    /// Takes the work of looking for a variable: a unit for each that is looked at. Code: PXQ0002 where less is left.
-    pub fn look_for(&mut self, name: &str, variables: &Variables) -> Result<(), ValueFault>
-        ensures looked { GivesIn Any (work (looked_at name.now variables.now)) self.old result self.new }
+    /// The items of `$name`, lent (XQuery 1.0, section 3.1.2), with the work of looking for it. It takes no memory. Codes: PXQ0002 where less is left;
+    /// XPST0008 where no variable has that name.
+    pub fn lend<'v>(
+        &mut self,
+        name: &Text,
+        env: &Environment<'_, 'v>,
+    ) -> Result<&'v Sequence, ValueFault>
+        requires ready { IsReady env.now self.old }
+        ensures given { IfOk result (λ s. Gives (variable name.now env.now) self.old (Ok s.now) self.new) }
+        ensures fails { IfErr result (λ fault. Fails (variable name.now env.now self.old) fault) }
+    {
+        match self.look_for(name.as_str(), env.variables())? {
+            Some(items) => Ok(items),
+            None => Err(ValueFault::Code(Code::XPST0008)),
+        }
+    }
+
+    /// The value of a variable, with the work of looking for it: a unit for each variable that is looked at. `None` where none has that name. Code:
+    /// PXQ0002 where less is left.
+    fn look_for<'v>(
+        &mut self,
+        name: &str,
+        variables: &'v Variables,
+    ) -> Result<Option<&'v Sequence>, ValueFault>
+        ensures value { IfOk result (λ v. option_copied v ≡ value_in name.now variables.now) }
+        ensures looked { IfOk result (λ _. GivesIn Any (work (looked_at name.now variables.now)) self.old (Ok tt) self.new) }
+        ensures code { IfErr result (λ fault. Fails (work (looked_at name.now variables.now) self.old) fault) }
         ensures same { self.new ≡ record self.old { work = self.new.work } }
         ensures judged { IsErrOf result ValueFault.Memory → ⊥ }
     {
-        match variables.without(name, self.work) {
-            Some(left) => {
-                self.work = left;
-                Ok(())
+        match variables.sought(name, self.work) {
+            Some(sought) => {
+                self.work = sought.left;
+                Ok(sought.value)
             }
             None => Err(ValueFault::Code(Code::PXQ0002)),
         }

@@ -7,6 +7,7 @@ ghost use Rattle.values.specs.declared.atom.Atom.TheVariants as atom;
 ghost use Rattle.values.specs.declared.atom.Item.TheVariants as item;
 ghost use Rattle.fault_codes.specs.declared.code.Code.{Code};
 ghost use Rattle.values.specs.declared.fault.ValueFault.{ValueFault};
+ghost use Rattle.query_meaning.specs.Operators.{nodes};
 ghost use Rattle.query_meaning.specs.Running.{most_items, within};
 ghost use Rattle.evaluation.specs.Gives.{Judged, Says};
 ghost use Rattle.evaluation.specs.Held.{items_of};
@@ -15,6 +16,7 @@ use fault_codes::Code;
 use std::alloc::{AllocError, Global};
 use std::marker::Model;
 use std::slice;
+use trees::NodeId;
 use values::{Atom, Item, ValueFault};
 
 /// The most items in a sequence (our own limit).
@@ -95,6 +97,21 @@ impl Sequence {
             alloc: *items.allocator(),
             items: Held::Many(items),
         })
+    }
+
+    /// The items that nodes are. One alone takes no memory. Faults: `Memory`; `Code` with PXQ0002 where they are more than 10,000.
+    pub fn of_nodes(alloc: Global, ids: &[NodeId]) -> Result<Sequence, ValueFault>
+        ensures items { Says (within (nodes ids.now)) result }
+        ensures judged { Judged (within (nodes ids.now)) result }
+    {
+        if ids.len() > MOST_ITEMS {
+            return Err(ValueFault::Code(Code::PXQ0002));
+        }
+        if let [id] = ids {
+            return Ok(Sequence::one(alloc, Item::Node(*id))?);
+        }
+        let items = node_items(alloc, ids)?;
+        Ok(Sequence::of(items)?)
     }
 
     /// So many integers from the first on. It fails where memory is refused.
@@ -189,6 +206,17 @@ impl Sequence {
         };
         Ok(Sequence { alloc, items })
     }
+}
+
+/// The items that nodes are. It fails where memory is refused.
+fn node_items(alloc: Global, ids: &[NodeId]) -> Result<Vec<Item>, AllocError>
+    ensures { IfOk result (λ v. v.items ≡ nodes ids.now) }
+{
+    let mut items = Vec::with_capacity(alloc, ids.len())?;
+    for id in ids {
+        items.push(Item::Node(*id))?;
+    }
+    Ok(items)
 }
 
 /// The items in a list. It fails where memory is refused.

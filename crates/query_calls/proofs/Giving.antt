@@ -17,7 +17,7 @@ use Rattle.evaluation.proofs.Counted.{grows_spent}
 use Rattle.evaluation.proofs.Each.{grows_refl, then_gives}
 use Rattle.query_calls.specs.Arguments.{AllStand}
 use Rattle.query_calls.specs.Parts.{context, of_context, items_in, sum_of}
-use Rattle.query_meaning.specs.Sequences.{focus_of}
+use Rattle.query_meaning.specs.Sequences.{Meaning, focus_of}
 use Rattle.query_calls.specs.Table.{of_more}
 use Rattle.query_calls.proofs.Rows.{application_is}
 
@@ -121,6 +121,18 @@ call_gives f? xs ys env old mid new values seen r all same g h =
     let P : List Expr → Type 0 = λ zs. GivesIn AllStand (arguments env (map mean zs)) old (Ok values) mid in
     let R : List (List Item) → Type 0 = λ us. Gives (applied f? env us) mid r new in
     then_gives AllStand Stand (arguments env (map mean xs)) (applied f? env) old mid new values r (subst P all g) (subst R same h)
+
+-- a call with one argument
+pub one_argument : (f? : Option Function) (m : Meaning) (env : Environment) (old mid new : Run) (value : List Item) (seen : List (List Item)) (r : Result (List Item) ValueFault)
+    → Gives (m env) old (Ok value) mid → seen ≡ value ∷ [] → Gives (applied f? env seen) mid r new → Gives (call f? (m ∷ []) env) old r new
+one_argument f? m env old mid new value seen r given same h =
+    let R : List (List Item) → Type 0 = λ us. Gives (applied f? env us) mid r new in
+    then_gives AllStand Stand (arguments env (m ∷ [])) (applied f? env) old mid new (value ∷ []) r
+    (rw given.0 refl, (given.1.0, all)) (subst R same h)
+  where
+    all : AllStand (value ∷ []) mid
+    all zero d below = given.1.1
+    all (suc k) d below = absurd (omega (arith, below))
 
 -- what a function makes of the context item
 items_or : Result (List Item) Code → List Item

@@ -9,9 +9,10 @@ ghost use Rattle.query_calls.specs.Arguments.{AllStand, and_argument};
 
 use crate::argument_values::Values;
 use crate::table::applied;
-use evaluation::{Environment, Evaluation, Sequence};
+use evaluation::{Environment, Evaluation, Sequence, value_of_part};
 use query_grammar::{Expr, Function};
 use sqlite_items::Items;
+use std::slice;
 use values::ValueFault;
 
 /// Calls of functions, over a function value that evaluates their arguments.
@@ -36,8 +37,28 @@ impl<F: Fn(&mut Evaluation, &Expr, &Environment) -> Result<Sequence, ValueFault>
         requires ready { IsReady env.now run.old }
         ensures { Gives (functions.call function (map mean arguments.now) env.now) run.old result run.new }
     {
-        let values = self.values_of(run, arguments.as_slice(), env)?;
+        let arguments = arguments.as_slice();
+        if let [only] = arguments {
+            return self.call_with_one(run, function, only, env);
+        }
+        let values = self.values_of(run, arguments, env)?;
         applied(run, function, values.as_slice(), env)
+    }
+
+    /// The same with one argument. The items of a variable are not copied.
+    fn call_with_one(
+        &self,
+        run: &mut Evaluation,
+        function: Option<Function>,
+        argument: &Expr,
+        env: &Environment,
+    ) -> Result<Sequence, ValueFault>
+        requires evaluates { Evaluates (F.pre self.now.value_of) (F.post self.now.value_of) (argument.now ∷ []) }
+        requires ready { IsReady env.now run.old }
+        ensures { Gives (functions.call function (mean argument.now ∷ []) env.now) run.old result run.new }
+    {
+        let value = value_of_part(&self.value_of, run, argument, env)?;
+        applied(run, function, slice::from_ref(value.items()), env)
     }
 
     /// The values of arguments.

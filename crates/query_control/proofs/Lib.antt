@@ -3,5 +3,4 @@ pub mod Clauses
 pub mod Deciding
 pub mod Kept
 pub mod Signing
-pub mod Unfolded
 pub mod Values

@@ -9,7 +9,7 @@ ghost use Rattle.query_control.specs.Operations as part;
 ghost use Rattle.query_control.specs.Sets.{ComputesSets};
 
 use crate::forms::Forms;
-use evaluation::{Environment, Evaluation, Sequence};
+use evaluation::{Environment, Evaluation, Sequence, Value, value_of_part};
 use query_grammar::{Binary, Expr, Operation};
 use query_operators::{
     calculated, compared_by_pairs, compared_by_value, follows, is_same, precedes, ranged,
@@ -48,7 +48,7 @@ impl<F: Fn(&mut Evaluation, &Expr, &Environment) -> Result<Sequence, ValueFault>
         requires ready { IsReady env.now run.old }
         ensures { Gives (meaning.chain (mean first.now) (map (part.operation_of mean) operations.now) env.now) run.old result run.new }
     {
-        let left = self.value_of(run, first.get(), env)?;
+        let left = value_of_part(&self.value_of, run, first.get(), env)?;
         self.operated_in_turn(run, set_of, left, operations.as_slice(), env)
     }
 
@@ -56,7 +56,7 @@ impl<F: Fn(&mut Evaluation, &Expr, &Environment) -> Result<Sequence, ValueFault>
         &self,
         run: &mut Evaluation,
         set_of: &S,
-        left: Sequence,
+        left: Value,
         operations: &[Operation<Expr>],
         env: &Environment,
     ) -> Result<Sequence, ValueFault>
@@ -66,20 +66,21 @@ impl<F: Fn(&mut Evaluation, &Expr, &Environment) -> Result<Sequence, ValueFault>
         requires sets { ComputesSets (S.pre set_of.now) (S.post set_of.now) }
         requires ready { IsReady env.now run.old }
         requires left { Stand left run.old }
-        ensures { Gives (part.operated_in_turn (map (part.operation_of mean) operations.now) env.now left) run.old result run.new }
+        ensures { Gives (part.operated_in_turn (map (part.operation_of mean) operations.now) env.now left.entry) run.old result run.new }
     {
         let mut given = left;
         for operation in operations {
-            given = self.and_operation(run, set_of, given, operation, env)?;
+            let items = self.and_operation(run, set_of, given.items(), operation, env)?;
+            given = Value::made(items);
         }
-        Ok(given)
+        Ok(given.into_items(run.alloc())?)
     }
 
     fn and_operation<S>(
         &self,
         run: &mut Evaluation,
         set_of: &S,
-        given: Sequence,
+        given: &Sequence,
         operation: &Operation<Expr>,
         env: &Environment,
     ) -> Result<Sequence, ValueFault>
@@ -88,10 +89,10 @@ impl<F: Fn(&mut Evaluation, &Expr, &Environment) -> Result<Sequence, ValueFault>
         requires evaluates { Evaluates (F.pre self.now.value_of) (F.post self.now.value_of) (part.operand_of operation.now ∷ []) }
         requires sets { ComputesSets (S.pre set_of.now) (S.post set_of.now) }
         requires ready { IsReady env.now run.old }
-        requires given { Stand given run.old }
-        ensures { Gives (part.and_operation env.now given (part.operation_of mean operation.now)) run.old result run.new }
+        requires given { Stand given.now run.old }
+        ensures { Gives (part.and_operation env.now given.now (part.operation_of mean operation.now)) run.old result run.new }
     {
-        let items = self.operated(run, set_of, &given, operation, env)?;
+        let items = self.operated(run, set_of, given, operation, env)?;
         run.count(&items)?;
         Ok(items)
     }
@@ -115,8 +116,8 @@ impl<F: Fn(&mut Evaluation, &Expr, &Environment) -> Result<Sequence, ValueFault>
         if let Some(deciding) = deciding(operation.operator) {
             return self.either_side(run, deciding, given, &operation.operand, env);
         }
-        let right = self.value_of(run, &operation.operand, env)?;
-        between(run, set_of, operation.operator, given, &right)
+        let right = value_of_part(&self.value_of, run, &operation.operand, env)?;
+        between(run, set_of, operation.operator, given, right.items())
     }
 }
 

@@ -156,25 +156,7 @@ pub fn variable(
     requires ready { IsReady env.now run.old }
     ensures { Gives (meaning.variable name.now env.now) run.old result run.new }
 {
-    Ok(lent(run, name, env)?.copy(run.alloc())?)
-}
-
-/// The items of `$name`, lent to what only looks at them (XQuery 1.0, section 3.1.2). It takes no memory. Codes: PXQ0002 where too little work
-/// is left to look for it; XPST0008 where no variable has that name.
-fn lent<'e>(
-    run: &mut Evaluation,
-    name: &Text,
-    env: &'e Environment,
-) -> Result<&'e Sequence, ValueFault>
-    requires ready { IsReady env.now run.old }
-    ensures given { IfOk result (λ s. Gives (meaning.variable name.now env.now) run.old (Ok s.now) run.new) }
-    ensures fails { IfErr result (λ fault. Fails (meaning.variable name.now env.now run.old) fault) }
-{
-    run.look_for(name.as_str(), env.variables())?;
-    match env.variables().get(name.as_str()) {
-        Some(items) => Ok(items),
-        None => Err(ValueFault::Code(Code::XPST0008)),
-    }
+    Ok(run.lend(name, env)?.copy(run.alloc())?)
 }
 
 /// The effective boolean value of `$name`, whose work is counted. Codes: PXQ0002 where too little work is left; XPST0008 where no variable
@@ -187,7 +169,7 @@ fn truth_of_variable(
     requires ready { IsReady env.now run.old }
     ensures { GivesIn Any (meaning.tested (Some (λ env. counted (meaning.variable name.now env))) env.now) run.old result run.new }
 {
-    let items = lent(run, name, env)?;
+    let items = run.lend(name, env)?;
     run.count(items)?;
     Ok(truth(items.as_slice())?)
 }

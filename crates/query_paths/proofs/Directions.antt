@@ -1,7 +1,7 @@
 -- What a step gives, by what its predicates keep.
-use Rattle.std.proofs.Common.{◌≡◌, ℕ, zero, suc, ◌==◌, List, [], ◌∷◌, length, reverse, Bool, true, false, ◌&&◌, cond, refl, ap, sym, ◌∙◌, subst, arith, Result, Ok, Err}
+use Rattle.std.proofs.Common.{◌≡◌, ℕ, zero, suc, ◌==◌, List, [], ◌∷◌, length, map, reverse, Bool, true, false, ◌&&◌, cond, refl, ap, sym, ◌∙◌, subst, arith, Result, Ok, Err}
 use Rattle.std.proofs.lemmas.Bool.Decides.{nat_tests}
-use Rattle.std.proofs.lemmas.List.{reverse-append}
+use Rattle.std.proofs.lemmas.List.{reverse-append, reverse-reverse}
 use Rattle.std.proofs.lemmas.List.Elements.{All-append}
 use Rattle.data_model.specs.Axes.{is_on}
 use Rattle.data_model.specs.Order.{identities}
@@ -11,8 +11,10 @@ use Rattle.values.specs.Items.{IsThere, AreThere}
 use Rattle.values.specs.declared.atom.Item.{Item}
 use Rattle.values.specs.declared.fault.ValueFault.{ValueFault}
 use Rattle.values.specs.declared.fault.ValueFault.TheVariants as fault
+use Rattle.query_grammar.specs.declared.ast.Expr.{Expr}
 use Rattle.query_grammar.specs.declared.ast.NodeTest.{NodeTest}
 use Rattle.query_meaning.specs.Environment.{Environment}
+use Rattle.query_meaning.specs.Meaning.{mean}
 use Rattle.query_meaning.specs.Operators.{nodes}
 use Rattle.query_meaning.specs.Paths.{looked_at, tested_nodes, passes_at, filtered, predicates, in_direction, is_reverse}
 use Rattle.query_meaning.specs.Running as running
@@ -88,19 +90,34 @@ nothing_turned a = at (is_reverse a)
 nothing_stands : (run : Run) → Stand [] run
 nothing_stands run k d h = absurd (omega (arith, h))
 
-no_nodes : (is : List ℕ) → (length is == 0) ≡ true → is ≡ []
-no_nodes [] none = refl
-no_nodes (i ∷ is) none = absurd (grind (arith, nat_tests))
+none_of : {A : Type 0} (xs : List A) → (length xs == 0) ≡ true → xs ≡ []
+none_of [] none = refl
+none_of (x ∷ xs) none = absurd (grind (arith, nat_tests))
 
 pub nothing_gives : (a : Axis) (ms : List Meaning) (is : List ℕ) (env : Environment) (run : Run) → (length is == 0) ≡ true → Gives (chosen_from a ms is env) run (Ok []) run
 unfolding running.most_items
 nothing_gives a ms is env run none = (
-  ap (λ js. chosen_from a ms js env run) (no_nodes is none)
+  ap (λ js. chosen_from a ms js env run) (none_of is none)
       ∙ ap (λ xs. (predicates ms env xs >>= (λ ys. come_to (within (in_direction a ys)))) run) (nothing_turned a)
       ∙ ap (λ r. running.and_then r (λ ys. come_to (within (in_direction a ys)))) (nothing_left env 0 ms run)
       ∙ ap (λ xs. come_to (within xs) run) (nothing_turned a),
   (grows_refl run, nothing_stands run),
 )
+
+-- all are chosen where there are no predicates
+turned_twice : (a : Axis) (xs : List Item) → in_direction a (in_direction a xs) ≡ xs
+turned_twice a xs = at (is_reverse a)
+  where
+    at : (b : Bool) → cond b (reverse (cond b (reverse xs) xs)) (cond b (reverse xs) xs) ≡ xs
+    at true = reverse-reverse xs
+    at false = refl
+
+pub no_predicates : (a : Axis) (ps : List Expr) (is : List ℕ) (env : Environment) (run : Run) (r : Result (List Item) ValueFault) → (length ps == 0) ≡ true → Stand (nodes is) run → Says (within (nodes is)) r
+    → Gives (chosen_from a (map mean ps) is env) run r run
+no_predicates a ps is env run r none stand says =
+    let P : List Expr → Type 0 = λ qs. Gives (chosen_from a (map mean qs) is env) run r run in
+    let Q : List Item → Type 0 = λ xs. Gives (come_to (within xs)) run r run in
+    subst P (sym (none_of ps none)) (subst Q (sym (turned_twice a (nodes is))) (within_gives (nodes is) run r stand says))
 
 -- the step, by its work and what is chosen
 pub step_gives : (a : Axis) (t : NodeTest) (ms : List Meaning) (i : ℕ) (env : Environment) (old mid new : Run) (looked : ℕ) (is seen : List ℕ) (r : Result (List Item) ValueFault)

@@ -113,7 +113,7 @@ impl Found {
             run.shelf().facts();
             let found = nodes.into_nodes();
             let ordered = run.shelf().document_order(run.alloc(), found)?;
-            return Kept::of_nodes(run.alloc(), &ordered)?.into_sequence();
+            return Sequence::of_nodes(run.alloc(), &ordered);
         }
         if !nodes.is_empty() {
             return Err(ValueFault::Code(mixed));

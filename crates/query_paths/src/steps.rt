@@ -80,6 +80,9 @@ impl<F: Fn(&mut Evaluation, &Expr, &Environment) -> Result<Sequence, ValueFault>
         if found.is_empty() {
             return Ok(Sequence::new(run.alloc()));
         }
+        if predicates.is_empty() {
+            return Sequence::of_nodes(run.alloc(), found);
+        }
         let items = in_direction(run.alloc(), axis, found)?;
         let left = self.filtered_by_all(run, items, predicates, env)?;
         turned(axis, left).into_sequence()

@@ -1,9 +1,9 @@
 -- Sets of nodes, and what they come to.
 use Prim.Native.Nat.{zero, suc}
 use Rattle.std.proofs.Common.{◌≡◌, ℕ, ◌+◌, ◌≤◌, ◌<◌, Bool, true, false, not, ◌&&◌, ◌||◌, List, [], ◌∷◌, ◌++◌, filter, drop, length, slice_index_or, cond, eqb, refl, ap, sym, ◌∙◌, arith, ⊎_elim, None, IsSome, subst, append_assoc, append-nil, Result, Ok, Err}
-use Rattle.std.specs.Prelude.{IsOk, nat_le}
+use Rattle.std.specs.Prelude.{nat_le}
 use Rattle.std.proofs.lemmas.Bool.Decides.{eqb_tells, nat_tests}
-use Rattle.std.proofs.lemmas.List.{map-append, length-map}
+use Rattle.std.proofs.lemmas.List.{map-append}
 use Rattle.std.proofs.lemmas.List.Folds.{list_any-append}
 use Rattle.data_model.specs.Trees.{Trees, find}
 use Rattle.data_model.specs.Order.{identities}
@@ -22,7 +22,7 @@ use Rattle.values.specs.declared.fault.ValueFault.TheVariants as fault
 use Rattle.values.specs.Items.{AreThere}
 use Rattle.query_meaning.specs.Running.{M, Run, and_then, come_to, seen, trees_of, within, most_items, ◌>>=◌}
 use Rattle.query_meaning.specs.Operators.{all_nodes, nodes, ordering, set_of}
-use Rattle.evaluation.specs.Gives.{Any, Fails, Gives, GivesIn, Judged, Says, Stand}
+use Rattle.evaluation.specs.Gives.{Any, Fails, Gives, GivesIn, Says, Stand}
 use Rattle.evaluation.proofs.Each.{drop_item, drop_all, grows_refl, then_gives}
 use Rattle.query_steps.proofs.Lists.{in-filter, and-turned}
 use Rattle.query_steps.specs.Sets.{in_order, is_as_wanted}
@@ -167,27 +167,6 @@ set-fails belongs left right run (fault.Code code) h = rw h refl
 pub set-fails-right : (belongs : Bool → Bool → Bool) (left right : List Item) (xs : List ℕ) (run : Run) (e : ValueFault) → all_nodes XPTY0004 left ≡ Ok xs → Fails (all_nodes XPTY0004 right) e → Fails (set_of belongs left right run) e
 set-fails-right belongs left right xs run fault.Memory at h = tt
 set-fails-right belongs left right xs run (fault.Code code) at h = rw (at, h) refl
-
--- ---- the items that nodes are
-pub too-many : (ids : List ℕ) → 10000 < length ids → within (nodes ids) ≡ Err PXQ0002
-unfolding most_items
-too-many ids many = let z : nat_le (length (nodes ids)) 10000 ≡ false = grind (arith, nat_tests, many, length-map ids (λ i. item.Node i)) in rw z refl
-
-pub few-enough : (ids : List ℕ) (k : ℕ) (items : List Item) → length ids ≤ 10000 → length ids ≤ k → items ++ nodes (drop k ids) ≡ nodes ids → within (nodes ids) ≡ Ok items
-unfolding most_items
-few-enough ids k items few past was =
-    let same : nodes ids ≡ items = sym was ∙ ap (λ zs. items ++ nodes zs) (drop_all ids k past) ∙ append-nil items in
-    let z : nat_le (length (nodes ids)) 10000 ≡ true = grind (arith, nat_tests, few, length-map ids (λ i. item.Node i)) in
-    rw z (ap (λ zs. Ok zs) same)
-
-few-fit : (ids : List ℕ) → length ids ≤ 10000 → IsOk (within (nodes ids))
-unfolding most_items
-few-fit ids few = let z : nat_le (length (nodes ids)) 10000 ≡ true = grind (arith, nat_tests, few, length-map ids (λ i. item.Node i)) in rw z refl
-
-pub few-judged : {B : Type 0} (ids : List ℕ) (r : Result B ValueFault) → length ids ≤ 10000 → Judged (within (nodes ids)) r
-few-judged ids (Ok b) few = tt
-few-judged ids (Err fault.Memory) few = few-fit ids few
-few-judged ids (Err (fault.Code code)) few = tt
 
 -- ---- what is chosen by another side
 pub chosen-both : (xs ys set seen ids : List ℕ) (i : ℕ) → seen ≡ xs → ids ≡ filter (is_as_wanted true set) seen → is_in i set ≡ is_in i ys → is_in i ids ≡ (is_in i xs && is_in i ys)

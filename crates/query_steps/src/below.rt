@@ -9,7 +9,7 @@ ghost use Rattle.query_steps.specs.Below.{counted_below, levels_below};
 
 use crate::node_tests::passes;
 use query_grammar::NodeTest;
-use shelves::Shelf;
+use shelves::{Shelf, ShelfCursor};
 use std::alloc::{AllocError, Global};
 use trees::{Axis, NodeId};
 
@@ -22,7 +22,7 @@ struct Lists<'s> {
 
 /// Adds a node, if it is listed and passes the test, and gives what stands below it, by one look-up.
 fn add_node<'s>(
-    shelf: &'s Shelf,
+    cursor: &mut ShelfCursor<'s>,
     axis: Axis,
     test: &NodeTest,
     node: NodeId,
@@ -31,11 +31,12 @@ fn add_node<'s>(
 ) -> Result<Lists<'s>, AllocError>
     ensures nodes { OnOk result
         (nodes.new.items
-        ≡ nodes.old.items ++ filter (λ i. passes_at axis test.now (find i (shelf_trees shelf.now))) (cond is_listed (node ∷ []) [])) }
-    ensures attributes { IfOk result (λ lists. lists.attributes.now ≡ attributes_of node (shelf_trees shelf.now)) }
-    ensures children { IfOk result (λ lists. lists.children.now ≡ children_of node (shelf_trees shelf.now)) }
+        ≡ nodes.old.items ++ filter (λ i. passes_at axis test.now (find i cursor.old)) (cond is_listed (node ∷ []) [])) }
+    ensures attributes { IfOk result (λ lists. lists.attributes.now ≡ attributes_of node cursor.old) }
+    ensures children { IfOk result (λ lists. lists.children.now ≡ children_of node cursor.old) }
+    ensures same { cursor.new ≡ cursor.old }
 {
-    let Some(view) = shelf.node(node) else {
+    let Some(view) = cursor.node(node) else {
         return Ok(Lists {
             attributes: &[],
             children: &[],
@@ -73,8 +74,9 @@ fn add_below(
         return Ok(0);
     }
     let mut looked = ids.len() as u64;
+    let mut cursor = shelf.cursor();
     for id in ids {
-        let lists = add_node(shelf, axis, test, *id, is_listed, nodes)?;
+        let lists = add_node(&mut cursor, axis, test, *id, is_listed, nodes)?;
         if !lists.attributes.is_empty() {
             looked += add_below(
                 shelf,

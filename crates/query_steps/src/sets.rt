@@ -139,20 +139,5 @@ fn in_order(run: &mut Evaluation, nodes: Vec<NodeId>) -> Result<Sequence, ValueF
     ensures { Gives (in_order nodes.items) run.old result run.new }
 {
     let ordered = run.shelf().document_order(run.alloc(), nodes)?;
-    items_of(run.alloc(), &ordered)
-}
-
-/// The items that some nodes are. Code: PXQ0002 where there are more than 10,000.
-fn items_of(alloc: Global, nodes: &[NodeId]) -> Result<Sequence, ValueFault>
-    ensures items { Says (within (meaning.nodes nodes.now)) result }
-    ensures judged { Judged (within (meaning.nodes nodes.now)) result }
-{
-    if nodes.len() > MOST_ITEMS {
-        return Err(ValueFault::Code(Code::PXQ0002));
-    }
-    let mut items = Sequence::new(alloc);
-    for node in nodes {
-        items = items.and(Item::Node(*node))?;
-    }
-    Ok(items)
+    Sequence::of_nodes(run.alloc(), &ordered)
 }

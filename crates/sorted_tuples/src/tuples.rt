@@ -7,6 +7,7 @@ ghost use Rattle.values.specs.Comparisons.{string_cmp};
 ghost use Rattle.query_meaning.specs.Meaning.{mean};
 ghost use Rattle.query_meaning.specs.Sequences.{all_comparable, and_tuple, in_sorted_order};
 ghost use Rattle.sorted_tuples.specs.Keys.{Each, IsWide, column, comes_first, has_order, inserted_each, is_of_one_type, key_at, rank, ranked, ranked_cmp, turned};
+ghost use Rattle.sorted_tuples.specs.Held.{keys_of};
 ghost use Rattle.sorted_tuples.specs.Keys.{sort_key_of};
 
 use evaluation::{Environment, KeptEnvironment, MOST_ITEMS};
@@ -15,12 +16,29 @@ use query_grammar::{Expr, SortKey};
 use std::alloc::{AllocError, Global};
 use std::cmp::Ordering;
 use std::marker::Model;
+use std::slice;
 use values::{Atom, ValueFault};
 
 /// The keys of a tuple, each one atomic value or empty.
-#[derive(Drop)]
 pub struct Keys {
-    keys: Vec<Option<Atom>>,
+    alloc: Global,
+    keys: Held,
+}
+
+// By one call, whose contract is all that a caller's proof sees of it.
+impl Drop for Keys {
+    fn drop(self) {
+        let Keys { alloc: _, keys: _ } = self;
+    }
+}
+
+/// Keys as they are held. One alone takes no piece of memory, and most tuples have one.
+#[derive(Drop)]
+enum Held {
+    /// One key.
+    Single(Option<Atom>),
+    /// As many as there are.
+    Many(Vec<Option<Atom>>),
 }
 
 impl Model for Keys {
@@ -33,7 +51,9 @@ impl Model for Keys {
 
     ghost coded = { coded_list (coded_option of_atom.the_row.coded) };
 
-    ghost view = { λ k. k.keys.items };
+    ghost use Rattle.sorted_tuples.specs.Held.{keys_of};
+
+    ghost view = { λ k. keys_of k.keys };
 }
 
 impl Keys {
@@ -42,17 +62,28 @@ impl Keys {
         ensures { result ≡ [] }
     {
         Keys {
-            keys: Vec::new(alloc),
+            alloc,
+            keys: Held::Many(Vec::new(alloc)),
         }
     }
 
-    /// One key more. It fails where memory is refused.
+    /// One key more. It fails where memory is refused, which the first key does not ask for.
     pub fn and(self, key: Option<Atom>) -> Result<Keys, AllocError>
         ensures { IfOk result (λ keys. keys ≡ self ++ key ∷ []) }
     {
-        let Keys { mut keys } = self;
-        keys.push(key)?;
-        Ok(Keys { keys })
+        let Keys { alloc, keys } = self;
+        let keys = with_key(alloc, keys, key)?;
+        Ok(Keys { alloc, keys })
+    }
+
+    /// The keys.
+    fn as_slice(&self) -> &[Option<Atom>]
+        ensures { result.now ≡ self.now }
+    {
+        match &self.keys {
+            Held::Single(key) => slice::from_ref(key),
+            Held::Many(keys) => keys.as_slice(),
+        }
     }
 
     /// The key at a position; `None` where it is empty.
@@ -60,10 +91,33 @@ impl Keys {
     fn at(&self, position: usize) -> Option<&Atom>
         ensures { option_copied result ≡ key_at position self.now }
     {
-        if position < self.keys.len() {
-            self.keys[position].as_ref()
+        let keys = self.as_slice();
+        if position < keys.len() {
+            keys[position].as_ref()
         } else {
             None
+        }
+    }
+}
+
+/// Keys, and one more. The first is held alone.
+fn with_key(alloc: Global, keys: Held, key: Option<Atom>) -> Result<Held, AllocError>
+    ensures { IfOk result (λ held. keys_of held ≡ keys_of keys ++ key ∷ []) }
+{
+    match keys {
+        Held::Single(first) => {
+            let mut keys = Vec::with_capacity(alloc, 2)?;
+            keys.push(first)?;
+            keys.push(key)?;
+            Ok(Held::Many(keys))
+        }
+        Held::Many(keys) => {
+            if keys.is_empty() {
+                return Ok(Held::Single(key));
+            }
+            let mut keys = keys;
+            keys.push(key)?;
+            Ok(Held::Many(keys))
         }
     }
 }
@@ -260,11 +314,11 @@ fn compare_keys(left: Option<&Atom>, right: Option<&Atom>) -> Ordering
     }
 }
 
-/// The order of two texts by code points (Functions and Operators, section 7.3.1).
+/// The order of two texts by code points (Functions and Operators, section 7.3.1), which is that of their bytes in UTF-8.
 fn compare_text(left: &str, right: &str) -> Ordering
     ensures { result ≡ string_cmp left.now right.now }
 {
-    left.chars().cmp(right.chars())
+    left.cmp(right)
 }
 
 /// The place of a key's type among the types.

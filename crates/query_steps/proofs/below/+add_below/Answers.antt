@@ -15,6 +15,7 @@ loop-id-preserved t c =
     let test : ℕ → Bool = λ j. passes_at c.args.axis c.args.test.now (find j ts) in
     let below : ℕ → List ℕ = λ j. levels_below n ts false (attributes_of j ts) ++ levels_below n ts true (children_of j ts) in
     let counted : ℕ → ℕ = λ j. counted_below n ts (attributes_of j ts) + counted_below n ts (children_of j ts) in
+    let is = c.loop-id.invariant.2 in
     let xs = c.in_ok-lists.lists.attributes.now in
     let ys = c.in_ok-lists.lists.children.now in
     let first : (c.if-not-is_empty.nodes.items ≡ c.add_node.new.nodes.items ++ filter test (levels_below n ts false xs)) × (c.if-not-is_empty.looked ≡ c.loop-id.looked + counted_below n ts xs) =
@@ -33,14 +34,15 @@ loop-id-preserved t c =
           let same = w.looked-is in
           (none-found test n ts true ys _ _ c.is_empty-in-loop-id.result c.is_empty-in-loop-id.ensures w.if-not-is_empty-2.false (ap (λ v. v.items) w.nodes-is), omega (arith, none, same)))
     ] in
-    let attributes : levels_below n ts false xs ≡ levels_below n ts false (attributes_of i ts) = ap (levels_below n ts false) c.in_ok-lists.ensures.attributes in
-    let children : levels_below n ts true ys ≡ levels_below n ts true (children_of i ts) = ap (levels_below n ts true) c.in_ok-lists.ensures.children in
-    let few : counted_below n ts xs ≡ counted_below n ts (attributes_of i ts) = ap (counted_below n ts) c.in_ok-lists.ensures.attributes in
-    let more : counted_below n ts ys ≡ counted_below n ts (children_of i ts) = ap (counted_below n ts) c.in_ok-lists.ensures.children in
+    let attributes : levels_below n ts false xs ≡ levels_below n ts false (attributes_of i ts) = ap (levels_below n ts false) (c.in_ok-lists.ensures.attributes ∙ ap (attributes_of i) is) in
+    let children : levels_below n ts true ys ≡ levels_below n ts true (children_of i ts) = ap (levels_below n ts true) (c.in_ok-lists.ensures.children ∙ ap (children_of i) is) in
+    let few : counted_below n ts xs ≡ counted_below n ts (attributes_of i ts) = ap (counted_below n ts) (c.in_ok-lists.ensures.attributes ∙ ap (attributes_of i) is) in
+    let more : counted_below n ts ys ≡ counted_below n ts (children_of i ts) = ap (counted_below n ts) (c.in_ok-lists.ensures.children ∙ ap (children_of i) is) in
     let turn = count-turn counted c.args.ids.now c.loop-id.id-index i c.loop-id-test.true c.id-item.is in
     let was = c.loop-id.invariant.1 in (
       below-turn test c.args.is_listed below c.args.ids.now c.loop-id.id-index i (levels_below n ts false xs) (levels_below n ts true ys) _ _ _ _ _ c.loop-id-test.true c.id-item.is
           (ap (λ zs. zs ++ levels_below n ts true ys) attributes ∙ ap (λ zs. levels_below n ts false (attributes_of i ts) ++ zs) children)
-          c.loop-id.invariant.0 c.in_ok-lists.ensures.nodes first.0 second.0,
+          c.loop-id.invariant.0 (rw is at c.in_ok-lists.ensures.nodes) first.0 second.0,
       omega (arith, first.1, second.1, few, more, turn, was),
+      c.add_node.ensures.same ∙ is,
     )

@@ -15,3 +15,4 @@ invariant-loop-id l =
     ≡ l.fn.nodes.items ++ filter (λ i. passes_at l.axis l.test (find i (shelf_trees l.shelf))) (levels_below l.levels (shelf_trees l.shelf) l.is_listed l.ids))
     × (l.looked + sum_by (λ i. counted_below (l.levels - 1) (shelf_trees l.shelf) (attributes_of i (shelf_trees l.shelf)) + counted_below (l.levels - 1) (shelf_trees l.shelf) (children_of i (shelf_trees l.shelf))) (drop l.id-index l.ids)
     ≡ counted_below l.levels (shelf_trees l.shelf) l.ids)
+    × (l.cursor ≡ shelf_trees l.shelf)

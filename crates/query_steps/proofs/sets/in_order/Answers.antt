@@ -7,5 +7,5 @@ use Rattle.query_steps.proofs.sets.in_order.Goals as goal
 
 pub returns : goal.returns
 returns c =
-    in-order-gives c.args.nodes.items c.deref.result.now c.args.run.now c.items_of.result
-    (c.deref.ensures.value ∙ c.in_ok-ordered.ensures ∙ ap (λ s. filter (λ i. is_in i c.args.nodes.items) (identities (shelf_trees s))) c.shelf.ensures) c.items_of.ensures.items
+    in-order-gives c.args.nodes.items c.deref.result.now c.args.run.now c.of_nodes.result
+    (c.deref.ensures.value ∙ c.in_ok-ordered.ensures ∙ ap (λ s. filter (λ i. is_in i c.args.nodes.items) (identities (shelf_trees s))) c.shelf.ensures) c.of_nodes.ensures.items
