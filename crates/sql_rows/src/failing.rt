@@ -1,5 +1,6 @@
 //! Disks that fail from some call on.
 
+use super::watched::Watched;
 use rows::RowFault;
 use sqlite_disk::{Crash, Disk, Fuse, Memory};
 use std::alloc::Global;
@@ -13,18 +14,29 @@ pub(super) trait FailingDisk: Crash + Drop {
 
     /// Its bytes.
     fn bytes(&self) -> &[u8];
+
+    /// Whether one of its calls failed since memory was refused to it.
+    fn lacked_memory(&self) -> bool;
 }
 
-impl FailingDisk for Fuse<Memory> {
-    fn failing_after(alloc: Global, calls: u64, bytes: &[u8]) -> Result<Fuse<Memory>, RowFault> {
+impl FailingDisk for Fuse<Watched<Memory>> {
+    fn failing_after(
+        alloc: Global,
+        calls: u64,
+        bytes: &[u8],
+    ) -> Result<Fuse<Watched<Memory>>, RowFault> {
         let mut memory = Memory::new(alloc);
         if memory.write_at(0, bytes).is_err() || memory.sync().is_err() {
             return Err(RowFault::Memory);
         }
-        Ok(Fuse::new(memory, calls))
+        Ok(Fuse::new(Watched::new(memory), calls))
     }
 
     fn bytes(&self) -> &[u8] {
-        self.inner().bytes()
+        self.inner().inner().bytes()
+    }
+
+    fn lacked_memory(&self) -> bool {
+        self.inner().lacked_memory()
     }
 }

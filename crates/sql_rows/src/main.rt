@@ -32,6 +32,7 @@ mod nodes;
 mod opening;
 mod results;
 mod using;
+mod watched;
 
 use counting::Count;
 use disks::in_memory;
@@ -40,8 +41,10 @@ use rows::{Answers, RowFault, Words, run_table};
 use sqlite_disk::{Fuse, Memory};
 use std::alloc::Global;
 use std::process::ExitCode;
+use watched::Watched;
 
-/// Ends with the table's exit status: 1 where a row is not understood, and where the file cannot be read or memory is refused.
+/// Ends with the table's exit status: 1 where a row is not understood, and where the file cannot be read or memory is refused, also to a disk in
+/// memory: the rows end there.
 fn main(rt: HostRuntime) -> ExitCode {
     match run_table(&rt, &mut DatabaseRows { rt: &rt }) {
         Ok(status) => ExitCode::from(status),
@@ -61,7 +64,7 @@ impl Answers for DatabaseRows<'_> {
         match words.plain()? {
             "file" => in_file(self.rt, words),
             "again" => in_first(self.rt, words),
-            kind => in_memory::<Fuse<Memory>, Count>(alloc, kind, words),
+            kind => in_memory::<Fuse<Watched<Memory>>, Count>(alloc, kind, words),
         }
     }
 }
