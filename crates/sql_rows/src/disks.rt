@@ -1,15 +1,16 @@
 //! Databases on disks in memory: disks that fail from some call on, and files that are cut or changed.
 
 use super::failing::FailingDisk;
-use super::memory::{Kind, in_empty};
+use super::memory::{Kind, in_empty, read_kind};
 use super::nodes;
-use super::opening::{after_statements, first_setup, found};
-use super::results::{both, or_not_a_row};
+use super::opening::{first_setup, found, run_statements};
+use super::results::{Kept, both, both_done, keeping, let_go, or_memory};
 use super::using::use_where_connected;
 use applications::Application;
 use ballots::Setup;
+use record_writes::is_memory;
 use rows::{RowFault, Words};
-use sqlite::{Connection, FileStore, Files, Options};
+use sqlite::{Connection, Error, FileStore, Files, Options};
 use sqlite_disk::{Crash, Disk};
 use std::alloc::Global;
 
@@ -149,25 +150,28 @@ fn node<D: FailingDisk, A: Application + Drop>(
 }
 
 /// The files after a node's calls, with no more calls under way. The answers are appended. Faults: `Memory`, and `NotARow`.
-fn used_by_node<D: Disk + Drop, A: Application + Drop>(
+fn used_by_node<D: FailingDisk, A: Application + Drop>(
     alloc: Global,
     files: Files<D>,
     calls: &str,
     is_staged: bool,
     answers: &mut String,
 ) -> Result<Files<D>, RowFault> {
-    let connected = connected(alloc, files);
-    files_of(nodes::used_where_connected::<A, _, _>(alloc, connected, calls, is_staged, answers))
+    let setup = first_setup(alloc)?;
+    let connected = connected(alloc, files)?;
+    files_of(nodes::used_where_connected::<A, _, _>(
+        alloc, connected, setup, calls, is_staged, answers,
+    ))
 }
 
-/// The files of a record of version 1, whose log was copied into the database.
+/// The files of a record of version 1, whose log was copied into the database. Fault: `Memory`.
 fn of_first_version<D: FailingDisk>(alloc: Global) -> Result<Files<D>, RowFault> {
-    match connected(alloc, empty_files::<D>(alloc, u64::MAX, u64::MAX)?) {
-        Ok(connection) => {
-            let made = after_statements(connection, FIRST_VERSION)?;
-            or_not_a_row(made.close_files())
+    match connected(alloc, empty_files::<D>(alloc, u64::MAX, u64::MAX)?)? {
+        Ok(mut connection) => {
+            let made = or_memory(run_statements(&mut connection, FIRST_VERSION));
+            both_done(made, or_memory(connection.close_files()))
         }
-        Err(_) => Err(RowFault::NotARow),
+        Err(_) => Err(RowFault::Memory),
     }
 }
 
@@ -216,24 +220,36 @@ fn crashed<D: Crash>(mut files: Files<D>) -> Files<D> {
     files
 }
 
-/// A connection to files, or the files again.
-fn connected<D: Disk + Drop>(alloc: Global, files: Files<D>) -> Connected<D> {
+/// A connection to files, or the files again. Fault: `Memory` where there is none since memory was refused.
+fn connected<D: Disk + Drop>(alloc: Global, files: Files<D>) -> Result<Connected<D>, RowFault> {
     if !files.may_be_used() {
-        return Err(files);
+        return Ok(Err(files));
     }
     match Connection::open_files_with(alloc, files, Options::new(1), true) {
-        Ok(connection) => Ok(connection),
-        Err((_, left)) => Err(left.into_files()),
+        Ok(connection) => Ok(Ok(connection)),
+        Err((error, left)) => unless_memory(&error, Err(left.into_files())),
+    }
+}
+
+/// The value. Fault: `Memory` where the error is that memory was refused.
+fn unless_memory<T: Drop>(error: &Error, value: T) -> Result<T, RowFault> {
+    if is_memory(error) {
+        Err(RowFault::Memory)
+    } else {
+        Ok(value)
     }
 }
 
 /// What stands in files that are opened again, or that they are not opened.
-fn found_in<D: Disk + Drop>(
+fn found_in<D: FailingDisk>(
     alloc: Global,
     files: Files<D>,
     setup: &Setup,
 ) -> Result<String, RowFault> {
-    found(alloc, connected(alloc, files), setup)
+    let mut text = String::new(alloc);
+    let connected = connected(alloc, files)?;
+    let done = let_go(files_of(found(alloc, connected, setup, &mut text)));
+    keeping(done, text)
 }
 
 /// What is found in files with these bytes.
@@ -249,52 +265,60 @@ fn found_with<D: FailingDisk>(
     )
 }
 
-/// What becomes of an empty database.
-fn in_new_files<D: Disk + Drop>(
-    alloc: Global,
-    files: Files<D>,
-    kind: Kind,
-    words: Words,
-) -> Result<String, RowFault> {
-    in_empty(alloc, connected(alloc, files), kind, words)
-}
-
 /// What becomes of an empty database on disks that never fail.
 fn on_new_disks<D: FailingDisk>(
     alloc: Global,
     kind: Kind,
-    words: Words,
+    mut words: Words,
 ) -> Result<String, RowFault> {
-    let files = empty_files::<D>(alloc, u64::MAX, u64::MAX)?;
-    in_new_files(alloc, files, kind, words)
+    let (said, setup) = read_kind(alloc, kind, &mut words)?;
+    let mut text = String::new(alloc);
+    let connected = connected(alloc, empty_files::<D>(alloc, u64::MAX, u64::MAX)?)?;
+    let used = in_empty(alloc, connected, kind, (said.as_str(), &setup), &mut text);
+    keeping(let_go(files_of(used)), text)
+}
+
+/// The files of a database, which is closed where it was opened. Faults: `Memory` where memory was refused to one of them, whatever came of
+/// that, and that of the step.
+fn files_of<D: FailingDisk>((done, used): Kept<Connected<D>>) -> Result<Files<D>, RowFault> {
+    let files = closed(used);
+    let done = both_done(check_memory(&files), done);
+    keeping(done, files)
 }
 
 /// The files of a database, which is closed where it was opened.
-fn files_of<D: Disk + Drop>(used: Result<Connected<D>, RowFault>) -> Result<Files<D>, RowFault> {
-    match used {
-        Ok(Ok(connection)) => Ok(connection.into_store().close()),
-        Ok(Err(files)) => Ok(files),
-        Err(fault) => Err(fault),
+fn closed<D: Disk + Drop>(connected: Connected<D>) -> Files<D> {
+    match connected {
+        Ok(connection) => connection.into_store().close(),
+        Err(files) => files,
     }
 }
 
+/// Fault: `Memory` where memory was refused to one of the files.
+fn check_memory<D: FailingDisk>(files: &Files<D>) -> Result<(), RowFault> {
+    if files.log.lacked_memory() || files.db.lacked_memory() {
+        return Err(RowFault::Memory);
+    }
+    Ok(())
+}
+
 /// The files after an acceptor's calls, with no more calls under way. The answers are appended. Fault: `Memory`, and `NotARow`.
-fn used<D: Disk + Drop>(
+fn used<D: FailingDisk>(
     alloc: Global,
     files: Files<D>,
     calls: &str,
     setup: &Setup,
     answers: &mut String,
 ) -> Result<Files<D>, RowFault> {
-    let connected = connected(alloc, files);
+    let connected = connected(alloc, files)?;
     files_of(use_where_connected(alloc, connected, calls, setup, answers))
 }
 
-/// The files, when the log was copied into the database. Fault: `NotARow` where that fails.
+/// The files, when the log was copied into the database. Fault: `Memory` where that fails.
 fn copied<D: Disk + Drop>(alloc: Global, files: Files<D>) -> Result<Files<D>, RowFault> {
-    match connected(alloc, files) {
-        Ok(connection) => or_not_a_row(connection.close_files()),
-        Err(_) => Err(RowFault::NotARow),
+    match connected(alloc, files)? {
+        Ok(connection) => or_memory(connection.close_files()),
+        Err(_) => Err(RowFault::Memory),
     }
 }
 

@@ -1,8 +1,8 @@
 //! Databases in real files, which are closed after each step, and opened again.
 
 use super::disks::FIRST_VERSION;
-use super::opening::{after_statements, first_setup, push_standing, read_setup};
-use super::results::of_call;
+use super::opening::{first_setup, push_standing, read_setup, run_statements};
+use super::results::{keeping, of_call};
 use super::using::used;
 use ballots::Setup;
 use rows::{RowFault, Words};
@@ -106,13 +106,19 @@ fn after_step<S: Alter + Drop>(
     step: Step,
     text: &mut String,
 ) -> Result<Option<Connection<S>>, RowFault> {
-    let connection = of_call(opened)?;
+    let mut connection = of_call(opened)?;
     match step {
-        Step::Call(call) => Ok(Some(used(alloc, connection, call, setup, text)?)),
-        Step::Run(sql) => Ok(Some(after_statements(connection, sql)?)),
+        Step::Call(call) => {
+            let (done, connection) = used(alloc, connection, call, setup, text);
+            keeping(done, Some(connection))
+        }
+        Step::Run(sql) => {
+            let done = run_statements(&mut connection, sql);
+            keeping(done, Some(connection))
+        }
         Step::Show => {
-            push_standing(alloc, connection, setup, text)?;
-            Ok(None)
+            let (done, _shown) = push_standing(alloc, connection, setup, text);
+            keeping(done, None)
         }
     }
 }

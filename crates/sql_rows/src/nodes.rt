@@ -4,9 +4,8 @@
 //! hold back. A step gives how many messages it sends, an answer how much is applied, and each a fault's number where it is refused. After all
 //! calls the node is opened again over its records.
 
-use super::opening::{first_setup, refused};
-use super::results::keeping;
-use super::using::say;
+use super::results::{Kept, both_done};
+use super::using::{say, say_refused};
 use applications::Application;
 use ballots::Setup;
 use member::Tick;
@@ -28,17 +27,19 @@ const QUESTION: &str = "1";
 pub(super) fn used_where_connected<A: Application + Drop, S: Alter + Drop, F: Drop>(
     alloc: Global,
     connected: Result<Connection<S>, F>,
+    setup: Setup,
     calls: &str,
     is_staged: bool,
     answers: &mut String,
-) -> Result<Result<Connection<S>, F>, RowFault> {
+) -> Kept<Result<Connection<S>, F>> {
     match connected {
         Ok(connection) => {
-            let setup = first_setup(alloc);
-            let used = used::<A, S>(alloc, connection, setup?, calls, is_staged, answers)?;
-            Ok(Ok(used))
+            let (done, connection) = used::<A, S>(
+                alloc, connection, setup, calls, is_staged, answers,
+            );
+            (done, Ok(connection))
         }
-        Err(files) => keeping(say(answers, "no connection"), Err(files)),
+        Err(files) => (say(answers, "no connection"), Err(files)),
     }
 }
 
@@ -50,23 +51,17 @@ fn used<A: Application + Drop, S: Alter + Drop>(
     calls: &str,
     is_staged: bool,
     answers: &mut String,
-) -> Result<Connection<S>, RowFault> {
+) -> Kept<Connection<S>> {
     match SqlRecords::open(alloc, connection, &setup) {
         Ok(records) => {
-            let records = if is_staged {
-                played_staged::<A, _>(alloc, records, setup, calls, answers)?
+            let (done, records) = if is_staged {
+                played_staged::<A, _>(alloc, records, setup, calls, answers)
             } else {
-                played::<A, _>(alloc, records, setup, calls, answers)?
+                played::<A, _>(alloc, records, setup, calls, answers)
             };
-            Ok(records.into_connection())
+            (done, records.into_connection())
         }
-        Err((fault, connection)) => {
-            let said = match refused(alloc, fault) {
-                Ok(number) => say(answers, number.as_str()),
-                Err(fault) => Err(fault),
-            };
-            keeping(said, connection)
-        }
+        Err((fault, connection)) => (say_refused(alloc, fault, answers), connection),
     }
 }
 
@@ -77,14 +72,14 @@ fn played<A: Application + Drop, R: Records + Drop>(
     setup: Setup,
     calls: &str,
     answers: &mut String,
-) -> Result<R, RowFault> {
+) -> Kept<R> {
     match Node::<R, A>::open(alloc, setup, records) {
         Ok((mut node, _)) => {
             let done = play_all(alloc, &mut node, calls, answers);
             let (setup, records) = node.into_parts();
             opened_again::<A, R>(alloc, records, setup, done, answers)
         }
-        Err((fault, _, records)) => keeping(say_refused(fault, answers), records),
+        Err((fault, _, records)) => (say_unopened(fault, answers), records),
     }
 }
 
@@ -95,14 +90,14 @@ fn played_staged<A: Application + Drop, R: GroupRecords + Drop>(
     setup: Setup,
     calls: &str,
     answers: &mut String,
-) -> Result<R, RowFault> {
+) -> Kept<R> {
     match Staged::open(alloc, store) {
         Ok(staged) => {
-            let staged = played_holding::<A, R>(alloc, staged, setup, calls, answers)?;
-            Ok(staged.into_inner())
+            let (done, staged) = played_holding::<A, R>(alloc, staged, setup, calls, answers);
+            (done, staged.into_inner())
         }
-        Err((RecordsFault::Memory, _)) => Err(RowFault::Memory),
-        Err((RecordsFault::Store, store)) => keeping(say(answers, "not loaded"), store),
+        Err((RecordsFault::Memory, store)) => (Err(RowFault::Memory), store),
+        Err((RecordsFault::Store, store)) => (say(answers, "not loaded"), store),
     }
 }
 
@@ -113,40 +108,32 @@ fn played_holding<A: Application + Drop, R: GroupRecords + Drop>(
     setup: Setup,
     calls: &str,
     answers: &mut String,
-) -> Result<Staged<R>, RowFault> {
+) -> Kept<Staged<R>> {
     match Node::<Staged<R>, A>::open(alloc, setup, records) {
         Ok((mut node, _)) => {
             let done = play_all_holding(alloc, &mut node, calls, answers);
             let (setup, records) = node.into_parts();
             opened_again::<A, Staged<R>>(alloc, records, setup, done, answers)
         }
-        Err((fault, _, records)) => keeping(say_refused(fault, answers), records),
+        Err((fault, _, records)) => (say_unopened(fault, answers), records),
     }
 }
 
-/// Opens a node again over its records, and gives them back, where its calls were made. How much it has applied is appended, or why it does
-/// not open.
+/// Opens a node again over its records, and gives them back. How much it has applied is appended, or why it does not open. Faults: that of its
+/// calls, if any, and `Memory`.
 fn opened_again<A: Application + Drop, R: Records + Drop>(
     alloc: Global,
     records: R,
     setup: Setup,
     done: Result<(), RowFault>,
     answers: &mut String,
-) -> Result<R, RowFault> {
+) -> Kept<R> {
     match Node::<R, A>::open(alloc, setup, records) {
         Ok((node, is_short)) => {
             let said = say_opened(alloc, &node, is_short, answers);
-            keeping(both_done(done, said), node.into_records())
+            (both_done(done, said), node.into_records())
         }
-        Err((fault, _, records)) => keeping(both_done(done, say_refused(fault, answers)), records),
-    }
-}
-
-/// Whether both were done, with the first fault.
-fn both_done(first: Result<(), RowFault>, second: Result<(), RowFault>) -> Result<(), RowFault> {
-    match first {
-        Ok(()) => second,
-        Err(fault) => Err(fault),
+        Err((fault, _, records)) => (both_done(done, say_unopened(fault, answers)), records),
     }
 }
 
@@ -166,7 +153,7 @@ fn say_opened<A: Application + Drop, R: Records + Drop>(
 }
 
 /// Appends the number of the fault for which a node does not open.
-fn say_refused(fault: OpenFault, answers: &mut String) -> Result<(), RowFault> {
+fn say_unopened(fault: OpenFault, answers: &mut String) -> Result<(), RowFault> {
     match fault {
         OpenFault::Memory => Err(RowFault::Memory),
         OpenFault::Store => say(answers, "fault 4"),

@@ -1,7 +1,7 @@
 //! Databases that are opened.
 
 use super::calls::push_votes;
-use super::results::{keeping, of_call};
+use super::results::{Kept, of_call, push};
 use ballots::{Setup, SetupFault};
 use document_names::{Names, NamesFault};
 use records::{Record, Records, RecordsFault};
@@ -49,36 +49,52 @@ pub(super) fn read_setup(alloc: Global, words: &mut Words) -> Result<Setup, RowF
     setup(alloc, group, member, members)
 }
 
-/// What stands in a database, or why it is not opened as this member's.
-pub(super) fn standing_in<S: Alter + Drop>(
-    alloc: Global,
-    connection: Connection<S>,
-    setup: &Setup,
-) -> Result<String, RowFault> {
-    opened(alloc, SqlRecords::open(alloc, connection, setup))
-}
-
-/// What stands in a database that is opened again, or that there is no connection to it.
+/// Appends what stands in a database that is opened again, or that there is no connection to it, and gives back what there was.
 pub(super) fn found<S: Alter + Drop, F: Drop>(
     alloc: Global,
     connected: Result<Connection<S>, F>,
     setup: &Setup,
-) -> Result<String, RowFault> {
+    text: &mut String,
+) -> Kept<Result<Connection<S>, F>> {
     match connected {
-        Ok(connection) => standing_in(alloc, connection, setup),
-        Err(_) => Ok(String::from_str(alloc, "no connection")?),
+        Ok(connection) => {
+            let (done, connection) = push_standing(alloc, connection, setup, text);
+            (done, Ok(connection))
+        }
+        Err(files) => (push(text, "no connection"), Err(files)),
     }
 }
 
-/// What stands in records that were opened, or why they were not.
-fn opened<R: Records + Drop, C: Drop>(
+/// Appends what stands in a database, or why it is not opened as this member's, and gives it back. Fault: `Memory`.
+pub(super) fn push_standing<S: Alter + Drop>(
     alloc: Global,
-    opened: Result<R, (OpenFault, C)>,
-) -> Result<String, RowFault> {
-    match opened {
-        Ok(mut records) => standing(alloc, &mut records),
-        Err((fault, _)) => refused(alloc, fault),
+    connection: Connection<S>,
+    setup: &Setup,
+    text: &mut String,
+) -> Kept<Connection<S>> {
+    match SqlRecords::open(alloc, connection, setup) {
+        Ok(mut records) => {
+            let done = push_record(alloc, &mut records, text);
+            (done, records.into_connection())
+        }
+        Err((fault, connection)) => (push_refused(alloc, fault, text), connection),
     }
+}
+
+/// Appends what records hold, or how many failures there were.
+fn push_record<R: Records>(
+    alloc: Global,
+    records: &mut R,
+    text: &mut String,
+) -> Result<(), RowFault> {
+    let standing = standing(alloc, records)?;
+    push(text, standing.as_str())
+}
+
+/// Appends the number of the fault.
+fn push_refused(alloc: Global, fault: OpenFault, text: &mut String) -> Result<(), RowFault> {
+    let number = refused(alloc, fault)?;
+    push(text, number.as_str())
 }
 
 /// What records hold, or how many failures there were.
@@ -129,23 +145,10 @@ pub(super) fn opened_again<S: Alter + Drop>(
     }
 }
 
-/// The database after statements. Faults: `NotARow` where one fails, and `Memory`.
-pub(super) fn after_statements<S: Alter + Drop>(
-    mut connection: Connection<S>,
+/// Runs statements. Faults: `NotARow` where one fails, and `Memory`.
+pub(super) fn run_statements<S: Alter>(
+    connection: &mut Connection<S>,
     sql: &str,
-) -> Result<Connection<S>, RowFault> {
-    let done = of_call(connection.execute_batch(sql));
-    keeping(done, connection)
-}
-
-/// Appends what stands in a database, or why it is not opened as this member's. Faults: `NotARow`, and `Memory`.
-pub(super) fn push_standing<S: Alter + Drop>(
-    alloc: Global,
-    connection: Connection<S>,
-    setup: &Setup,
-    text: &mut String,
 ) -> Result<(), RowFault> {
-    let standing = standing_in(alloc, connection, setup)?;
-    text.push_str(standing.as_str())?;
-    Ok(())
+    of_call(connection.execute_batch(sql))
 }

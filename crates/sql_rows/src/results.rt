@@ -6,11 +6,22 @@ use record_writes::is_memory;
 use rows::RowFault;
 use sqlite::Error;
 
-/// The value. Fault: `NotARow` where there is an error.
-pub(super) fn or_not_a_row<T: Drop, E: Drop>(outcome: Result<T, E>) -> Result<T, RowFault> {
+/// Whether a step was done, and what it was done to, which is given back whatever came of it.
+pub(super) type Kept<T> = (Result<(), RowFault>, T);
+
+/// The value. Fault: `Memory` where there is an error: a sound database on disks that never fail has no other.
+pub(super) fn or_memory<T: Drop, E: Drop>(outcome: Result<T, E>) -> Result<T, RowFault> {
     match outcome {
         Ok(value) => Ok(value),
-        Err(_) => Err(RowFault::NotARow),
+        Err(_) => Err(RowFault::Memory),
+    }
+}
+
+/// Lets the value go, and keeps the fault.
+pub(super) fn let_go<T: Drop>(outcome: Result<T, RowFault>) -> Result<(), RowFault> {
+    match outcome {
+        Ok(_) => Ok(()),
+        Err(fault) => Err(fault),
     }
 }
 
@@ -25,10 +36,24 @@ pub(super) fn of_call<T: Drop>(outcome: Result<T, Error>) -> Result<T, RowFault>
 
 /// The value, where a step before it was done.
 pub(super) fn keeping<T: Drop>(done: Result<(), RowFault>, kept: T) -> Result<T, RowFault> {
-    match done {
-        Ok(()) => Ok(kept),
+    both_done(done, Ok(kept))
+}
+
+/// What came of the second step, where the first was done.
+pub(super) fn both_done<T: Drop>(
+    first: Result<(), RowFault>,
+    second: Result<T, RowFault>,
+) -> Result<T, RowFault> {
+    match first {
+        Ok(()) => second,
         Err(fault) => Err(fault),
     }
+}
+
+/// Appends a part.
+pub(super) fn push(text: &mut String, part: &str) -> Result<(), RowFault> {
+    text.push_str(part)?;
+    Ok(())
 }
 
 /// Both values. Fault: `Memory` where one of them was not made.

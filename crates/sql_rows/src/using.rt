@@ -2,7 +2,7 @@
 
 use super::calls::play_all;
 use super::opening::{opened_again, refused};
-use super::results::keeping;
+use super::results::Kept;
 use acceptor::Acceptor;
 use ballots::Setup;
 use records::{Records, RecordsFault};
@@ -19,10 +19,13 @@ pub(super) fn use_where_connected<S: Alter + Drop, F: Drop>(
     calls: &str,
     setup: &Setup,
     answers: &mut String,
-) -> Result<Result<Connection<S>, F>, RowFault> {
+) -> Kept<Result<Connection<S>, F>> {
     match connected {
-        Ok(connection) => Ok(Ok(used(alloc, connection, calls, setup, answers)?)),
-        Err(files) => keeping(say(answers, "no connection"), Err(files)),
+        Ok(connection) => {
+            let (done, connection) = used(alloc, connection, calls, setup, answers);
+            (done, Ok(connection))
+        }
+        Err(files) => (say(answers, "no connection"), Err(files)),
     }
 }
 
@@ -34,14 +37,14 @@ pub(super) fn used<S: Alter + Drop>(
     calls: &str,
     setup: &Setup,
     answers: &mut String,
-) -> Result<Connection<S>, RowFault> {
+) -> Kept<Connection<S>> {
     match opened_again(alloc, connection, setup) {
         Ok(records) => {
             let loaded = Acceptor::open(alloc, records);
-            let records = played(alloc, loaded, calls, answers)?;
-            Ok(records.into_connection())
+            let (done, records) = played(alloc, loaded, calls, answers);
+            (done, records.into_connection())
         }
-        Err((fault, connection)) => keeping(say_refused(alloc, fault, answers), connection),
+        Err((fault, connection)) => (say_refused(alloc, fault, answers), connection),
     }
 }
 
@@ -51,14 +54,14 @@ fn played<R: Records + Drop>(
     loaded: Result<Acceptor<R>, (RecordsFault, R)>,
     calls: &str,
     answers: &mut String,
-) -> Result<R, RowFault> {
+) -> Kept<R> {
     match loaded {
         Ok(mut acceptor) => {
             let done = play_all(alloc, &mut acceptor, calls, answers);
-            keeping(done, acceptor.into_records())
+            (done, acceptor.into_records())
         }
-        Err((RecordsFault::Memory, _)) => Err(RowFault::Memory),
-        Err((RecordsFault::Store, records)) => keeping(say(answers, "not loaded"), records),
+        Err((RecordsFault::Memory, records)) => (Err(RowFault::Memory), records),
+        Err((RecordsFault::Store, records)) => (say(answers, "not loaded"), records),
     }
 }
 
@@ -70,7 +73,11 @@ pub(super) fn say(answers: &mut String, part: &str) -> Result<(), RowFault> {
 }
 
 /// Appends the number of a fault.
-fn say_refused(alloc: Global, fault: OpenFault, answers: &mut String) -> Result<(), RowFault> {
+pub(super) fn say_refused(
+    alloc: Global,
+    fault: OpenFault,
+    answers: &mut String,
+) -> Result<(), RowFault> {
     let number = refused(alloc, fault)?;
     say(answers, number.as_str())
 }
