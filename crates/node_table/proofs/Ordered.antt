@@ -16,20 +16,12 @@ use Rattle.data_model.proofs.Climbs.{AreDistinct}
 use Rattle.data_model.proofs.Firsts.{eqb-swap, held-identities, before-seen}
 use Rattle.node_table.specs.declared.label.Labelled.{Labelled}
 use Rattle.node_table.specs.Labels.{Orders, label_of, lists_before}
+use Rattle.node_table.specs.Rising.{Follows, Rises}
 use Rattle.node_table.proofs.Labels.{seen-by-labels}
 use Rattle.node_table.proofs.LabelSteps.{seen-other}
 use Rattle.node_table.proofs.Axes.{Among, filter-among, filter-same}
 
 -- ---- lists that rise in another
-abbrev pub Follows : ℕ → List ℕ → List ℕ → Type 0
-Follows y [] xs = Unit {0}
-Follows y (z ∷ zs) xs = comes_before y z xs ≡ true
-
--- each of the list stands in xs, before the next of the list
-abbrev pub Rises : List ℕ → List ℕ → Type 0
-Rises [] xs = Unit {0}
-Rises (y ∷ ys) xs = (0 < held y xs) × Follows y ys xs × Rises ys xs
-
 abbrev Avoids : ℕ → List ℕ → Type 0
 Avoids x [] = Unit {0}
 Avoids x (y ∷ ys) = (eqb x y ≡ false) × Avoids x ys

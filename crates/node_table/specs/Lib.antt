@@ -7,3 +7,4 @@ pub mod Labels
 pub mod Plans
 pub mod Plain
 pub mod Cursors
+pub mod Rising

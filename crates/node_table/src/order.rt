@@ -7,8 +7,9 @@ ghost use Rattle.data_model.specs.Walks.{held};
 ghost use Rattle.node_table.specs.Rows.{table_of, HasRoom};
 ghost use Rattle.node_table.specs.Labels.{parent_in, place_of, lists_in, position_in, get_before, Ascends, HasNumbers, RisesBut, AreListed, IsBetween};
 
-use super::table::Rows;
+use super::table::{Row, Rows};
 use data_model::{NodeId, Part};
+use row_pages::Cursor;
 
 /// How far apart numbers are where there is room.
 const STEP: u64 = 1 << 32;
@@ -24,11 +25,12 @@ pub fn place(rows: &Rows, id: NodeId) -> u64
 }
 
 /// The parent of a node and the number that its row carries, by one look-up; `None` where it has no row, or its row no parent.
-pub fn place_below(rows: &Rows, id: NodeId) -> Option<(NodeId, u64)>
-    ensures parent { IfSome result (λ r. parent_in (table_of rows.now id) ≡ Some r.0) }
-    ensures place { IfSome result (λ r. r.1 ≡ place_of rows.now id) }
+pub fn place_below(rows: &mut Cursor<'_, Row>, id: NodeId) -> Option<(NodeId, u64)>
+    ensures parent { IfSome result (λ r. parent_in (table_of rows.old id) ≡ Some r.0) }
+    ensures place { IfSome result (λ r. r.1 ≡ place_of rows.old id) }
+    ensures same { rows.new ≡ rows.old }
 {
-    let row = rows.get(id.number())?;
+    let row = rows.seek(id.number())?;
     let parent = row.parent?;
     Some((parent, row.place))
 }

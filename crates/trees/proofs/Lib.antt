@@ -9,6 +9,7 @@ pub mod Lent
 pub mod Nests
 pub mod Planted
 pub mod Rising
+pub mod Merged
 pub mod Numbered
 pub mod Drafts
 pub mod Undone
