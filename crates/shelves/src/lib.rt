@@ -1,6 +1,7 @@
 //! A lent forest and an own one seen as one: what evaluation makes stands beside the stored trees, which are never copied.
 #![tactic(auto)]
 
+mod changes;
 mod cursor;
 pub mod laws;
 mod shelf;

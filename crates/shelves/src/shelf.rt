@@ -1,12 +1,11 @@
 //! Shelves: a lent forest and an own one, seen as one.
 
-ghost use Rattle.std.specs.Prelude.{◌≡◌, ℕ, ◌+◌, ◌<◌, ◌≤◌, ◌^◌, ◌↔◌, Option, Some, None, IfOk, OnOk, OnErr, IfSome, IfNone, IsErrOf, IsSome, IsTrue, List, [], true, filter, is_some, string_bytes, option_map};
+ghost use Rattle.std.specs.Prelude.{◌≡◌, ℕ, ◌+◌, ◌<◌, ◌≤◌, ◌^◌, ◌↔◌, Option, Some, None, IfOk, IfSome, IfNone, IsSome, IsTrue, [], true, filter, is_some, string_bytes, option_map};
 ghost use Rattle.std.specs.Map.{lookup};
 ghost use Rattle.std.specs.Str.{bytes_eq};
-ghost use Rattle.data_model.specs.Trees.{no_trees, append, leaf, find, bytes_in, count, size, children_of, attributes_of, parent_of, string_value_of, text_within, IsAt};
-ghost use Rattle.data_model.specs.Changes.{with_content, taken_out, all_moved_below, CanAllMoveBelow, pick, renumbered};
+ghost use Rattle.data_model.specs.Trees.{no_trees, find, bytes_in, size, children_of, attributes_of, parent_of, string_value_of, text_within, IsAt};
+ghost use Rattle.data_model.specs.Changes.{pick};
 ghost use Rattle.data_model.specs.declared.node.Kind.TheVariants.{Element};
-ghost use Rattle.data_model.specs.declared.node.Part.TheVariants.{Attributes, Children};
 ghost use Rattle.data_model.specs.Order.{identities, precedes};
 ghost use Rattle.data_model.specs.Views.{Views};
 ghost use Rattle.data_model.specs.Axes.{is_in};
@@ -19,14 +18,14 @@ use super::cursor::ShelfCursor;
 use std::alloc::{AllocError, Global};
 use std::marker::Model;
 use std::mem;
-use trees::{Forest, Kind, MakeFault, NodeId, NodeView, PlainValue, Tree};
+use trees::{Forest, Kind, NodeId, NodeView, PlainValue, Tree};
 
 /// A lent forest that stays as it is, and an own forest of the nodes that are made beside it, seen as one.
 ///
 /// What evaluation makes stands in the own forest, whose identities come after all of the lent one's; it has no documents.
 pub struct Shelf<'a> {
-    lent: &'a Forest,
-    own: Forest,
+    pub(super) lent: &'a Forest,
+    pub(super) own: Forest,
 }
 
 // By one call, whose contract is all that a caller's proof sees of it.
@@ -376,171 +375,5 @@ impl<'a> Shelf<'a> {
         let mut nodes = self.lent.document_order(alloc, ids)?;
         nodes.append(&mut own)?;
         Ok(nodes)
-    }
-
-    /// Makes an own node with no parent, which takes the next identity.
-    ///
-    /// Where memory is refused (`Memory`) or the next identity would pass 2^62 (`Limit`), all stays as it was.
-    pub fn make(
-        &mut self,
-        alloc: Global,
-        kind: Kind,
-        name: String,
-        text: String,
-    ) -> Result<NodeId, MakeFault>
-        ensures made { IfOk result
-            (λ i. (i ≡ self.old.own.next)
-            × (self.new
-            ≡ record self.old {
-              own =
-                  record self.old.own {
-                    trees =
-                        append
-                        self.old.own.trees
-                        (leaf
-                        (record {
-                          identity = i;
-                          kind = kind;
-                          name = string_bytes name;
-                          text = string_bytes text;
-                        }));
-                    next = i + 1;
-                  };
-            })) }
-        ensures limit { IsErrOf result MakeFault.Limit ↔ (2 ^ 62 ≤ self.old.own.next) }
-        ensures refused { OnErr result (self.new ≡ self.old) }
-    {
-        self.own.make(alloc, kind, name, text)
-    }
-
-    /// Makes the tree of an own node that has a parent a tree of its own.
-    pub fn take_out(&mut self, id: NodeId)
-        requires has { IsSome (find id self.old.own.trees) }
-        requires below { IsSome (parent_of id self.old.own.trees) }
-        ensures { self.new ≡ record self.old { own = record self.old.own { trees = taken_out id self.old.own.trees } } }
-    {
-        self.own.take_out(id);
-    }
-
-    /// Puts own trees below an own node, one after the other, as children before which `index` others stand.
-    ///
-    /// Where memory is refused, all stays as it was.
-    pub fn put_children(
-        &mut self,
-        parent: NodeId,
-        index: usize,
-        nodes: &[NodeId],
-    ) -> Result<(), AllocError>
-        requires { CanAllMoveBelow Children parent index nodes.now self.old.own.trees }
-        ensures put { OnOk result
-            (self.new
-            ≡ record self.old {
-              own =
-                  record self.old.own {
-                    trees = all_moved_below Children parent index nodes.now self.old.own.trees;
-                  };
-            }) }
-        ensures refused { OnErr result (self.new ≡ self.old) }
-    {
-        self.own.facts();
-        self.own.put_children(parent, index, nodes)
-    }
-
-    /// Puts own trees below an own node, one after the other, as attributes before which `index` others stand.
-    ///
-    /// Where memory is refused, all stays as it was.
-    pub fn put_attributes(
-        &mut self,
-        parent: NodeId,
-        index: usize,
-        nodes: &[NodeId],
-    ) -> Result<(), AllocError>
-        requires { CanAllMoveBelow Attributes parent index nodes.now self.old.own.trees }
-        ensures put { OnOk result
-            (self.new
-            ≡ record self.old {
-              own =
-                  record self.old.own {
-                    trees = all_moved_below Attributes parent index nodes.now self.old.own.trees;
-                  };
-            }) }
-        ensures refused { OnErr result (self.new ≡ self.old) }
-    {
-        self.own.facts();
-        self.own.put_attributes(parent, index, nodes)
-    }
-
-    /// Gives an own node another text.
-    pub fn set_text(&mut self, id: NodeId, text: String)
-        requires { IsSome (find id self.old.own.trees) }
-        ensures { self.new
-            ≡ record self.old {
-              own =
-                  record self.old.own {
-                    trees = with_content id (λ c. record c { text = string_bytes text }) self.old.own.trees;
-                  };
-            } }
-    {
-        self.own.set_text(id, text);
-    }
-
-    /// Gives an own node another name.
-    pub fn set_name(&mut self, id: NodeId, name: String)
-        requires { IsSome (find id self.old.own.trees) }
-        ensures { self.new
-            ≡ record self.old {
-              own =
-                  record self.old.own {
-                    trees = with_content id (λ c. record c { name = string_bytes name }) self.old.own.trees;
-                  };
-            } }
-    {
-        self.own.set_name(id, name);
-    }
-
-    /// Makes a copy of the tree of a node of either forest, as an own tree with no parent. Its nodes take the identities from the next one on, in document order.
-    ///
-    /// It gives the copy's root. Where memory is refused (`Memory`) or the next identity would pass 2^62 (`Limit`), all stays as it was.
-    pub fn copy(&mut self, alloc: Global, id: NodeId) -> Result<NodeId, MakeFault>
-        requires { IsSome (find id (shelf_trees self.old)) }
-        ensures made { IfOk result
-            (λ i. (i ≡ self.old.own.next)
-            × (self.new
-            ≡ record self.old {
-              own =
-                  record self.old.own {
-                    trees = append self.old.own.trees (renumbered self.old.own.next (pick id (shelf_trees self.old)));
-                    next = self.old.own.next + size (pick id (shelf_trees self.old));
-                  };
-            })) }
-        ensures limit { IsErrOf result MakeFault.Limit ↔ (2 ^ 62 < self.old.own.next + size (pick id (shelf_trees self.old))) }
-        ensures refused { OnErr result (self.new ≡ self.old) }
-    {
-        self.own.copy_from(alloc, self.lent, id)
-    }
-
-    /// Makes a tree of its own an own tree after all others, with no parent and with the identities that it has, which have been
-    /// set aside: they lie below the next one, and the root's comes first of them and after those of all nodes that stand here.
-    ///
-    /// Where memory is refused, all stays as it was.
-    pub fn plant(&mut self, alloc: Global, tree: &Tree) -> Result<(), AllocError>
-        requires distinct { (i : ℕ) → count i (trees_of_tree tree.now) ≤ 1 }
-        requires first { (i : ℕ) → 0 < count i (trees_of_tree tree.now) → tree.now.content.identity ≤ i }
-        requires below { (i : ℕ) → 0 < count i (trees_of_tree tree.now) → i < self.old.own.next }
-        requires after { (i : ℕ) → 0 < count i self.old.own.trees → i < tree.now.content.identity }
-        requires lent { self.old.lent.next ≤ tree.now.content.identity }
-        ensures planted { OnOk result
-            (self.new
-            ≡ record self.old {
-              own =
-                  record self.old.own {
-                    trees = append self.old.own.trees (trees_of_tree tree.now);
-                  };
-            }) }
-        ensures refused { OnErr result (self.new ≡ self.old) }
-    {
-        self.own.facts();
-        self.own.bounds();
-        self.own.plant(alloc, tree)
     }
 }
