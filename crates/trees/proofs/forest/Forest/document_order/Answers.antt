@@ -11,6 +11,7 @@ use Rattle.node_table.specs.Labels.{place_of}
 use Rattle.node_table.proofs.Ups.{orders-of, row-counts, row-there}
 use Rattle.node_table.proofs.Ordered.{by-labels-in-order, in-document-order}
 use Rattle.trees.proofs.forest.Forest.document_order.Goals as goal
+
 pub returns-then-rising-len : goal.returns-then-rising-len
 returns-then-rising-len c =
     let ids = c.args.ids.items in

@@ -78,7 +78,7 @@ loop-first-preserved-then-comes_first c =
     record {
       rows = subst (λ r. AreRowsOf r c.args.self.now) (sym c.comes_first.ensures.same) c.loop-first.invariant.rows;
       merged = subst (λ o. AreMerged xs ids o ls c.loop-first.right.now) (sym c.in_ok-push-2.ensures.items)
-      (subst (λ r. AreMerged xs ids (out ++ a ∷ []) ls r) (sym c.in-Some-split_first.ensures.cases.0) (left-taken xs ids out a b ls rs m (sym c.comes_first.ensures.before ∙ c.if-comes_first.true)));
+          (subst (λ r. AreMerged xs ids (out ++ a ∷ []) ls r) (sym c.in-Some-split_first.ensures.cases.0) (left-taken xs ids out a b ls rs m (sym c.comes_first.ensures.before ∙ c.if-comes_first.true)));
     }
 
 pub loop-first-preserved : goal.loop-first-preserved
@@ -95,7 +95,7 @@ loop-first-preserved c =
     record {
       rows = subst (λ r. AreRowsOf r c.args.self.now) (sym c.comes_first.ensures.same) c.loop-first.invariant.rows;
       merged = subst (λ o. AreMerged xs ids o c.loop-first.left.now rs) (sym c.in_ok-push-3.ensures.items)
-      (subst (λ l. AreMerged xs ids (out ++ b ∷ []) l rs) (sym c.in-Some.ensures.cases.0) (right-taken xs ids out a b ls rs m after));
+          (subst (λ l. AreMerged xs ids (out ++ b ∷ []) l rs) (sym c.in-Some.ensures.cases.0) (right-taken xs ids out a b ls rs m after));
     }
 
 pub returns : goal.returns
