@@ -161,6 +161,7 @@ impl<'a> Evaluation<'a> {
         requires ready { IsReady env.now self.old }
         ensures given { IfOk result (λ s. Gives (variable name.now env.now) self.old (Ok s.now) self.new) }
         ensures fails { IfErr result (λ fault. Fails (variable name.now env.now self.old) fault) }
+        ensures judged { IsErrOf result ValueFault.Memory → ⊥ }
     {
         match self.look_for(name.as_str(), env.variables())? {
             Some(items) => Ok(items),
