@@ -114,7 +114,7 @@ pub(crate) fn passing(
         (λ l. l.nodes.items ≡ filter (λ i. passes_at axis test.now (find i (shelf_trees shelf.now))) nodes.now) }
     ensures looked { IfOk result (λ l. l.looked_at ≡ length nodes.now) }
 {
-    let mut passing = Vec::new(alloc);
+    let mut passing = Vec::with_capacity(alloc, nodes.len())?;
     let mut cursor = shelf.cursor();
     for node in nodes {
         add_passing_by(&mut cursor, axis, test, *node, &mut passing)?;
