@@ -1,12 +1,13 @@
 -- Attributes, and what is none.
-use Rattle.std.proofs.Common.{◌≡◌, Bool, true, false, ◌&&◌, if◌then◌else◌, List, [], ◌∷◌, ◌++◌, refl, ap, sym, ◌∙◌}
+use Rattle.std.proofs.Common.{◌≡◌, Bool, true, false, ◌&&◌, if◌then◌else◌, List, [], ◌∷◌, ◌++◌, length, arith, refl, ap, sym, ◌∙◌}
+use Rattle.std.specs.Prelude.{not}
 use Rattle.std.specs.List.{list_all}
 use Rattle.data_model.specs.Tree.{TreeTerm, all_of, trees_of_tree}
 use Rattle.data_model.specs.Trees.{Trees, no_trees, tree, append}
 use Rattle.data_model.specs.declared.node.Kind.{Kind}
 use Rattle.data_model.proofs.Turns.{all_of-push}
 use Rattle.data_model.proofs.Weights.{append-none}
-use Rattle.query_meaning.specs.Content.{those, are_all}
+use Rattle.query_meaning.specs.Content.{those, are_all, attributes, others, is_attribute, is_other}
 
 pub all_are : (f : Kind → Bool) (xs : List TreeTerm) → list_all (λ (t : TreeTerm). f t.content.kind) xs ≡ are_all f (all_of xs)
 all_are f [] = refl
@@ -33,3 +34,25 @@ those_more f b xs ys t e h = of b e ∙ sym (ap (those f) (all_of-push xs t) ∙
     of : (b : Bool) → f t.content.kind ≡ b → all_of (if b then ys ++ t ∷ [] else ys) ≡ append (those f (all_of xs)) (if f t.content.kind then trees_of_tree t else no_trees)
     of true e = all_of-push ys t ∙ ap (λ us. append us (trees_of_tree t)) h ∙ ap (λ b. append (those f (all_of xs)) (if b then trees_of_tree t else no_trees)) (sym e)
     of false e = h ∙ sym (append-none (those f (all_of xs))) ∙ ap (λ b. append (those f (all_of xs)) (if b then trees_of_tree t else no_trees)) (sym e)
+
+pub none_before : (xs ys : List TreeTerm) → length xs ≡ 0 → all_of ys ≡ append (all_of xs) (all_of ys)
+none_before [] ys none = refl
+none_before (x ∷ xs) ys none = absurd (omega (arith, none))
+
+-- none is an attribute
+no_attribute : (b : Bool) → not b ≡ true → b ≡ false
+no_attribute true h = cc
+no_attribute false h = refl
+
+both_are : (b c : Bool) → b && c ≡ true → (b ≡ true) × (c ≡ true)
+both_are true c h = (refl, h)
+both_are false c h = cc
+
+pub all_others : (ts : Trees) → are_all is_other ts ≡ true → (attributes ts ≡ no_trees) × (others ts ≡ ts)
+all_others no_trees h = (refl, refl)
+all_others (tree c bs cs rest) h =
+    let each = both_are (is_other c.kind) (are_all is_other rest) h in
+    let more = all_others rest each.1 in (
+      ap (λ b. if b then tree c bs cs (attributes rest) else attributes rest) (no_attribute (is_attribute c.kind) each.0) ∙ more.0,
+      ap (λ b. if b then tree c bs cs (others rest) else others rest) each.0 ∙ ap (tree c bs cs) more.1,
+    )

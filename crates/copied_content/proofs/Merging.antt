@@ -1,6 +1,7 @@
 -- Adjacent texts that are merged from the left.
-use Rattle.std.proofs.Common.{◌≡◌, ℕ, ◌+◌, ◌-◌, ◌≤◌, Bool, true, false, ◌&&◌, cond, if◌then◌else◌, nat_le, List, [], ◌∷◌, ◌++◌, length, Ok, Err, refl, ap, sym, ◌∙◌, arith, append_assoc, append-nil, length-append}
+use Rattle.std.proofs.Common.{◌≡◌, ℕ, ◌+◌, ◌-◌, ◌≤◌, Bool, true, false, ◌&&◌, ◌||◌, cond, if◌then◌else◌, nat_le, List, [], ◌∷◌, ◌++◌, length, Ok, Err, refl, ap, sym, ◌∙◌, arith, append_assoc, append-nil, length-append}
 use Rattle.std.specs.Prelude.{filter, not}
+use Rattle.std.specs.Str.{bytes_eq}
 use Rattle.std.proofs.lemmas.Bool.Decides.{nat_tests}
 use Rattle.data_model.specs.Tree.{TreeTerm, all_of, trees_of_tree}
 use Rattle.data_model.specs.Trees.{Trees, no_trees, tree, Content, append, count, is_text}
@@ -13,7 +14,7 @@ use Rattle.values.specs.declared.fault.ValueFault.{ValueFault}
 use Rattle.values.specs.declared.fault.ValueFault.TheVariants as fault
 use Rattle.query_meaning.specs.Content.{without_adjacent_texts}
 use Rattle.evaluation.specs.Gives.{Fails}
-use Rattle.copied_content.specs.Merging.{and_merged, within_bytes}
+use Rattle.copied_content.specs.Merging.{and_merged, are_apart, is_apart, within_bytes}
 
 -- a tree before others, and one after them
 ends : (c : Content) (bs cs : Trees) (ts : Trees) (t : TreeTerm) → before_merged c bs cs (and_merged ts t) ≡ and_merged (before_merged c bs cs ts) t
@@ -229,3 +230,38 @@ few ts us e i = of (texts_within most_bytes (merged ts)) e
         let a = merged_few i ts in let b = without_empty_few i (merged ts) in let s = ap (count i) same in
         omega (arith, a, b, s)
     of false e = cc
+
+-- ---- trees that have nothing to be merged
+never_both : (w p e : Bool) → not (p && (w || e)) ≡ true → w && p ≡ false
+never_both true true e h = cc
+never_both true false e h = refl
+never_both false p e h = refl
+
+never_empty : (w p e : Bool) → not (p && (w || e)) ≡ true → p && e ≡ false
+never_empty w false e h = refl
+never_empty true true e h = cc
+never_empty false true true h = cc
+never_empty false true false h = refl
+
+first_apart : (c : Content) (bs cs ts : Trees) → are_apart (is_text c.kind) ts ≡ true → before_merged c bs cs ts ≡ tree c bs cs ts
+first_apart c bs cs no_trees h = refl
+first_apart c bs cs (tree d ds es rest) h =
+    let stays = both (is_apart (is_text c.kind) d) (are_apart (is_text d.kind) rest) h in
+    let apart = both (nat_le (length d.text) most_bytes) (not (is_text d.kind && (is_text c.kind || bytes_eq d.text []))) stays.0 in
+    ap (λ b. if b then tree (record c { text = c.text ++ d.text }) bs cs rest else tree c bs cs (tree d ds es rest)) (never_both (is_text c.kind) (is_text d.kind) (bytes_eq d.text []) apart.1)
+
+all_apart : (w : Bool) (ts : Trees) → are_apart w ts ≡ true → (merged ts ≡ ts) × (texts_within most_bytes ts ≡ true) × (without_empty_texts ts ≡ ts)
+all_apart w no_trees h = (refl, refl, refl)
+all_apart w (tree c bs cs rest) h =
+    let stays = both (is_apart w c) (are_apart (is_text c.kind) rest) h in
+    let short = both (nat_le (length c.text) most_bytes) (not (is_text c.kind && (w || bytes_eq c.text []))) stays.0 in
+    let others = all_apart (is_text c.kind) rest stays.1 in (
+      ap (before_merged c bs cs) others.0 ∙ first_apart c bs cs rest stays.1,
+      ap (λ b. b && texts_within most_bytes rest) short.0 ∙ others.1,
+      ap (λ b. if b then without_empty_texts rest else tree c bs cs (without_empty_texts rest)) (never_empty w (is_text c.kind) (bytes_eq c.text []) short.1) ∙ ap (tree c bs cs) others.2,
+    )
+
+pub apart_stays : (ts : Trees) → are_apart false ts ≡ true → without_adjacent_texts ts ≡ Ok ts
+apart_stays ts h =
+    let all = all_apart false ts h in
+    ap (λ us. if texts_within most_bytes us then Ok (without_empty_texts us) else Err PXQ0002) all.0 ∙ ap (λ b. if b then Ok (without_empty_texts ts) else Err PXQ0002) all.1 ∙ ap Ok all.2

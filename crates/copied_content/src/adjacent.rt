@@ -1,13 +1,13 @@
 //! Adjacent texts become one, and empty ones go (XQuery 1.0, section 3.7.1.3).
 
-ghost use Rattle.std.specs.Prelude.{◌≡◌, ◌≤◌, ◌&&◌, ◌∷◌, ◌++◌, [], ℕ, true, Ok, IfOk, IfErr, length};
+ghost use Rattle.std.specs.Prelude.{◌≡◌, ◌≤◌, ◌&&◌, ◌∷◌, ◌++◌, [], ℕ, true, false, Ok, IfOk, IfErr, length};
 ghost use Rattle.data_model.specs.Tree.{all_of};
 ghost use Rattle.data_model.specs.Trees.{count, is_text};
 ghost use Rattle.pending.specs.Texts.{is_empty_text, texts_within, without_empty_texts};
 ghost use Rattle.data_model.specs.Limits.{most_bytes};
 ghost use Rattle.query_meaning.specs.Content as meaning;
 ghost use Rattle.evaluation.specs.Gives.{Fails, Judged, Says};
-ghost use Rattle.copied_content.specs.Merging.{and_merged, within_bytes};
+ghost use Rattle.copied_content.specs.Merging.{and_merged, are_apart, is_apart, within_bytes};
 
 use crate::copied::CopiedContent;
 use data_model::limits::MOST_BYTES;
@@ -23,12 +23,39 @@ impl CopiedContent {
         ensures parts { Says (meaning.without_adjacent_texts self) result }
         ensures few { IfOk result (λ parts. (i : ℕ) → count i parts ≤ count i self) }
     {
+        // Most content has nothing to be merged.
+        if are_apart(self.as_slice()) {
+            return Ok(self);
+        }
         let mut merged = Vec::new(alloc);
         for tree in self.into_trees() {
             merged = and_merged(merged, tree)?;
         }
         Ok(CopiedContent::of(without_empty_texts(merged)))
     }
+}
+
+/// Whether no text comes right after another, none is empty, and none is longer than 65,536 bytes.
+fn are_apart(trees: &[Tree]) -> bool
+    ensures { result ≡ are_apart false (all_of trees.now) }
+{
+    let mut was_text = false;
+    let mut rest = trees;
+    while let Some((tree, others)) = rest.split_first() {
+        if !is_apart(was_text, tree) {
+            return false;
+        }
+        was_text = is_text(tree);
+        rest = others;
+    }
+    true
+}
+
+/// Whether a tree stays as it is after another, of which it is known whether it is a text.
+fn is_apart(was_text: bool, tree: &Tree) -> bool
+    ensures { result ≡ is_apart was_text tree.now.content }
+{
+    text_len(tree) <= MOST_BYTES && !(is_text(tree) && (was_text || tree.content().text.is_empty()))
 }
 
 /// One tree more: the last before it takes in its text, if both are texts. Faults: `Memory`; `Code` with PXQ0002 where a text would be

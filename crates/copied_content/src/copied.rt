@@ -51,12 +51,15 @@ impl CopiedContent {
         Ok(CopiedContent { trees })
     }
 
-    /// The trees of the one, then those of the other. It fails where memory is refused.
+    /// The trees of the one, then those of the other, which are given back where the first has none. It fails where memory is refused.
     pub(crate) fn and(self, other: CopiedContent) -> Result<CopiedContent, AllocError>
         ensures { IfOk result (λ all. all ≡ append self other) }
     {
         let CopiedContent { mut trees } = self;
         let CopiedContent { trees: mut others } = other;
+        if trees.is_empty() {
+            return Ok(CopiedContent { trees: others });
+        }
         trees.append(&mut others)?;
         Ok(CopiedContent { trees })
     }

@@ -39,11 +39,17 @@ impl CopiedContent {
         are_all_others(self.as_slice())
     }
 
-    /// The attributes, and what is none. It fails where memory is refused.
+    /// The attributes, and what is none, which takes no memory where nothing is an attribute. It fails where memory is refused.
     pub fn split(self, alloc: Global) -> Result<SplitContent, AllocError>
         ensures attributes { IfOk result (λ split. all_of split.attributes.items ≡ meaning.attributes self) }
         ensures others { IfOk result (λ split. all_of split.others.items ≡ meaning.others self) }
     {
+        if self.are_all_others() {
+            return Ok(SplitContent {
+                attributes: Vec::new(alloc),
+                others: self.into_trees(),
+            });
+        }
         let mut split = SplitContent::new(alloc);
         for tree in self.into_trees() {
             split = split.and(tree)?;
