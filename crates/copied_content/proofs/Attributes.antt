@@ -7,6 +7,7 @@ use Rattle.data_model.specs.Trees.{Trees, no_trees, tree, append}
 use Rattle.data_model.specs.declared.node.Kind.{Kind}
 use Rattle.data_model.proofs.Turns.{all_of-push}
 use Rattle.data_model.proofs.Weights.{append-none}
+use Rattle.copied_content.proofs.Merging.{both}
 use Rattle.query_meaning.specs.Content.{those, are_all, attributes, others, is_attribute, is_other}
 
 pub all_are : (f : Kind → Bool) (xs : List TreeTerm) → list_all (λ (t : TreeTerm). f t.content.kind) xs ≡ are_all f (all_of xs)
@@ -44,14 +45,10 @@ no_attribute : (b : Bool) → not b ≡ true → b ≡ false
 no_attribute true h = cc
 no_attribute false h = refl
 
-both_are : (b c : Bool) → b && c ≡ true → (b ≡ true) × (c ≡ true)
-both_are true c h = (refl, h)
-both_are false c h = cc
-
 pub all_others : (ts : Trees) → are_all is_other ts ≡ true → (attributes ts ≡ no_trees) × (others ts ≡ ts)
 all_others no_trees h = (refl, refl)
 all_others (tree c bs cs rest) h =
-    let each = both_are (is_other c.kind) (are_all is_other rest) h in
+    let each = both (is_other c.kind) (are_all is_other rest) h in
     let more = all_others rest each.1 in (
       ap (λ b. if b then tree c bs cs (attributes rest) else attributes rest) (no_attribute (is_attribute c.kind) each.0) ∙ more.0,
       ap (λ b. if b then tree c bs cs (others rest) else others rest) each.0 ∙ ap (tree c bs cs) more.1,

@@ -72,7 +72,7 @@ within_last m (x ∷ xs) t = of (nat_le (length x.content.text) m) ∙ ap (λ b.
     of_both true = refl
     of_both false = refl
 
-both : (b c : Bool) → b && c ≡ true → (b ≡ true) × (c ≡ true)
+pub both : (b c : Bool) → b && c ≡ true → (b ≡ true) × (c ≡ true)
 both true c e = (refl, e)
 both false c e = cc
 
