@@ -6,7 +6,7 @@ ghost use Rattle.std.specs.HashMap.{spare};
 ghost use Rattle.row_pages.specs.Pages.{number_of};
 ghost use Rattle.row_pages.specs.Index.{IsIndex};
 
-use super::pages::{Pages, drop_page, make_page, set_number};
+use super::pages::{Pages, add_number, drop_page, set_number};
 
 /// Appends an item to a list that has room for it.
 pub(super) fn append<T: Drop>(items: &mut Vec<T>, item: T)
@@ -47,9 +47,8 @@ pub(super) fn add_key(pages: &mut Pages, keys: &mut Vec<u64>, key: u64)
     ensures spare { spare pages.old ≤ spare pages.new + 1 }
     ensures capacity { vec_capacity keys.old ≤ vec_capacity keys.new }
 {
-    make_page(pages, key);
     append(keys, key);
-    set_number(pages, key, keys.len() as u32);
+    add_number(pages, key, keys.len() as u32);
 }
 
 /// Takes a key out of the list. The last of the list takes its place.

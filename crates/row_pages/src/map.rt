@@ -7,6 +7,7 @@ ghost use Rattle.std.specs.Option.{option_copied_mut};
 ghost use Rattle.row_pages.specs.Rows.{entries, spare, get, Changes};
 
 use super::cursor::Cursor;
+use super::hasher::PageHashes;
 use super::index::{add_key, append, remove_key, shrink_list};
 use super::pages::{Pages, number, shrink_pages};
 use std::alloc::{AllocError, Global};
@@ -46,7 +47,7 @@ impl<V: Drop> RowPages<V> {
         ensures { entries result ≡ [] }
     {
         RowPages {
-            pages: HashMap::new(alloc),
+            pages: HashMap::with_hasher(alloc, PageHashes),
             keys: Vec::new(alloc),
             values: Vec::new(alloc),
         }

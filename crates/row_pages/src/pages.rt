@@ -5,10 +5,11 @@ ghost use Rattle.std.specs.HashMap.{spare};
 ghost use Rattle.row_pages.specs.Pages.{number_of, HasPage};
 ghost use Rattle.row_pages.specs.AtHand.{IsAtHand};
 
+use super::hasher::PageHashes;
 use std::collections::HashMap;
 
 /// Pages by number. The keys of page n are those from 16 n on.
-pub(super) type Pages = HashMap<u64, [u32; 16]>;
+pub(super) type Pages = HashMap<u64, [u32; 16], PageHashes>;
 
 /// The number of a key, 0 for none.
 pub(super) fn number(pages: &Pages, key: u64) -> u32
@@ -68,19 +69,23 @@ fn write(page: &mut [u32; 16], at: usize, number: u32)
     page[at] = number;
 }
 
-/// Makes the page of a key, with no numbers, unless it is there.
-pub(super) fn make_page(pages: &mut Pages, key: u64)
+/// Gives a key a number, in a page that is made where none is there.
+pub(super) fn add_number(pages: &mut Pages, key: u64, number: u32)
     requires room { 1 ≤ spare pages.old }
-    ensures same { (k : ℕ) → number_of pages.new k ≡ number_of pages.old k }
-    ensures there { HasPage pages.new key }
+    ensures here { number_of pages.new key ≡ number }
+    ensures apart { (k : ℕ) → k ≢ key → number_of pages.new k ≡ number_of pages.old k }
     ensures spare { spare pages.old ≤ spare pages.new + 1 }
 {
-    if !pages.contains_key(&(key / 16)) {
-        match pages.insert(key / 16, [0; 16]) {
-            Ok(_) => {}
-            // There is room, so this is not reached.
-            Err(_) => {}
-        }
+    if let Some(page) = pages.get_mut(&(key / 16)) {
+        write(page, (key % 16) as usize, number);
+        return;
+    }
+    let mut page = [0; 16];
+    write(&mut page, (key % 16) as usize, number);
+    match pages.insert(key / 16, page) {
+        Ok(_) => {}
+        // There is room, so this is not reached.
+        Err(_) => {}
     }
 }
 
