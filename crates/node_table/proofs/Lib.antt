@@ -22,3 +22,4 @@ pub mod Listings
 pub mod Ups
 pub mod InPlace
 pub mod Views
+pub mod Rising

@@ -1,10 +1,13 @@
 //! Document order, by the numbers that rows carry.
 
-ghost use Rattle.std.specs.Prelude.{◌≡◌, ◌≢◌, ℕ, ◌<◌, ◌≤◌, ◌^◌, Option, Some, None, IfSome, IsSome, option_map, length};
+ghost use Rattle.std.specs.Prelude.{◌≡◌, ◌≢◌, ℕ, ◌<◌, ◌≤◌, ◌^◌, Option, Some, None, IfSome, IsSome, option_map, length, take, true};
 ghost use Rattle.std.specs.List.{slice_get};
 ghost use Rattle.data_model.specs.declared.node.Part.{Part};
+ghost use Rattle.data_model.specs.Order.{identities, precedes};
+ghost use Rattle.data_model.specs.Trees.{find};
 ghost use Rattle.data_model.specs.Walks.{held};
-ghost use Rattle.node_table.specs.Rows.{table_of, HasRoom};
+ghost use Rattle.node_table.specs.Rising.{AreOrdered, IsAbove, Rises};
+ghost use Rattle.node_table.specs.Rows.{table_of, trees_of, HasRoom};
 ghost use Rattle.node_table.specs.Labels.{parent_in, place_of, lists_in, position_in, get_before, Ascends, HasNumbers, RisesBut, AreListed, IsBetween};
 
 use super::table::{Row, Rows};
@@ -174,4 +177,75 @@ pub fn settle(rows: &mut Rows, part: Part, parent: NodeId, index: usize)
         Some(place) => set_place(rows, node, place),
         None => renumber(rows, parent),
     }
+}
+
+/// How many nodes at the front of a list stand in the table and come in document order, each once, as far as each with the one before it tells: they have
+/// as many nodes above them, of which a node has at most so many. More of them may come so all the same. Of siblings each row is looked up once.
+pub fn rising(rows: &Rows, levels: u64, ids: &[NodeId]) -> usize
+    requires { AreOrdered rows.now levels }
+    ensures within { result ≤ length ids.now }
+    ensures rises { Rises (take result ids.now) (identities (trees_of (table_of rows.now) levels)) }
+{
+    if ids.is_empty() || !rows.contains_key(ids[0].number()) {
+        return 0;
+    }
+    let mut cursor = rows.cursor();
+    let Some(first) = place_below(&mut cursor, ids[0]) else {
+        return 1;
+    };
+    let mut above = first;
+    for at in 1..ids.len() {
+        let Some(next) = next_above(&mut cursor, levels, ids[at - 1], above, ids[at]) else {
+            return at;
+        };
+        above = next;
+    }
+    ids.len()
+}
+
+/// The parent and the number of the node `b`, where it comes after `a`, of which both are known, as far as their levels tell.
+fn next_above(
+    rows: &mut Cursor<'_, Row>,
+    levels: u64,
+    a: NodeId,
+    above_a: (NodeId, u64),
+    b: NodeId,
+) -> Option<(NodeId, u64)>
+    requires rows { AreOrdered rows.old levels }
+    requires above { IsAbove rows.old a above_a }
+    ensures above { IfSome result (IsAbove rows.old b) }
+    ensures has_b { IfSome result (λ _. IsSome (find b (trees_of (table_of rows.old) levels))) }
+    ensures before { IfSome result (λ _. precedes a b (trees_of (table_of rows.old) levels) ≡ true) }
+    ensures same { rows.new ≡ rows.old }
+{
+    let above_b = place_below(rows, b)?;
+    if above_a.0 == above_b.0 {
+        return (above_a.1 < above_b.1).then_some(above_b);
+    }
+    let Some(true) = level_order(rows, levels, a, b) else {
+        return None;
+    };
+    Some(above_b)
+}
+
+/// Whether the node `a` comes before the node `b` in document order, of two nodes that stand in the table below one root and have as many others above
+/// each, at most so many; `None` for any others. It goes up from both until their parents are one, by a look-up a level.
+pub fn level_order(rows: &mut Cursor<'_, Row>, levels: u64, a: NodeId, b: NodeId) -> Option<bool>
+    requires rows { AreOrdered rows.old levels }
+    ensures has_b { IfSome result (λ _. IsSome (find b (trees_of (table_of rows.old) levels))) }
+    ensures before { IfSome result (λ is_first. is_first ≡ precedes a b (trees_of (table_of rows.old) levels)) }
+    ensures same { rows.new ≡ rows.old }
+{
+    let mut first = a;
+    let mut second = b;
+    for _ in 0..levels {
+        let above_first = place_below(rows, first)?;
+        let above_second = place_below(rows, second)?;
+        if above_first.0 == above_second.0 {
+            return Some(above_first.1 < above_second.1);
+        }
+        first = above_first.0;
+        second = above_second.0;
+    }
+    None
 }

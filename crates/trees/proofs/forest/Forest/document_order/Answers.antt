@@ -17,7 +17,8 @@ returns-then-rising-len c =
     let ids = c.args.ids.items in
     let xs = identities c.args.self.now.trees in
     let whole : take c.rising-rising.result ids ≡ ids = take_all c.rising-rising.result ids (omega (arith, c.if-rising-len.true, c.len.ensures)) in
-    let rises : Rises ids xs = subst (λ l. Rises l xs) whole (subst (λ l. Rises (take c.rising-rising.result l) xs) c.deref.ensures.value c.rising-rising.ensures.rises) in
+    let told : Rises (take c.rising-rising.result c.deref.result.now) xs = subst (λ (t : ForestTerm). Rises (take c.rising-rising.result c.deref.result.now) (identities t.trees)) c.self.view_is c.rising-rising.ensures.rises in
+    let rises : Rises ids xs = subst (λ l. Rises l xs) whole (subst (λ l. Rises (take c.rising-rising.result l) xs) c.deref.ensures.value told) in
     sym (in-document-order ids ids c.args.self.now.trees c.facts.ensures.distinct (λ i there. refl) rises)
 
 pub returns : goal.returns
