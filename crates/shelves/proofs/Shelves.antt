@@ -1,9 +1,12 @@
 -- The two forests of a shelf.
-use Rattle.std.proofs.Common.{◌≡◌, ℕ, ◌+◌, ◌≤◌, ◌<◌, [], ◌∷◌, ◌++◌, refl, ap, sym, ◌∙◌, arith, ⊎_elim, Option, Some, None, IsSome, IfSome, is_some, true, false, unwrap_or, append_assoc, subst, Result, Ok, Err, IfOk, OnErr, Bool, List, map, filter, append-nil, cond, eqb, max}
+use Rattle.std.proofs.Common.{◌≡◌, ◌≢◌, ℕ, ◌+◌, ◌≤◌, ◌<◌, [], ◌∷◌, ◌++◌, refl, ap, sym, ◌∙◌, arith, ⊎_elim, Option, Some, None, IsSome, IfSome, is_some, true, false, unwrap_or, append_assoc, subst, Result, Ok, Err, IfOk, OnErr, Bool, List, map, filter, append-nil, cond, eqb, max, nat_le, nat_lt}
 use Prim.Native.Nat.{suc}
 use Rattle.std.proofs.lemmas.List.{map-append}
 use Rattle.std.proofs.lemmas.List.Elements.{filter-append}
-use Rattle.std.proofs.lemmas.Bool.Decides.{eqb_tells}
+use Rattle.std.proofs.lemmas.Bool.{and_parts}
+use Rattle.std.proofs.lemmas.Bool.Decides.{eqb_tells, nat_tests}
+use Rattle.std.specs.List.{list_all}
+use Rattle.data_model.specs.Axes.{is_in}
 use Rattle.data_model.specs.Trees.{Trees, no_trees, tree, Content, Place, value_at, append, leaf, listing, count, size, find, first, parent_at, IsAt}
 use Rattle.data_model.specs.Changes.{all_moved_below, CanAllMoveBelow, pick, ranked}
 use Rattle.data_model.specs.Planted.{past}
@@ -77,6 +80,12 @@ plain-same i ts us v same picked h =
 pub parted-shelf : (s : ShelfTerm) → IsShelf s → IsParted s.lent.next s.lent.trees s.own.trees
 parted-shelf s h = record { below = h.lent.below; above = h.after.apart }
 
+-- a shelf's own two forests
+pub parted-inside : (u v : ForestTerm) (s : ShelfTerm) → record { lent = u; own = v } ≡ s → IsShelf s → IsParted u.next u.trees v.trees
+parted-inside u v s is h =
+    let P : ShelfTerm → Type 0 = λ t. IsParted t.lent.next t.lent.trees t.own.trees in
+    subst P (sym is) (parted-shelf s h)
+
 module _ (n i : ℕ) (ts us : Trees) (h : IsParted n ts us) where
   pub parted-lent : i < n → find i (append ts us) ≡ find i ts
   parted-lent l =
@@ -109,6 +118,45 @@ none-pass p (tree c bs cs rest) h = absurd (omega arith)
 
 pub passing-lent : (p : ℕ → Bool) (ts us : Trees) → size us ≡ 0 → filter p (identities (append ts us)) ≡ filter p (identities ts)
 passing-lent p ts us h = passing-both p ts us ∙ ap (λ l. filter p (identities ts) ++ l) (none-pass p us h) ∙ append-nil (filter p (identities ts))
+
+-- what of a list passes a test
+among : (t : ℕ → Bool) (ids : List ℕ) (i : ℕ) → list_all t ids ≡ true → is_in i ids ≡ true → t i ≡ true
+among t [] i all at = let z : false ≡ true = at in cc
+among t (j ∷ js) i all at =
+    ⊎_elim (λ (s : (eqb i j ≡ true) × (i ≡ j)). ap t s.1 ∙ (and_parts (t j) (list_all t js) all).0)
+    (λ (s : (eqb i j ≡ false) × (i ≢ j)). among t js i (and_parts (t j) (list_all t js) all).1 (rw s.0 at at))
+    (eqb_tells i j)
+
+refuted : (b : Bool) → (b ≡ true → ⊥) → b ≡ false
+refuted true h = absurd (h refl)
+refuted false h = refl
+
+none-held : (p : ℕ → Bool) (xs : List ℕ) → ((i : ℕ) → 0 < held i xs → p i ≡ false) → filter p xs ≡ []
+none-held p [] h = refl
+none-held p (x ∷ xs) h = rw (h x (rw (eqb-same x) (omega arith))) (none-held p xs (λ i l. h i (omega (arith, l))))
+
+-- nodes that the own forest alone may have, and those that the lent one alone may have
+module _ (n : ℕ) (ts us : Trees) (h : IsParted n ts us) (ids : List ℕ) where
+  pub all-own : list_all (λ i. nat_le n i) ids ≡ true → filter (λ i. is_in i ids) (identities (append ts us)) ≡ filter (λ i. is_in i ids) (identities us)
+  all-own all =
+      passing-both (λ i. is_in i ids) ts us
+      ∙ ap (λ l. l ++ filter (λ i. is_in i ids) (identities us))
+      (none-held (λ i. is_in i ids) (identities ts)
+      (λ i l.
+      (let e = held-identities i ts in
+      let low : i < n = h.below i (omega (arith, e, l)) in
+      refuted (is_in i ids) (λ at. (let high : nat_le n i ≡ true = among (λ j. nat_le n j) ids i all at in grind (arith, nat_tests))))))
+
+  pub all-lent : list_all (λ i. nat_lt i n) ids ≡ true → filter (λ i. is_in i ids) (identities (append ts us)) ≡ filter (λ i. is_in i ids) (identities ts)
+  all-lent all =
+      passing-both (λ i. is_in i ids) ts us
+      ∙ ap (λ l. filter (λ i. is_in i ids) (identities ts) ++ l)
+      (none-held (λ i. is_in i ids) (identities us)
+      (λ i l.
+      (let e = held-identities i us in
+      let high : n ≤ i = h.above i (omega (arith, e, l)) in
+      refuted (is_in i ids) (λ at. (let low : nat_lt i n ≡ true = among (λ j. nat_lt j n) ids i all at in grind (arith, nat_tests))))))
+      ∙ append-nil (filter (λ i. is_in i ids) (identities ts))
 
 module _ (a b : ℕ) (ts us : Trees) where
   held-some : (i : ℕ) → 0 < count i ts → 0 < held i (identities ts)

@@ -1,6 +1,7 @@
 //! Shelves: a lent forest and an own one, seen as one.
 
-ghost use Rattle.std.specs.Prelude.{◌≡◌, ℕ, ◌+◌, ◌<◌, ◌≤◌, ◌^◌, ◌↔◌, Option, Some, None, IfOk, IfSome, IfNone, IsSome, IsTrue, [], true, filter, is_some, string_bytes, option_map};
+ghost use Rattle.std.specs.Prelude.{◌≡◌, ℕ, ◌+◌, ◌<◌, ◌≤◌, ◌^◌, ◌↔◌, Option, Some, None, IfOk, IfSome, IfNone, IsSome, IsTrue, [], true, filter, is_some, string_bytes, option_map, nat_le, nat_lt};
+ghost use Rattle.std.specs.List.{list_all};
 ghost use Rattle.std.specs.Map.{lookup};
 ghost use Rattle.std.specs.Str.{bytes_eq};
 ghost use Rattle.data_model.specs.Trees.{no_trees, find, bytes_in, size, children_of, attributes_of, parent_of, string_value_of, text_within, IsAt};
@@ -363,7 +364,7 @@ impl<'a> Shelf<'a> {
     /// The nodes of a list in document order, each once (XQuery 1.0 and XPath 2.0 Data Model, section 2.4): those of the lent forest,
     /// then the own ones. Those that stand in neither are left out.
     ///
-    /// It takes what `Forest::document_order` does, in the lent forest and, where there are own nodes, in the own one. Where memory is
+    /// It takes what `Forest::document_order` does, in each forest that may have some of them, as their numbers tell. Where memory is
     /// refused, the list is gone.
     pub fn document_order(&self, alloc: Global, ids: Vec<NodeId>) -> Result<Vec<NodeId>, AllocError>
         ensures { IfOk result (λ nodes. nodes.items ≡ filter (λ i. is_in i ids.items) (identities (shelf_trees self.now))) }
@@ -371,9 +372,33 @@ impl<'a> Shelf<'a> {
         if self.own.len() == 0 {
             return self.lent.document_order(alloc, ids);
         }
+        self.facts();
+        let first = self.lent.next();
+        if are_below(&ids, first) {
+            return self.lent.document_order(alloc, ids);
+        }
+        if are_from(&ids, first) {
+            return self.own.document_order(alloc, ids);
+        }
         let mut own = self.own.document_order(alloc, ids.clone()?)?;
         let mut nodes = self.lent.document_order(alloc, ids)?;
         nodes.append(&mut own)?;
         Ok(nodes)
     }
+}
+
+/// Whether all of these identities have lower numbers than that one.
+fn are_below(ids: &[NodeId], first: NodeId) -> bool
+    ensures { result ≡ list_all (λ i. nat_lt i first) ids.now }
+{
+    let first = first.number();
+    ids.iter().all(|id| id.number() < first)
+}
+
+/// Whether none of these identities has a lower number than that one.
+fn are_from(ids: &[NodeId], first: NodeId) -> bool
+    ensures { result ≡ list_all (λ i. nat_le first i) ids.now }
+{
+    let first = first.number();
+    ids.iter().all(|id| id.number() >= first)
 }
