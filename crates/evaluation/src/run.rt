@@ -263,18 +263,23 @@ impl<'a> Evaluation<'a> {
         ensures same { self.new ≡ record self.old { work = self.new.work } }
         ensures judged { Judged (work (nodes_of (trees_of self.old) item.now) self.old) result }
     {
-        if let Item::Node(id) = item {
-            if let Some(plain) = self.shelf.plain_value(*id) {
-                // What stands in one text is read by the look-ups that count its nodes too.
-                let nodes = plain.size;
-                if self.work < nodes {
-                    return Err(ValueFault::Code(Code::PXQ0002));
-                }
-                let atom = plain_atom(self.alloc, plain)?;
-                self.spend(nodes)?;
-                self.spend(atom_work(&atom))?;
-                return Ok(atom);
+        let node = match item {
+            Item::Atomic(value) => {
+                self.spend(atom_work(value))?;
+                return Ok(value.clone()?);
             }
+            Item::Node(node) => *node,
+        };
+        if let Some(plain) = self.shelf.plain_value(node) {
+            // What stands in one text is read by the look-ups that count its nodes too.
+            let nodes = plain.size;
+            if self.work < nodes {
+                return Err(ValueFault::Code(Code::PXQ0002));
+            }
+            let atom = plain_atom(self.alloc, plain)?;
+            self.spend(nodes)?;
+            self.spend(atom_work(&atom))?;
+            return Ok(atom);
         }
         self.gathered_atom(item)
     }
