@@ -22,8 +22,9 @@ use Rattle.query_meaning.specs.Running.{M, Run, ◌>>=◌, come_to, trees_of, wi
 use Rattle.query_meaning.specs.Sequences.{Meaning}
 use Rattle.evaluation.specs.Gives.{Any, Fails, Gives, GivesIn, Says, Stand}
 use Rattle.evaluation.proofs.Each.{grows_refl, then_gives}
+use Rattle.evaluation.proofs.Limits.{within_is}
 use Rattle.query_steps.proofs.Lists.{filter-both}
-use Rattle.query_steps.proofs.Members.{filtered-stand, within-is}
+use Rattle.query_steps.proofs.Members.{filtered-stand}
 use Rattle.query_paths.specs.Steps.{chosen_from, step_at}
 use Rattle.query_paths.proofs.Work.{fails_first}
 
@@ -63,7 +64,7 @@ kept_stand a is xs run stand directed = let P : List Item → Type 0 = λ ys. St
 
 -- what is left is given, if it is not too much
 within_gives : (xs : List Item) (run : Run) (r : Result (List Item) ValueFault) → Stand xs run → Says (within xs) r → Gives (come_to (within xs)) run r run
-within_gives xs run (Ok ys) stand says = let P : List Item → Type 0 = λ zs. Stand zs run in (ap (λ o. come_to o run) says, (grows_refl run, subst P (sym (within-is xs ys says)) stand))
+within_gives xs run (Ok ys) stand says = let P : List Item → Type 0 = λ zs. Stand zs run in (ap (λ o. come_to o run) says, (grows_refl run, subst P (sym (within_is xs ys says)) stand))
 within_gives xs run (Err fault.Memory) stand says = tt
 within_gives xs run (Err (fault.Code code)) stand says = ap (λ o. come_to o run) says
 

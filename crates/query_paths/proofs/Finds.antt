@@ -20,8 +20,9 @@ use Rattle.query_meaning.specs.Running.{M, Run, and_then, ◌>>=◌, come_to, co
 use Rattle.query_meaning.specs.Sequences.{Meaning}
 use Rattle.evaluation.specs.Gives.{Fails, Gives, GivesIn, Says, Stand, Turns}
 use Rattle.evaluation.proofs.Each.{grows_refl, then_gives}
+use Rattle.evaluation.proofs.Limits.{within_is}
 use Rattle.query_steps.proofs.Ancestors.{held-once}
-use Rattle.query_steps.proofs.Members.{filtered-stand, not-too-many, within-is}
+use Rattle.query_steps.proofs.Members.{filtered-stand, not-too-many}
 use Rattle.query_paths.proofs.Counts.{members}
 use Rattle.query_grammar.specs.declared.ast.Expr.{Expr}
 use Rattle.query_paths.specs.Gathered.{IsFew, IsFewIn, followed, listed, one_found, found_in, gathered}
@@ -82,7 +83,7 @@ module _ (mixed : Code) (env : Environment) (items : List Item) (m : Meaning) (o
 few_gives : (m : M (List Item)) (xs : List Item) (run : Run) (r : Result (List Item) ValueFault) → m run ≡ Ok (xs, run) → Stand xs run → length xs ≤ 10000 → Says (within xs) r → Gives m run r run
 few_gives m xs run (Ok ys) to stand few says =
     let P : List Item → Type 0 = λ zs. Stand zs run in
-    let is : xs ≡ ys = sym (within-is xs ys says) in
+    let is : xs ≡ ys = sym (within_is xs ys says) in
     (to ∙ ap (λ zs. Ok (zs, run)) is, (grows_refl run, subst P is stand))
 few_gives m xs run (Err fault.Memory) to stand few says = tt
 few_gives m xs run (Err (fault.Code code)) to stand few says = absurd (not-too-many xs code few says)

@@ -24,6 +24,7 @@ use Rattle.query_meaning.specs.Running.{M, Run, and_then, come_to, seen, trees_o
 use Rattle.query_meaning.specs.Operators.{all_nodes, nodes, ordering, set_of}
 use Rattle.evaluation.specs.Gives.{Any, Fails, Gives, GivesIn, Says, Stand}
 use Rattle.evaluation.proofs.Each.{drop_item, drop_all, grows_refl, then_gives}
+use Rattle.evaluation.proofs.Limits.{within_is}
 use Rattle.query_steps.proofs.Lists.{in-filter, and-turned}
 use Rattle.query_steps.specs.Sets.{in_order, is_as_wanted}
 
@@ -107,17 +108,10 @@ filtered-there p ts (i ∷ is) all = by (p i) (filtered-there p ts is (λ j h. a
 pub filtered-stand : (p : ℕ → Bool) (run : Run) → Stand (nodes (filter p (identities (trees_of run)))) run
 filtered-stand p run = filtered-there p (trees_of run) (identities (trees_of run)) (λ i h. find-present None i (trees_of run) (let e = held-identities i (trees_of run) in omega arith))
 
-pub within-is : (xs items : List Item) → within xs ≡ Ok items → items ≡ xs
-within-is xs items h = by (nat_le (length xs) most_items) h
-  where
-    by : (b : Bool) → cond b (Ok xs) (Err PXQ0002) ≡ Ok items → items ≡ xs
-    by true e = cc
-    by false e = cc
-
 pub in-order-gives : (ids ordered : List ℕ) (run : Run) (r : Result (List Item) ValueFault) → ordered ≡ filter (λ i. is_in i ids) (identities (trees_of run)) → Says (within (nodes ordered)) r → Gives (in_order ids) run r run
 in-order-gives ids ordered run (Ok items) is says =
     let P : List Item → Type 0 = λ xs. Stand xs run in
-    (ap (λ zs. come_to (within (nodes zs)) run) (sym is) ∙ ap (λ o. come_to o run) says, (grows_refl run, subst P (sym (within-is (nodes ordered) items says ∙ ap nodes is)) (filtered-stand (λ i. is_in i ids) run)))
+    (ap (λ zs. come_to (within (nodes zs)) run) (sym is) ∙ ap (λ o. come_to o run) says, (grows_refl run, subst P (sym (within_is (nodes ordered) items says ∙ ap nodes is)) (filtered-stand (λ i. is_in i ids) run)))
 in-order-gives ids ordered run (Err fault.Memory) is says = tt
 in-order-gives ids ordered run (Err (fault.Code code)) is says = ap (λ zs. come_to (within (nodes zs)) run) (sym is) ∙ ap (λ o. come_to o run) says
 
