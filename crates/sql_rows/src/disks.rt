@@ -1,17 +1,19 @@
 //! Databases on disks in memory: disks that fail from some call on, and files that are cut or changed.
 
-use super::failing::FailingDisk;
 use super::memory::{Kind, in_empty, read_kind};
 use super::nodes;
 use super::opening::{first_setup, found, run_statements};
-use super::results::{Kept, both, both_done, keeping, let_go, or_memory};
+use super::results::{Kept, both_done, keeping, let_go, of_call};
 use super::using::use_where_connected;
 use applications::Application;
 use ballots::Setup;
+use failing_disks::{
+    Damage, FailingDisk, Written, bytes_of, crashed, empty_files, files_with, harm, lacked_memory,
+};
 use record_writes::is_memory;
 use rows::{RowFault, Words};
 use sqlite::{Connection, Error, FileStore, Files, Options};
-use sqlite_disk::{Crash, Disk};
+use sqlite_disk::Disk;
 use std::alloc::Global;
 
 /// A promise, and a vote by a ballot above it.
@@ -23,22 +25,6 @@ pub(super) const FIRST_VERSION: &str =
 
 /// The connection to files, or the files again where there is none.
 type Connected<D> = Result<Connection<FileStore<D>>, Files<D>>;
-
-/// What is done to a file.
-#[derive(Clone, Copy)]
-enum Damage {
-    /// It is cut after so many bytes.
-    Cut,
-    /// The byte at an offset is another one.
-    Changed,
-}
-
-/// The bytes of a log and of its database.
-#[derive(Drop)]
-struct Written {
-    log: Vec<u8>,
-    database: Vec<u8>,
-}
 
 /// What a row of that kind says of databases in memory. Fault: `NotARow` where there is no such kind, among others.
 pub(super) fn in_memory<D: FailingDisk, A: Application + Drop>(
@@ -58,42 +44,6 @@ pub(super) fn in_memory<D: FailingDisk, A: Application + Drop>(
         "changed" => damaged::<D>(alloc, words, Damage::Changed),
         _ => Err(RowFault::NotARow),
     }
-}
-
-/// Empty files, of which each passes so many calls on.
-fn empty_files<D: FailingDisk>(
-    alloc: Global,
-    log: u64,
-    database: u64,
-) -> Result<Files<D>, RowFault> {
-    let (log, db) = both(
-        D::failing_after(alloc, log, b"".as_slice()),
-        D::failing_after(alloc, database, b"".as_slice()),
-    )?;
-    Ok(Files { log, db })
-}
-
-/// Files with these bytes, of which each passes so many calls on.
-fn files_with<D: FailingDisk>(
-    alloc: Global,
-    written: &Written,
-    log: u64,
-    database: u64,
-) -> Result<Files<D>, RowFault> {
-    let (log, db) = both(
-        D::failing_after(alloc, log, written.log.as_slice()),
-        D::failing_after(alloc, database, written.database.as_slice()),
-    )?;
-    Ok(Files { log, db })
-}
-
-/// The bytes of files.
-fn bytes_of<D: FailingDisk>(alloc: Global, files: &Files<D>) -> Result<Written, RowFault> {
-    let mut log = Vec::new(alloc);
-    log.extend_from_slice(files.log.bytes())?;
-    let mut database = Vec::new(alloc);
-    database.extend_from_slice(files.db.bytes())?;
-    Ok(Written { log, database })
 }
 
 /// The number that a row says, and which file it speaks of: whether it is the log.
@@ -164,14 +114,14 @@ fn used_by_node<D: FailingDisk, A: Application + Drop>(
     ))
 }
 
-/// The files of a record of version 1, whose log was copied into the database. Fault: `Memory`.
+/// The files of a record of version 1, whose log was copied into the database. Faults: `Memory`, and `NotARow` where its statements fail.
 fn of_first_version<D: FailingDisk>(alloc: Global) -> Result<Files<D>, RowFault> {
     match connected(alloc, empty_files::<D>(alloc, u64::MAX, u64::MAX)?)? {
         Ok(mut connection) => {
-            let made = or_memory(run_statements(&mut connection, FIRST_VERSION));
-            both_done(made, or_memory(connection.close_files()))
+            let made = run_statements(&mut connection, FIRST_VERSION);
+            copied_files((made, Ok(connection)))
         }
-        Err(_) => Err(RowFault::Memory),
+        Err(files) => copied_files((Ok(()), Err(files))),
     }
 }
 
@@ -211,13 +161,6 @@ fn found_after<D: FailingDisk>(
     text.push_str("; ")?;
     text.push_str(left?.as_str())?;
     Ok(text)
-}
-
-/// The files after a crash, which takes what was not synced. They fail no more.
-fn crashed<D: Crash>(mut files: Files<D>) -> Files<D> {
-    files.log.crash();
-    files.db.crash();
-    files
 }
 
 /// A connection to files, or the files again. Fault: `Memory` where there is none since memory was refused.
@@ -281,9 +224,13 @@ fn on_new_disks<D: FailingDisk>(
 /// The files of a database, which is closed where it was opened. Faults: `Memory` where memory was refused to one of them, whatever came of
 /// that, and that of the step.
 fn files_of<D: FailingDisk>((done, used): Kept<Connected<D>>) -> Result<Files<D>, RowFault> {
-    let files = closed(used);
-    let done = both_done(check_memory(&files), done);
-    keeping(done, files)
+    unless_lacking((done, closed(used)))
+}
+
+/// The files of a database, whose log is copied into it. Faults: as of `files_of`, and `NotARow` where it was not opened, or its log is not copied.
+fn copied_files<D: FailingDisk>((done, used): Kept<Connected<D>>) -> Result<Files<D>, RowFault> {
+    let (copied, files) = with_log_copied(used);
+    unless_lacking((both_done(done, copied), files))
 }
 
 /// The files of a database, which is closed where it was opened.
@@ -294,12 +241,23 @@ fn closed<D: Disk + Drop>(connected: Connected<D>) -> Files<D> {
     }
 }
 
-/// Fault: `Memory` where memory was refused to one of the files.
-fn check_memory<D: FailingDisk>(files: &Files<D>) -> Result<(), RowFault> {
-    if files.log.lacked_memory() || files.db.lacked_memory() {
+/// The same, and whether its log was copied into it.
+fn with_log_copied<D: Disk + Drop>(connected: Connected<D>) -> Kept<Files<D>> {
+    match connected {
+        Ok(connection) => match connection.close_files() {
+            Ok(files) => (Ok(()), files),
+            Err((error, store)) => (of_call(Err(error)), store.close()),
+        },
+        Err(files) => (Err(RowFault::NotARow), files),
+    }
+}
+
+/// The files. Faults: `Memory` where memory was refused to one of them, and else that of the step.
+fn unless_lacking<D: FailingDisk>((done, files): Kept<Files<D>>) -> Result<Files<D>, RowFault> {
+    if lacked_memory(&files) {
         return Err(RowFault::Memory);
     }
-    Ok(())
+    keeping(done, files)
 }
 
 /// The files after an acceptor's calls, with no more calls under way. The answers are appended. Fault: `Memory`, and `NotARow`.
@@ -312,14 +270,6 @@ fn used<D: FailingDisk>(
 ) -> Result<Files<D>, RowFault> {
     let connected = connected(alloc, files)?;
     files_of(use_where_connected(alloc, connected, calls, setup, answers))
-}
-
-/// The files, when the log was copied into the database. Fault: `Memory` where that fails.
-fn copied<D: Disk + Drop>(alloc: Global, files: Files<D>) -> Result<Files<D>, RowFault> {
-    match connected(alloc, files)? {
-        Ok(connection) => or_memory(connection.close_files()),
-        Err(_) => Err(RowFault::Memory),
-    }
 }
 
 /// The files after a promise and a vote.
@@ -336,38 +286,10 @@ fn bytes_after<D: FailingDisk>(alloc: Global, has_log: bool) -> Result<Written, 
     if has_log {
         return bytes_of(alloc, &files);
     }
-    let files = copied(alloc, files)?;
+    let files = copied_files((Ok(()), connected(alloc, files)?))?;
     let mut written = bytes_of(alloc, &files)?;
     written.log.clear();
     Ok(written)
-}
-
-/// Cuts bytes off. Fault: `NotARow` where there are not so many.
-fn cut_to(bytes: &mut Vec<u8>, length: u64) -> Result<(), RowFault> {
-    let length = usize::try_from(length).ok().ok_or(RowFault::NotARow)?;
-    if bytes.len() < length {
-        return Err(RowFault::NotARow);
-    }
-    bytes.truncate(length);
-    Ok(())
-}
-
-/// Makes the byte at an offset another one. Fault: `NotARow` where there is none.
-fn change_at(bytes: &mut Vec<u8>, at: u64) -> Result<(), RowFault> {
-    let at = usize::try_from(at).ok().ok_or(RowFault::NotARow)?;
-    match bytes.as_mut_slice().get_mut(at) {
-        Some(byte) => *byte = !*byte,
-        None => return Err(RowFault::NotARow),
-    }
-    Ok(())
-}
-
-/// Does the damage to a file. Fault: `NotARow` where it is too short.
-fn harm(bytes: &mut Vec<u8>, kind: Damage, at: u64) -> Result<(), RowFault> {
-    match kind {
-        Damage::Cut => cut_to(bytes, at),
-        Damage::Changed => change_at(bytes, at),
-    }
 }
 
 /// What is found where a file is cut after so many bytes, or the byte at an offset is another one.

@@ -25,23 +25,21 @@
 mod calls;
 mod counting;
 mod disks;
-mod failing;
 mod files;
 mod memory;
 mod nodes;
 mod opening;
 mod results;
 mod using;
-mod watched;
 
 use counting::Count;
 use disks::in_memory;
+use failing_disks::Watched;
 use files::{in_file, in_first};
 use rows::{Answers, RowFault, Words, run_table};
 use sqlite_disk::{Fuse, Memory};
 use std::alloc::Global;
 use std::process::ExitCode;
-use watched::Watched;
 
 /// Ends with the table's exit status: 1 where a row is not understood, and where the file cannot be read or memory is refused, also to a disk in
 /// memory: the rows end there.

@@ -33,7 +33,7 @@ pub(super) fn read_kind(
     Ok((said, setup))
 }
 
-/// Appends what becomes of an empty database, and gives back what there was. Fault: `Memory` where there is no connection to it, among others.
+/// Appends what becomes of an empty database, and gives back what there was. Fault: `NotARow` where there is no connection to it, among others.
 pub(super) fn in_empty<S: Alter + Drop, F: Drop>(
     alloc: Global,
     connected: Result<Connection<S>, F>,
@@ -46,7 +46,7 @@ pub(super) fn in_empty<S: Alter + Drop, F: Drop>(
             let (done, connection) = in_database(alloc, connection, kind, said, text);
             (done, Ok(connection))
         }
-        Err(files) => (Err(RowFault::Memory), Err(files)),
+        Err(files) => (Err(RowFault::NotARow), Err(files)),
     }
 }
 

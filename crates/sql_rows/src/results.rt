@@ -9,14 +9,6 @@ use sqlite::Error;
 /// Whether a step was done, and what it was done to, which is given back whatever came of it.
 pub(super) type Kept<T> = (Result<(), RowFault>, T);
 
-/// The value. Fault: `Memory` where there is an error: a sound database on disks that never fail has no other.
-pub(super) fn or_memory<T: Drop, E: Drop>(outcome: Result<T, E>) -> Result<T, RowFault> {
-    match outcome {
-        Ok(value) => Ok(value),
-        Err(_) => Err(RowFault::Memory),
-    }
-}
-
 /// Lets the value go, and keeps the fault.
 pub(super) fn let_go<T: Drop>(outcome: Result<T, RowFault>) -> Result<(), RowFault> {
     match outcome {
@@ -54,15 +46,4 @@ pub(super) fn both_done<T: Drop>(
 pub(super) fn push(text: &mut String, part: &str) -> Result<(), RowFault> {
     text.push_str(part)?;
     Ok(())
-}
-
-/// Both values. Fault: `Memory` where one of them was not made.
-pub(super) fn both<A: Drop, B: Drop>(
-    first: Result<A, RowFault>,
-    second: Result<B, RowFault>,
-) -> Result<(A, B), RowFault> {
-    match (first, second) {
-        (Ok(first), Ok(second)) => Ok((first, second)),
-        _ => Err(RowFault::Memory),
-    }
 }

@@ -6,7 +6,7 @@ use sqlite_disk::{Crash, Disk, Fuse, Memory};
 use std::alloc::Global;
 
 /// A disk that passes so many calls on, and fails each one after.
-pub(super) trait FailingDisk: Crash + Drop {
+pub trait FailingDisk: Crash + Drop {
     /// A disk with these bytes, which has so many calls left. Fault: `Memory`.
     fn failing_after(alloc: Global, calls: u64, bytes: &[u8]) -> Result<Self, RowFault>
     where

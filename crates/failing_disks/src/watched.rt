@@ -7,14 +7,14 @@ use std::io;
 
 /// A disk that notes whether memory was refused to it: a store over it says of that only that its disk failed.
 #[derive(Drop)]
-pub(super) struct Watched<D: Disk> {
+pub struct Watched<D: Disk> {
     inner: D,
     lacked_memory: bool,
 }
 
 impl<D: Disk> Watched<D> {
     /// The disk, to which no memory was refused so far.
-    pub(super) fn new(inner: D) -> Watched<D> {
+    pub fn new(inner: D) -> Watched<D> {
         Watched {
             inner,
             lacked_memory: false,
@@ -22,12 +22,12 @@ impl<D: Disk> Watched<D> {
     }
 
     /// The disk that calls are passed on to.
-    pub(super) fn inner(&self) -> &D {
+    pub fn inner(&self) -> &D {
         &self.inner
     }
 
     /// Whether memory was refused to it.
-    pub(super) fn lacked_memory(&self) -> bool {
+    pub fn lacked_memory(&self) -> bool {
         self.lacked_memory
     }
 }
