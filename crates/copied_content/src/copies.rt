@@ -1,6 +1,6 @@
 //! Copies of nodes.
 
-ghost use Rattle.std.specs.Prelude.{◌≡◌, ◌<◌, ◌^◌, IsSome, IsTrue, IfOk, IfErr, IsErrOf};
+ghost use Rattle.std.specs.Prelude.{◌≡◌, ◌<◌, ◌≤◌, ◌^◌, IsSome, IsTrue, IfOk, IfErr, IsErrOf};
 ghost use Rattle.data_model.specs.Trees.{find, size};
 ghost use Rattle.shelves.specs.Shelf.{shelf_trees};
 ghost use Rattle.query_meaning.specs.Content as meaning;
@@ -9,7 +9,7 @@ ghost use Rattle.evaluation.specs.Gives.{Any, Fails, GivesIn, Judged};
 ghost use Rattle.copied_content.specs.Copying.{IsPlain, copied_as_new, numbered};
 
 use crate::copied::CopiedContent;
-use data_model::{node_count, renumber};
+use data_model::renumber;
 use evaluation::Evaluation;
 use fault_codes::Code;
 use shelves::Shelf;
@@ -42,7 +42,7 @@ fn copied_as_new(run: &mut Evaluation, node: NodeId) -> Result<CopiedContent, Va
 fn sources(run: &Evaluation, node: NodeId) -> Result<CopiedContent, ValueFault>
     requires there { IsSome (find node (trees_of run.now)) }
     ensures ok { IfOk result (λ us. us ≡ meaning.source_at node (trees_of run.now) (find node (trees_of run.now))) }
-    ensures few { IfOk result (λ us. size us < 2 ^ 64) }
+    ensures few { IfOk result (λ us. size us ≤ run.now.shelf.own.next) }
     ensures err { IfErr result (λ fault. Fails (copied_as_new node run.now) fault) }
     ensures judged { IsPlain node (trees_of run.now) → Judged (copied_as_new node run.now) result }
 {
@@ -56,11 +56,10 @@ fn sources(run: &Evaluation, node: NodeId) -> Result<CopiedContent, ValueFault>
 fn source(run: &Evaluation, node: NodeId) -> Result<CopiedContent, AllocError>
     requires there { IsSome (find node (trees_of run.now)) }
     ensures ok { IfOk result (λ us. us ≡ meaning.source_at node (trees_of run.now) (find node (trees_of run.now))) }
-    ensures few { IfOk result (λ us. size us < 2 ^ 64) }
+    ensures few { IfOk result (λ us. size us ≤ run.now.shelf.own.next) }
 {
     let shelf = run.shelf();
     shelf.facts();
-    let _all = shelf.len();
     let tree = shelf.tree(run.alloc(), node)?;
     match shelf.kind(node) {
         Kind::Document => Ok(CopiedContent::of(tree.into_children())),
@@ -89,12 +88,14 @@ fn is_too_large(shelf: &Shelf, node: NodeId, most: u64) -> bool
 /// Trees whose nodes take the next identities in document order. Code: PXQ0003 where the evaluation would have made more than 100,000
 /// nodes.
 fn numbered(run: &mut Evaluation, content: CopiedContent) -> Result<CopiedContent, ValueFault>
-    requires few { size content < 2 ^ 64 }
+    requires few { size content ≤ run.old.shelf.own.next }
     ensures numbered { GivesIn Any (numbered content) run.old result run.new }
     ensures judged { IsErrOf result ValueFault.Memory → ⊥ }
 {
     let mut trees = content.into_trees();
-    let first = run.new_nodes(node_count(&trees))?;
-    renumber(&mut trees, first.number());
+    // No identity is taken yet: the walk that gives the nodes theirs counts them too.
+    let first = run.new_nodes(0)?.number();
+    let next = renumber(&mut trees, first);
+    run.new_nodes(next - first)?;
     Ok(CopiedContent::of(trees))
 }

@@ -10,4 +10,4 @@ mod tree;
 
 pub use axis::Axis;
 pub use node::{Content, Kind, NodeId, NodeView, Part};
-pub use tree::{Tree, are_within_levels, node_count, past_identities, renumber};
+pub use tree::{Tree, are_within_levels, node_count, renumber};

@@ -1,8 +1,7 @@
 //! Trees of their own, which own what is below them.
 
-ghost use Rattle.std.specs.Prelude.{◌≡◌, ◌<◌, ◌≤◌, ◌^◌, ◌+◌, ◌++◌, nat_le, OnOk, OnErr};
+ghost use Rattle.std.specs.Prelude.{◌≡◌, ◌<◌, ◌^◌, ◌+◌, ◌++◌, nat_le, OnOk, OnErr};
 ghost use Rattle.data_model.specs.Changes.{renumbered};
-ghost use Rattle.data_model.specs.Planted.{past};
 ghost use Rattle.data_model.specs.Tree.{all_of, tree_size, trees_of_tree};
 ghost use Rattle.data_model.specs.Trees.{height, size};
 
@@ -95,7 +94,7 @@ impl Tree {
     /// Gives its nodes the identities `first`, `first + 1` and so on in document order, and gives the one after them.
     #[cycle(renumbering)]
     fn renumber(&mut self, first: u64) -> u64
-        requires { first + tree_size self.old ≤ 2 ^ 62 }
+        requires { first + tree_size self.old < 2 ^ 64 }
         ensures numbered { trees_of_tree self.new ≡ renumbered first (trees_of_tree self.old) }
         ensures next { result ≡ first + tree_size self.old }
     {
@@ -108,7 +107,7 @@ impl Tree {
 /// Gives the nodes of some trees the identities `first`, `first + 1` and so on in document order, and gives the one after them.
 #[cycle(renumbering)]
 pub fn renumber(trees: &mut [Tree], first: u64) -> u64
-    requires { first + size (all_of trees.old) ≤ 2 ^ 62 }
+    requires { first + size (all_of trees.old) < 2 ^ 64 }
     ensures numbered { all_of trees.new ≡ renumbered first (all_of trees.old) }
     ensures next { result ≡ first + size (all_of trees.old) }
 {
@@ -148,19 +147,4 @@ pub fn node_count(trees: &[Tree]) -> u64
         nodes += node_count(tree.children());
     }
     nodes
-}
-
-/// One more than the largest identity of some trees, or 0 where there is none.
-pub fn past_identities(trees: &[Tree]) -> u64
-    requires { past (all_of trees.now) ≤ 2 ^ 62 }
-    ensures { result ≡ past (all_of trees.now) }
-{
-    let mut end = 0;
-    for tree in trees {
-        let content = tree.content();
-        end = end.max(content.identity.number() + 1);
-        end = end.max(past_identities(tree.attributes()));
-        end = end.max(past_identities(tree.children()));
-    }
-    end
 }

@@ -10,6 +10,7 @@ ghost use Rattle.node_table.specs.Plans.{changed};
 ghost use Rattle.node_plans.specs.Planned.{planned, rows_with, table_with, places_with};
 
 use data_model::NodeId;
+use node_table::name::Name;
 use node_table::table;
 use node_table::table::{Row, Rows};
 use row_pages::RowPages;
@@ -93,6 +94,7 @@ pub fn set_name(rows: &Rows, plan: &mut Plan, id: NodeId, name: String) -> Resul
     ensures refused { OnErr result (table_with plan.new rows.now ≡ table_with plan.old rows.now) }
     ensures places { places_with plan.new rows.now ≡ places_with plan.old rows.now }
 {
+    let name = Name::new(name)?;
     touch(rows, plan, id)?;
     table::set_name(&mut plan.rows, id, name);
     Ok(())

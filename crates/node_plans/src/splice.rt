@@ -19,7 +19,7 @@ use super::{numbers, plan};
 use data_model::{NodeId, Part, Tree};
 use node_table::list::NodeList;
 use node_table::name::Names;
-use node_table::plant;
+use node_table::plant::{self, Planted};
 use node_table::table::{Row, Rows};
 use std::alloc::{AllocError, Global};
 
@@ -196,7 +196,8 @@ fn plant_rows(
     ensures others { (i : ℕ) → count i (all_of trees.now) ≡ 0 → row_of rows.new i ≡ row_of rows.old i }
     ensures refused { OnErr result (row_of rows.new ≡ row_of rows.old) }
 {
-    match plant::plant_all(rows, names, alloc, trees, Some(parent), first) {
+    let mut planted = Planted::nothing();
+    match plant::plant_all(rows, names, alloc, trees, Some(parent), first, &mut planted) {
         Ok(_) => Ok(()),
         Err(_) => {
             plant::remove_all(rows, trees);

@@ -24,10 +24,11 @@ cond-place i false x y u v e k = k
 pub row-clone : (r s : Row) → row.TheImpl.is_clone-value.it r s → entry_of_row s ≡ entry_of_row r
 row-clone r s h =
     let k : s.kind ≡ r.kind = h.0 in
-    let p : s.parent ≡ r.parent = (let q = h.1.1.1.0 in search rules) in
-    let b : s.attributes.items ≡ r.attributes.items = h.1.1.1.1.0 in
+    let q : s.has_parent ≡ r.has_parent = h.1.0 in
+    let p : s.parent ≡ r.parent = h.1.1.1.0 in
+    let b : s.attributes.items ≡ r.attributes.items = h.1.1.1.1.1.1.0 in
     let c : s.children.items ≡ r.children.items = h.1.1.1.1.1.0 in
-    λ i. record { kind = k i; name = h.1.0 i; text = h.1.1.0 i; parent = p i; attributes = b i; children = c i }
+    λ i. record { kind = k i; name = h.1.1.0 i; text = h.1.1.1.1.1.1.1 i; parent = cond (q i) (Some (p i)) None; attributes = b i; children = c i }
 
 pub entries-clone : (es fs : List (ℕ × Row)) → AllZip (λ p q. number.TheImpl.is_clone-value.it p.0 q.0 × row.TheImpl.is_clone-value.it p.1 q.1) es fs → (test : ℕ → Bool) → option_map entry_of_row (lookup test fs) ≡ option_map entry_of_row (lookup test es)
 entries-clone [] [] h test = refl
@@ -46,7 +47,7 @@ place-clone : (i : ℕ) (es fs : List (ℕ × Row)) → AllZip (λ p q. number.T
 place-clone i [] [] h test = refl
 place-clone i (e ∷ es) (f ∷ fs) h test =
     let k : f.0 ≡ e.0 = h.0.0 in
-    let own : f.1.place ≡ e.1.place = h.0.1.1.1.1.1.1.1 in
+    let own : f.1.place ≡ e.1.place = h.0.1.1.1.1.1.0 in
     rw k (cond-place i (test e.0) f.1 e.1 _ _ own (place-clone i es fs h.1 test))
 place-clone i [] (f ∷ fs) h test = absurd h
 place-clone i (e ∷ es) [] h test = absurd h

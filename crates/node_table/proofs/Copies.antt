@@ -6,7 +6,7 @@ use Rattle.std.proofs.lemmas.Bool.Decides.{eqb_tells}
 use Rattle.data_model.specs.Trees.{Trees, no_trees, tree, Content, append, roots, weigh, count, size, height}
 use Rattle.data_model.specs.Changes.{renumbered, pick}
 use Rattle.node_table.specs.Flat.{Entry, Table, entry_or, both, entry_of, Holds, read_entry, read_nodes, read_trees, parentless, entry_is_root, IsTableOf, AreThere}
-use Rattle.node_table.specs.Rows.{entry_of_row}
+use Rattle.node_table.specs.Rows.{entry_of_row, parent_of_row}
 use Rattle.node_table.specs.declared.table.Row.{Row}
 use Rattle.data_model.proofs.Weights.{weigh-append, weigh-pick, roots-append, height-le, eqb-same}
 use Rattle.node_table.proofs.Tables.{Sets, read-holds, Holds-same, Holds-append, count-absent, count-there, parentless-same}
@@ -371,7 +371,7 @@ pub none-some : (o : Option Entry) (e : Entry) → o ≡ None → o ≡ Some e �
 none-some o e h k = let z : None ≡ Some e = sym h ∙ k in cc
 
 pub copy-says : (s r : Row) (c : Content) (q p : Option ℕ) (n : ℕ) (xs ys zs ws : List ℕ) → entry_of_row s ≡ entry_of c q xs ys
-    → r.kind ≡ s.kind → r.name ≡ s.name → r.text ≡ s.text → r.parent ≡ p → r.attributes.items ≡ zs → r.children.items ≡ ws → entry_of_row r ≡ entry_of (record c { identity = n }) p zs ws
+    → r.kind ≡ s.kind → r.name ≡ s.name → r.text ≡ s.text → parent_of_row r ≡ p → r.attributes.items ≡ zs → r.children.items ≡ ws → entry_of_row r ≡ entry_of (record c { identity = n }) p zs ws
 copy-says s r c q p n xs ys zs ws says kind name text parent attributes children =
     let k = kind ∙ ap (λ (e : Entry). e.kind) says in
     let m = name ∙ ap (λ (e : Entry). e.name) says in

@@ -1,6 +1,6 @@
 -- What rows tell of nodes that rise.
 use Prim.Native.Nat.{zero, suc}
-use Rattle.std.proofs.Common.{◌≡◌, ◌≢◌, ◌∙◌, ◌+◌, ◌<◌, ◌≤◌, ℕ, List, [], ◌∷◌, length, get_or, ltb, take, true, refl, ap, sym, arith, Bool, false, Option, Some, None, IfSome, IsSome, is_some}
+use Rattle.std.proofs.Common.{◌≡◌, ◌≢◌, ◌∙◌, ◌+◌, ◌<◌, ◌≤◌, ℕ, List, [], ◌∷◌, length, get_or, ltb, take, true, refl, ap, sym, arith, Bool, false, Option, Some, None, IfSome, IfNone, IsSome, is_some}
 use Rattle.std.specs.Bool.{then_some}
 use Rattle.row_pages.specs.Rows.{Term, get}
 use Rattle.data_model.specs.Trees.{Trees, find, parent_of}
@@ -10,7 +10,7 @@ use Rattle.data_model.proofs.Climbs.{AreDistinct, there-counts}
 use Rattle.data_model.proofs.Firsts.{held-identities}
 use Rattle.data_model.proofs.Paths.{path-up}
 use Rattle.node_table.specs.declared.table.Row.{Row}
-use Rattle.node_table.specs.Flat.{Entry}
+use Rattle.node_table.specs.Flat.{Entry, Table}
 use Rattle.node_table.specs.Labels.{Orders, place_of, parent_in}
 use Rattle.node_table.specs.Rising.{AreOrdered, IsAbove, Follows, Rises}
 use Rattle.node_table.specs.Rows.{table_of, trees_of}
@@ -95,3 +95,14 @@ front-rises ts (suc n) (x ∷ xs) within stand rise =
 pub then-some : (b : Bool) (x : ℕ × ℕ) (o : Option (ℕ × ℕ)) (P : ℕ × ℕ → Type 0) → o ≡ then_some b x → (b ≡ true → P x) → IfSome o P
 then-some true x o P e h = rw e (h refl)
 then-some false x o P e h = rw e tt
+
+-- what holds whatever was found
+pub none-either : {A P : Type 0} (o : Option A) → P → IfNone o P
+none-either None p = p
+none-either (Some x) p = tt
+
+pub siblings-parents : (f : Table) (a b x y p : ℕ) → parent_in (f a) ≡ Some x → parent_in (f b) ≡ Some y → parent_in (f a) ≡ Some p → parent_in (f b) ≡ Some p → x ≡ y
+siblings-parents f a b x y p first second h k =
+    let l : Some x ≡ Some p = sym first ∙ h in
+    let r : Some y ≡ Some p = sym second ∙ k in
+    cc

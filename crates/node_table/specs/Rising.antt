@@ -4,7 +4,7 @@ use Rattle.data_model.specs.Order.{comes_before}
 use Rattle.data_model.specs.Walks.{held}
 use Rattle.row_pages.specs.Rows.{Term}
 use Rattle.node_table.specs.declared.table.Row.{Row}
-use Rattle.node_table.specs.Flat.{IsTableOf}
+use Rattle.node_table.specs.Flat.{IsTableOf, Table}
 use Rattle.node_table.specs.Labels.{place_of, parent_in, HasNumbers}
 use Rattle.node_table.specs.Rows.{table_of, trees_of}
 
@@ -25,3 +25,7 @@ AreOrdered rows levels = IsTableOf (table_of rows) levels (trees_of (table_of ro
 -- the parent of a node, and the number that its row carries
 abbrev pub IsAbove : Term Row → ℕ → ℕ × ℕ → Type 0
 IsAbove rows i above = (parent_in (table_of rows i) ≡ Some above.0) × (above.1 ≡ place_of rows i)
+
+-- two nodes of a table have one parent
+abbrev pub AreSiblings : ℕ → ℕ → Table → Type 0
+AreSiblings a b f = (p : ℕ) × (parent_in (f a) ≡ Some p) × (parent_in (f b) ≡ Some p)

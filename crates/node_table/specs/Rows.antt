@@ -1,5 +1,5 @@
 -- What rows say of nodes, and what room they have.
-use Rattle.std.specs.Prelude.{ℕ, Option, Some, None, option_map, string_bytes}
+use Rattle.std.specs.Prelude.{ℕ, Option, Some, None, cond, option_map, string_bytes}
 use Rattle.row_pages.specs.Rows.{Term, get}
 use Rattle.data_model.specs.Trees.{Trees}
 use Rattle.node_table.specs.Lists.{Nodes, HasRoomFor}
@@ -8,9 +8,13 @@ use Rattle.data_model.specs.declared.node.Part.{Part}
 use Rattle.data_model.specs.declared.node.Part.TheVariants.{Attributes, Children}
 use Rattle.node_table.specs.declared.table.Row.{Row}
 
+-- the parent of a row's node
+abbrev pub parent_of_row : Row → Option ℕ
+parent_of_row r = cond r.has_parent (Some r.parent) None
+
 abbrev pub entry_of_row : Row → Entry
 entry_of_row r =
-    record { kind = r.kind; name = r.name; text = string_bytes r.text; parent = r.parent; attributes = r.attributes.items; children = r.children.items }
+    record { kind = r.kind; name = r.name; text = string_bytes r.text; parent = parent_of_row r; attributes = r.attributes.items; children = r.children.items }
 
 -- the row of a node
 unfoldable pub row_of : Term Row → ℕ → Option Row

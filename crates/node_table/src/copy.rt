@@ -8,7 +8,7 @@ ghost use Rattle.node_table.specs.Rows.{table_of, entry_of_row, row_of};
 ghost use Rattle.node_table.specs.Labels.{place_of};
 
 use super::list::NodeList;
-use super::table::{Row, Rows};
+use super::table::{Row, Rows, as_in_row};
 use data_model::NodeId;
 use std::alloc::{AllocError, Global};
 
@@ -65,11 +65,13 @@ pub fn copy_all(
         let below = Some(NodeId::new(copy));
         // Counted before its row is there: what has to be removed where memory is refused further on are all identities up to this one.
         *next += 1;
+        let (has_parent, above) = as_in_row(parent);
         let row = Row {
             kind,
+            has_parent,
             name,
             text,
-            parent,
+            parent: above,
             attributes: copy_all(lent, rows, alloc, &attributes, below, levels - 1, next)?,
             children: copy_all(lent, rows, alloc, &children, below, levels - 1, next)?,
             place: copy,

@@ -80,7 +80,7 @@ impl<'r> NodeCursor<'r> {
             kind: row.kind,
             name: row.name.as_str(),
             text: row.text.as_str(),
-            parent: row.parent,
+            parent: row.parent(),
             attributes: row.attributes.as_slice(),
             children: row.children.as_slice(),
         })

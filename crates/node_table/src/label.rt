@@ -35,7 +35,7 @@ fn read_label(rows: &Rows, alloc: Global, id: NodeId, levels: u64) -> Result<Lab
         let Some(row) = rows.get(at.number()) else {
             break;
         };
-        let Some(parent) = row.parent else {
+        let Some(parent) = row.parent() else {
             break;
         };
         label.push(row.place)?;

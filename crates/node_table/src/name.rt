@@ -1,6 +1,6 @@
 //! The names of nodes, which rows share.
 
-ghost use Rattle.std.specs.Prelude.{◌≡◌, string_bytes, IfOk};
+ghost use Rattle.std.specs.Prelude.{◌≡◌, [], string_bytes, IfOk};
 
 use std::alloc::{AllocError, Global};
 use std::collections::HashMap;
@@ -10,14 +10,14 @@ use std::sync::Arc;
 /// At most so many names are held for rows to come.
 const MOST: usize = 1024;
 
-/// The text of a name, as it is kept.
+/// The text of a name, as it is kept: two words, since most of a row's room is its own.
 #[derive(Drop)]
 enum Text {
-    Alone(String),
+    Empty,
     Shared(Arc<String>),
 }
 
-/// The name of a node, empty where its kind has none. A clone of a shared name takes no memory.
+/// The name of a node, empty where its kind has none. A clone shares it, and takes no memory.
 pub struct Name {
     text: Text,
 }
@@ -43,20 +43,22 @@ impl Model for Name {
 }
 
 impl Name {
-    /// The name of one row alone.
-    pub fn new(text: String) -> Name
-        ensures { result ≡ string_bytes text }
+    /// The empty name. It takes no memory.
+    pub fn empty() -> Name
+        ensures { result ≡ [] }
     {
-        Name {
-            text: Text::Alone(text),
-        }
+        Name { text: Text::Empty }
     }
 
-    /// A name that its clones share. It fails where memory is refused.
-    fn shared(alloc: Global, text: &str) -> Result<Name, AllocError>
-        ensures { IfOk result (λ name. name ≡ text.now) }
+    /// A name, which its clones share. It fails where memory is refused, for which an empty one does not ask.
+    pub fn new(text: String) -> Result<Name, AllocError>
+        ensures { IfOk result (λ name. name ≡ string_bytes text) }
     {
-        let text = Arc::new(alloc, String::from_str(alloc, text)?)?;
+        if text.is_empty() {
+            return Ok(Name::empty());
+        }
+        let alloc = *text.allocator();
+        let text = Arc::new(alloc, text)?;
         Ok(Name {
             text: Text::Shared(text),
         })
@@ -67,7 +69,7 @@ impl Name {
         ensures value { result.now ≡ self.now }
     {
         match &self.text {
-            Text::Alone(text) => text.as_str(),
+            Text::Empty => "",
             Text::Shared(text) => text.as_str(),
         }
     }
@@ -78,7 +80,7 @@ impl Clone for Name {
 
     fn clone(&self) -> Result<Name, AllocError> {
         let text = match &self.text {
-            Text::Alone(text) => Text::Alone(text.clone()?),
+            Text::Empty => Text::Empty,
             Text::Shared(text) => Text::Shared(text.clone()?),
         };
         Ok(Name { text })
@@ -123,7 +125,7 @@ impl Names {
         ensures { IfOk result (λ name. name ≡ text.now) }
     {
         if text.is_empty() {
-            return Ok(Name::new(String::new(self.alloc)));
+            return Ok(Name::empty());
         }
         if let Some(name) = self.held.get(text) {
             // It is that name; compared, so that nothing has to be known of the map.
@@ -131,7 +133,7 @@ impl Names {
                 return name.clone();
             }
         }
-        let name = Name::shared(self.alloc, text)?;
+        let name = Name::new(String::from_str(self.alloc, text)?)?;
         self.hold(text, name.clone()?)?;
         Ok(name)
     }

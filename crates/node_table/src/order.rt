@@ -1,12 +1,12 @@
 //! Document order, by the numbers that rows carry.
 
-ghost use Rattle.std.specs.Prelude.{◌≡◌, ◌≢◌, ℕ, ◌<◌, ◌≤◌, ◌^◌, Option, Some, None, IfSome, IsSome, option_map, length, take, true};
+ghost use Rattle.std.specs.Prelude.{◌≡◌, ◌≢◌, ℕ, ◌<◌, ◌≤◌, ◌^◌, Option, Some, None, IfSome, IfNone, IsSome, option_map, length, take, true};
 ghost use Rattle.std.specs.List.{slice_get};
 ghost use Rattle.data_model.specs.declared.node.Part.{Part};
 ghost use Rattle.data_model.specs.Order.{identities, precedes};
 ghost use Rattle.data_model.specs.Trees.{find};
 ghost use Rattle.data_model.specs.Walks.{held};
-ghost use Rattle.node_table.specs.Rising.{AreOrdered, IsAbove, Rises};
+ghost use Rattle.node_table.specs.Rising.{AreOrdered, AreSiblings, IsAbove, Rises};
 ghost use Rattle.node_table.specs.Rows.{table_of, trees_of, HasRoom};
 ghost use Rattle.node_table.specs.Labels.{parent_in, place_of, lists_in, position_in, get_before, Ascends, HasNumbers, RisesBut, AreListed, IsBetween};
 
@@ -31,10 +31,11 @@ pub fn place(rows: &Rows, id: NodeId) -> u64
 pub fn place_below(rows: &mut Cursor<'_, Row>, id: NodeId) -> Option<(NodeId, u64)>
     ensures parent { IfSome result (λ r. parent_in (table_of rows.old id) ≡ Some r.0) }
     ensures place { IfSome result (λ r. r.1 ≡ place_of rows.old id) }
+    ensures none { IfNone result (parent_in (table_of rows.old id) ≡ None) }
     ensures same { rows.new ≡ rows.old }
 {
     let row = rows.seek(id.number())?;
-    let parent = row.parent?;
+    let parent = row.parent()?;
     Some((parent, row.place))
 }
 
@@ -234,6 +235,7 @@ pub fn level_order(rows: &mut Cursor<'_, Row>, levels: u64, a: NodeId, b: NodeId
     requires rows { AreOrdered rows.old levels }
     ensures has_b { IfSome result (λ _. IsSome (find b (trees_of (table_of rows.old) levels))) }
     ensures before { IfSome result (λ is_first. is_first ≡ precedes a b (trees_of (table_of rows.old) levels)) }
+    ensures siblings { IfNone result (AreSiblings a b (table_of rows.old) → levels ≡ 0) }
     ensures same { rows.new ≡ rows.old }
 {
     let mut first = a;

@@ -1,10 +1,10 @@
 //! The flat table of nodes that a forest stands on.
 
-ghost use Rattle.std.specs.Prelude.{◌≡◌, ◌≢◌, ℕ, ◌+◌, ◌≤◌, Option, Some, None, OnOk, IsSome, length, string_bytes};
+ghost use Rattle.std.specs.Prelude.{◌≡◌, ◌≢◌, ℕ, ◌+◌, ◌≤◌, Option, Some, None, OnOk, cond, IsSome, length, string_bytes};
 ghost use Rattle.data_model.specs.declared.node.Part.{Part};
 ghost use Rattle.node_table.specs.Flat.{Entry, IsChangedAt, Puts, with_child, with_parent, with_text, with_name, without_child, listed, IsOnceBelow};
 ghost use Rattle.node_table.specs.Lists.{HasRoomFor};
-ghost use Rattle.node_table.specs.Rows.{table_of, entry_of_row, list_in, HasRoom};
+ghost use Rattle.node_table.specs.Rows.{table_of, entry_of_row, parent_of_row, list_in, HasRoom};
 ghost use Rattle.node_table.specs.Labels.{place_of};
 
 use super::list::NodeList;
@@ -13,23 +13,48 @@ use data_model::{Kind, NodeId, Part};
 use row_pages::RowPages;
 use std::alloc::AllocError;
 
-/// What the table has of a node.
+/// What the table has of a node. What most look-ups read comes first, so that it mostly lies in one line of the processor's cache.
 #[derive(Clone, Drop)]
 pub struct Row {
     /// Its kind.
     pub kind: Kind,
+    /// Whether it has a parent.
+    pub has_parent: bool,
     /// Its name, empty where its kind has none.
     pub name: Name,
-    /// The text of an attribute, a text, a comment or a processing instruction; empty for other kinds.
-    pub text: String,
-    /// Its parent.
-    pub parent: Option<NodeId>,
-    /// Its attributes, in their list's order.
-    pub attributes: NodeList,
-    /// Its children, in document order.
-    pub children: NodeList,
+    /// The number of its parent, where it has one. An option of it would take a word more in each row.
+    pub parent: NodeId,
     /// A number that rises among its parent's attributes and then its children. A root's counts for nothing.
     pub place: u64,
+    /// Its children, in document order.
+    pub children: NodeList,
+    /// Its attributes, in their list's order.
+    pub attributes: NodeList,
+    /// The text of an attribute, a text, a comment or a processing instruction; empty for other kinds.
+    pub text: String,
+}
+
+impl Row {
+    /// Its parent.
+    pub fn parent(&self) -> Option<NodeId>
+        ensures { result ≡ parent_of_row self.now }
+    {
+        if self.has_parent {
+            Some(self.parent)
+        } else {
+            None
+        }
+    }
+}
+
+/// A parent, or none, as a row has it: whether there is one, and which. Where there is none, the number says nothing.
+pub fn as_in_row(parent: Option<NodeId>) -> (bool, NodeId)
+    ensures { cond result.0 (Some result.1) None ≡ parent }
+{
+    match parent {
+        Some(parent) => (true, parent),
+        None => (false, NodeId::new(0)),
+    }
 }
 
 /// Every node by the number of its identity.
@@ -100,7 +125,7 @@ pub fn set_parent(rows: &mut Rows, child: NodeId, parent: Option<NodeId>)
     ensures room { (part : Part) (i n : ℕ) → HasRoom part i n rows.old → HasRoom part i n rows.new }
 {
     if let Some(row) = rows.get_mut(child.number()) {
-        row.parent = parent;
+        (row.has_parent, row.parent) = as_in_row(parent);
     }
 }
 
@@ -130,13 +155,13 @@ pub fn set_text(rows: &mut Rows, id: NodeId, text: String)
 }
 
 /// Gives a node another name.
-pub fn set_name(rows: &mut Rows, id: NodeId, name: String)
+pub fn set_name(rows: &mut Rows, id: NodeId, name: Name)
     requires { IsSome (table_of rows.old id) }
-    ensures changed { IsChangedAt (table_of rows.old) (table_of rows.new) id (with_name (string_bytes name)) }
+    ensures changed { IsChangedAt (table_of rows.old) (table_of rows.new) id (with_name name) }
     ensures places { place_of rows.new ≡ place_of rows.old }
 {
     if let Some(row) = rows.get_mut(id.number()) {
-        row.name = Name::new(name);
+        row.name = name;
     }
 }
 

@@ -118,18 +118,20 @@ impl<'a> Shelf<'a> {
         self.own.set_text(id, text);
     }
 
-    /// Gives an own node another name.
-    pub fn set_name(&mut self, id: NodeId, name: String)
+    /// Gives an own node another name. Where memory is refused, all stays as it was.
+    pub fn set_name(&mut self, id: NodeId, name: String) -> Result<(), AllocError>
         requires { IsSome (find id self.old.own.trees) }
-        ensures { self.new
+        ensures named { OnOk result
+            (self.new
             ≡ record self.old {
               own =
                   record self.old.own {
                     trees = with_content id (λ c. record c { name = string_bytes name }) self.old.own.trees;
                   };
-            } }
+            }) }
+        ensures refused { OnErr result (self.new ≡ self.old) }
     {
-        self.own.set_name(id, name);
+        self.own.set_name(id, name)
     }
 
     /// Makes a copy of the tree of a node of either forest, as an own tree with no parent. Its nodes take the identities from the next one on, in document order.

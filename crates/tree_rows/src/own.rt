@@ -155,7 +155,7 @@ fn set_name(
     if !shelf.is_own(id) {
         return Err(RowFault::NotARow);
     }
-    shelf.set_name(id, name);
+    shelf.set_name(id, name)?;
     Ok(Given::Nothing)
 }
 

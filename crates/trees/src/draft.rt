@@ -114,7 +114,7 @@ impl Draft {
                 kind: row.kind,
                 name: row.name.as_str(),
                 text: row.text.as_str(),
-                parent: row.parent,
+                parent: row.parent(),
                 attributes: row.attributes.as_slice(),
                 children: row.children.as_slice(),
             }),
@@ -145,7 +145,7 @@ impl Draft {
         ensures { result ≡ parent_of id self.now.after }
     {
         match plan::find(&self.parts.rows, &self.parts.plan, id) {
-            Some(row) => row.parent,
+            Some(row) => row.parent(),
             None => None,
         }
     }

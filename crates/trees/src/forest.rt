@@ -247,7 +247,7 @@ impl Forest {
                 kind: row.kind,
                 name: row.name.as_str(),
                 text: row.text.as_str(),
-                parent: row.parent,
+                parent: row.parent(),
                 attributes: row.attributes.as_slice(),
                 children: row.children.as_slice(),
             }),
@@ -291,7 +291,7 @@ impl Forest {
         requires { IsSome (find id self.now.trees) }
         ensures { result ≡ parent_of id self.now.trees }
     {
-        self.row(id).parent
+        self.row(id).parent()
     }
 
     /// The children of a node, in document order.

@@ -11,6 +11,7 @@ use super::forest::{Forest, MakeFault};
 use data_model::{Kind, NodeId, Part, Tree};
 use node_table::list::NodeList;
 use node_table::name::Name;
+use node_table::plant::Planted;
 use node_table::table::Row;
 use node_table::{copy, order, plant, table};
 use std::alloc::{AllocError, Global};
@@ -33,31 +34,43 @@ impl Forest {
         ensures made { IfOk result
             (λ i. (i ≡ self.old.next)
             × (self.new
-            ≡ record self.old {
-              trees =
-                  append
-                  self.old.trees
-                  (leaf
-                  (record {
-                    identity = i;
-                    kind = kind;
-                    name = string_bytes name;
-                    text = string_bytes text;
-                  }));
-              next = i + 1;
-            })) }
+            ≡ record self.old { trees = append self.old.trees (leaf (record { identity = i; kind = kind; name = string_bytes name; text = string_bytes text })); next = i + 1 })) }
         ensures limit { IsErrOf result MakeFault.Limit ↔ (2 ^ 62 ≤ self.old.next) }
         ensures refused { OnErr result (self.new ≡ self.old) }
     {
-        let id = self.next;
-        if id >= LIMIT {
+        if self.next >= LIMIT {
             return Err(MakeFault::Limit);
         }
+        match self.names.name(name.as_str()) {
+            Ok(name) => self.make_named(alloc, kind, name, text),
+            Err(_) => Err(MakeFault::Memory),
+        }
+    }
+
+    /// The same, with a name as rows share it, where the next identity is below 2^62.
+    fn make_named(
+        &mut self,
+        alloc: Global,
+        kind: Kind,
+        name: Name,
+        text: String,
+    ) -> Result<NodeId, MakeFault>
+        requires room { self.old.next < 2 ^ 62 }
+        ensures made { IfOk result
+            (λ i. (i ≡ self.old.next)
+            × (self.new
+            ≡ record self.old { trees = append self.old.trees (leaf (record { identity = i; kind = kind; name = name; text = string_bytes text })); next = i + 1 })) }
+        ensures limit { IsErrOf result MakeFault.Limit → ⊥ }
+        ensures refused { OnErr result (self.new ≡ self.old) }
+    {
+        let id = self.next;
+        let (has_parent, parent) = table::as_in_row(None);
         let row = Row {
             kind,
-            name: Name::new(name),
+            has_parent,
+            name,
             text,
-            parent: None,
+            parent,
             attributes: NodeList::new(alloc),
             children: NodeList::new(alloc),
             place: id,
@@ -83,7 +96,7 @@ impl Forest {
         } else {
             Part::Children
         };
-        if let Some(parent) = row.parent {
+        if let Some(parent) = row.parent() {
             table::drop_child(&mut self.rows, part, parent, id);
             table::set_parent(&mut self.rows, id, None);
         }
@@ -154,13 +167,17 @@ impl Forest {
         self.index = None;
     }
 
-    /// Gives a node another name.
-    pub fn set_name(&mut self, id: NodeId, name: String)
+    /// Gives a node another name. Where memory is refused, all stays as it was.
+    pub fn set_name(&mut self, id: NodeId, name: String) -> Result<(), AllocError>
         requires { IsSome (find id self.old.trees) }
-        ensures { self.new ≡ record self.old { trees = with_content id (λ c. record c { name = string_bytes name }) self.old.trees } }
+        ensures named { OnOk result
+            (self.new ≡ record self.old { trees = with_content id (λ c. record c { name = string_bytes name }) self.old.trees }) }
+        ensures refused { OnErr result (self.new ≡ self.old) }
     {
+        let name = Name::new(name)?;
         table::set_name(&mut self.rows, id, name);
         self.index = None;
+        Ok(())
     }
 
     /// Whether a copy of the tree of a node of this forest or of a lent one can be numbered.
@@ -193,10 +210,7 @@ impl Forest {
         ensures made { IfOk result
             (λ i. (i ≡ self.old.next)
             × (self.new
-            ≡ record self.old {
-              trees = append self.old.trees (renumbered self.old.next (pick id (append lent.now.trees self.old.trees)));
-              next = self.old.next + size (pick id (append lent.now.trees self.old.trees));
-            })) }
+            ≡ record self.old { trees = append self.old.trees (renumbered self.old.next (pick id (append lent.now.trees self.old.trees))); next = self.old.next + size (pick id (append lent.now.trees self.old.trees)) })) }
         ensures limit { IsErrOf result MakeFault.Limit ↔ (2 ^ 62 < self.old.next + size (pick id (append lent.now.trees self.old.trees))) }
         ensures refused { OnErr result (self.new ≡ self.old) }
     {
@@ -228,10 +242,7 @@ impl Forest {
         ensures made { IfOk result
             (λ i. (i ≡ self.old.next)
             × (self.new
-            ≡ record self.old {
-              trees = append self.old.trees (renumbered self.old.next (pick id self.old.trees));
-              next = self.old.next + size (pick id self.old.trees);
-            })) }
+            ≡ record self.old { trees = append self.old.trees (renumbered self.old.next (pick id self.old.trees)); next = self.old.next + size (pick id self.old.trees) })) }
         ensures limit { IsErrOf result MakeFault.Limit ↔ (2 ^ 62 < self.old.next + size (pick id self.old.trees)) }
         ensures refused { OnErr result (self.new ≡ self.old) }
     {
@@ -246,17 +257,17 @@ impl Forest {
         requires below { (i : ℕ) → 0 < count i (trees_of_tree tree.now) → i < 2 ^ 62 }
         ensures planted { OnOk result
             (self.new
-            ≡ record self.old {
-              trees = ranked tree.now.content.identity (trees_of_tree tree.now) self.old.trees;
-              next = max self.old.next (past (trees_of_tree tree.now));
-            }) }
+            ≡ record self.old { trees = ranked tree.now.content.identity (trees_of_tree tree.now) self.old.trees; next = max self.old.next (past (trees_of_tree tree.now)) }) }
         ensures refused { OnErr result (self.new ≡ self.old) }
     {
         let trees = slice::from_ref(tree);
-        match plant::plant_all(&mut self.rows, &mut self.names, alloc, trees, None, 0) {
+        let rows = &mut self.rows;
+        let names = &mut self.names;
+        let mut planted = Planted::nothing();
+        match plant::plant_all(rows, names, alloc, trees, None, 0, &mut planted) {
             Ok(_) => {
-                self.nodes += data_model::node_count(trees);
-                self.next = self.next.max(data_model::past_identities(trees));
+                self.nodes += planted.nodes;
+                self.next = self.next.max(planted.largest + 1);
                 self.index = None;
                 Ok(())
             }

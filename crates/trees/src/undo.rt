@@ -133,7 +133,7 @@ impl Undo {
                 kind: row.kind,
                 name: row.name.as_str(),
                 text: row.text.as_str(),
-                parent: row.parent,
+                parent: row.parent(),
                 attributes: row.attributes.as_slice(),
                 children: row.children.as_slice(),
             }),

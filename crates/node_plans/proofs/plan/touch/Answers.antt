@@ -32,7 +32,7 @@ returns-clause-places c =
     let none = row-found c.args.plan.now.rows c.number.result c.args.id None (not-some (get c.args.plan.now.rows c.number.result) (sym c.contains_key.ensures ∙ c.if-contains_key.false)) c.number.ensures in
     let at = row-found c.args.rows.now c.number-2.result c.args.id (Some c.in-Some.row.now) (sym c.get.ensures ∙ ap option_copied c.in-Some.is) c.number-2.ensures in
     let u = rw c.number-3.ensures at c.in_ok-insert.ensures.put in
-    copied-places c.args.plan.now (record c.args.plan.now { rows = c.insert.new.self }) c.args.rows.now c.args.id c.in-Some.row.now c.in_ok-row.row none at c.requires c.in_ok-row.ensures.cases.1.1.1.1.1.1 refl u
+    copied-places c.args.plan.now (record c.args.plan.now { rows = c.insert.new.self }) c.args.rows.now c.args.id c.in-Some.row.now c.in_ok-row.row none at c.requires c.in_ok-row.ensures.cases.1.1.1.1.0 refl u
 
 pub returns-clause-there : goal.returns-clause-there
 returns-clause-there c = ap is_some (row-put c.args.plan.now.rows c.insert.new.self c.args.id c.in_ok-row.row (rw c.number-3.ensures at c.in_ok-insert.ensures.put))

@@ -174,8 +174,8 @@ returns-in_err-push-clause-same t c = λ j l.
     let holds2 : Holds g2 (Some n) (renumbered n1 t1.children) = rw (read2, c.new.ensures) at c.in_ok-copy_all-2.ensures.copied in
     let roots1 : c.in_ok-copy_all.field-0.items ≡ roots (renumbered (n + 1) t1.attributes) = rw read1 at c.in_ok-copy_all.ensures.roots in
     let roots2 : c.in_ok-copy_all-2.field-0.items ≡ roots (renumbered n1 t1.children) = rw read2 at c.in_ok-copy_all-2.ensures.roots in
-    let r : Row = record { kind = c.in_ok-kind.field-0.kind; name = c.in_ok-kind.field-0.name; text = c.in_ok-kind.field-0.text; parent = c.args.parent; attributes = c.in_ok-copy_all.field-0; children = c.in_ok-copy_all-2.field-0; place = c.loop-id.next } in
-    let spoken = copy-says c.in_ok-kind.field-0 r t1.content there.parent c.args.parent n _ _ _ _ says refl refl refl refl roots1 roots2 in
+    let r : Row = record { kind = c.in_ok-kind.field-0.kind; has_parent = c.as_in_row-has_parent.result.0; name = c.in_ok-kind.field-0.name; text = c.in_ok-kind.field-0.text; parent = c.as_in_row-has_parent.result.1; attributes = c.in_ok-copy_all.field-0; children = c.in_ok-copy_all-2.field-0; place = c.loop-id.next } in
+    let spoken = copy-says c.in_ok-kind.field-0 r t1.content there.parent c.args.parent n _ _ _ _ says refl refl refl c.as_in_row-has_parent.ensures roots1 roots2 in
     let sets = row-sets g2 c.copy_all-in-loop-id.new.rows c.insert.new.self n n r (entry_of (record t1.content { identity = n }) c.args.parent (roots (renumbered (n + 1) t1.attributes)) (roots (renumbered n1 t1.children))) refl refl spoken c.in_ok-insert.ensures.put in
     sets.apart j (λ same. absurd (omega arith)) ∙ kept2 j l)
 
@@ -218,8 +218,8 @@ returns-in_err-push-clause-fresh t c = λ j l.
     let holds2 : Holds g2 (Some n) (renumbered n1 t1.children) = rw (read2, c.new.ensures) at c.in_ok-copy_all-2.ensures.copied in
     let roots1 : c.in_ok-copy_all.field-0.items ≡ roots (renumbered (n + 1) t1.attributes) = rw read1 at c.in_ok-copy_all.ensures.roots in
     let roots2 : c.in_ok-copy_all-2.field-0.items ≡ roots (renumbered n1 t1.children) = rw read2 at c.in_ok-copy_all-2.ensures.roots in
-    let r : Row = record { kind = c.in_ok-kind.field-0.kind; name = c.in_ok-kind.field-0.name; text = c.in_ok-kind.field-0.text; parent = c.args.parent; attributes = c.in_ok-copy_all.field-0; children = c.in_ok-copy_all-2.field-0; place = c.loop-id.next } in
-    let spoken = copy-says c.in_ok-kind.field-0 r t1.content there.parent c.args.parent n _ _ _ _ says refl refl refl refl roots1 roots2 in
+    let r : Row = record { kind = c.in_ok-kind.field-0.kind; has_parent = c.as_in_row-has_parent.result.0; name = c.in_ok-kind.field-0.name; text = c.in_ok-kind.field-0.text; parent = c.as_in_row-has_parent.result.1; attributes = c.in_ok-copy_all.field-0; children = c.in_ok-copy_all-2.field-0; place = c.loop-id.next } in
+    let spoken = copy-says c.in_ok-kind.field-0 r t1.content there.parent c.args.parent n _ _ _ _ says refl refl refl c.as_in_row-has_parent.ensures roots1 roots2 in
     let sets = row-sets g2 c.copy_all-in-loop-id.new.rows c.insert.new.self n n r (entry_of (record t1.content { identity = n }) c.args.parent (roots (renumbered (n + 1) t1.attributes)) (roots (renumbered n1 t1.children))) refl refl spoken c.in_ok-insert.ensures.put in
     sets.apart j (λ same. absurd (omega arith)) ∙ c.copy_all-in-loop-id.ensures.fresh j l)
 
@@ -261,7 +261,7 @@ returns-in_err-push-clause-places t c =
     let holds2 : Holds g2 (Some n) (renumbered n1 t1.children) = rw (read2, c.new.ensures) at c.in_ok-copy_all-2.ensures.copied in
     let roots1 : c.in_ok-copy_all.field-0.items ≡ roots (renumbered (n + 1) t1.attributes) = rw read1 at c.in_ok-copy_all.ensures.roots in
     let roots2 : c.in_ok-copy_all-2.field-0.items ≡ roots (renumbered n1 t1.children) = rw read2 at c.in_ok-copy_all-2.ensures.roots in
-    let r : Row = record { kind = c.in_ok-kind.field-0.kind; name = c.in_ok-kind.field-0.name; text = c.in_ok-kind.field-0.text; parent = c.args.parent; attributes = c.in_ok-copy_all.field-0; children = c.in_ok-copy_all-2.field-0; place = c.loop-id.next } in
+    let r : Row = record { kind = c.in_ok-kind.field-0.kind; has_parent = c.as_in_row-has_parent.result.0; name = c.in_ok-kind.field-0.name; text = c.in_ok-kind.field-0.text; parent = c.as_in_row-has_parent.result.1; attributes = c.in_ok-copy_all.field-0; children = c.in_ok-copy_all-2.field-0; place = c.loop-id.next } in
     let unmade : table_of c.copy_all-in-loop-id.new.rows n ≡ None = c.copy_all-in-loop-id.ensures.same n (omega arith) ∙ c.copy_all.ensures.same n (omega arith) ∙ inv.fresh n (omega arith) in
     places-new c.copy_all-in-loop-id.new.rows c.insert.new.self n r unmade refl c.in_ok-insert.ensures.put ∙ c.copy_all-in-loop-id.ensures.places ∙ c.copy_all.ensures.places ∙ inv.places
 
@@ -303,8 +303,8 @@ loop-id-preserved t c =
     let holds2 : Holds g2 (Some n) (renumbered n1 t1.children) = rw (read2, c.new.ensures) at c.in_ok-copy_all-2.ensures.copied in
     let roots1 : c.in_ok-copy_all.field-0.items ≡ roots (renumbered (n + 1) t1.attributes) = rw read1 at c.in_ok-copy_all.ensures.roots in
     let roots2 : c.in_ok-copy_all-2.field-0.items ≡ roots (renumbered n1 t1.children) = rw read2 at c.in_ok-copy_all-2.ensures.roots in
-    let r : Row = record { kind = c.in_ok-kind.field-0.kind; name = c.in_ok-kind.field-0.name; text = c.in_ok-kind.field-0.text; parent = c.args.parent; attributes = c.in_ok-copy_all.field-0; children = c.in_ok-copy_all-2.field-0; place = c.loop-id.next } in
-    let spoken = copy-says c.in_ok-kind.field-0 r t1.content there.parent c.args.parent n _ _ _ _ says refl refl refl refl roots1 roots2 in
+    let r : Row = record { kind = c.in_ok-kind.field-0.kind; has_parent = c.as_in_row-has_parent.result.0; name = c.in_ok-kind.field-0.name; text = c.in_ok-kind.field-0.text; parent = c.as_in_row-has_parent.result.1; attributes = c.in_ok-copy_all.field-0; children = c.in_ok-copy_all-2.field-0; place = c.loop-id.next } in
+    let spoken = copy-says c.in_ok-kind.field-0 r t1.content there.parent c.args.parent n _ _ _ _ says refl refl refl c.as_in_row-has_parent.ensures roots1 roots2 in
     let sets = row-sets g2 c.copy_all-in-loop-id.new.rows c.insert.new.self n n r (entry_of (record t1.content { identity = n }) c.args.parent (roots (renumbered (n + 1) t1.attributes)) (roots (renumbered n1 t1.children))) refl refl spoken c.in_ok-insert.ensures.put in
     let unmade : table_of c.copy_all-in-loop-id.new.rows n ≡ None = c.copy_all-in-loop-id.ensures.same n (omega arith) ∙ c.copy_all.ensures.same n (omega arith) ∙ inv.fresh n (omega arith) in
     let us = read_trees c.args.levels f c.args.ids.now in

@@ -19,7 +19,7 @@ loop-preserved c =
     let read = sym c.get.ensures ∙ ap option_copied c.in-Some.is in
     let at = rw c.number.ensures at (row-entry m c.number.result c.in-Some.row.now read) in
     let place = rw c.number.ensures at (place-some m c.number.result c.in-Some.row.now read) in
-    let up = row-label-up w f c.args.levels ts c.requires.table c.loop.at c.in-Some-parent.parent i.there (ap parent_in at ∙ c.in-Some-parent.is) in
+    let up = row-label-up w f c.args.levels ts c.requires.table c.loop.at c.in-Some-parent.parent i.there (ap parent_in at ∙ sym c.parent.ensures ∙ c.in-Some-parent.is) in
     let level = up.1 in
     let was = i.level in
     let pushed = c.in_ok-push.ensures.ok ∙ ap (λ n. c.loop.label.items ++ n ∷ []) (sym place) in
@@ -42,7 +42,7 @@ returns c =
       | else-loop-test b ↦ (let over = b.loop-test.false in let level = i.level in let deep = depth-size c.args.id ts in let few = h.fits in row-label-end w f c.args.levels ts h c.loop.at i.there (omega arith))
       | then-loop-test+in_default b ↦ row-label-top w f c.args.levels ts h c.loop.at i.there (ap parent_in (rw b.number.ensures at (row-none m b.number.result (sym b.get.ensures ∙ ap option_copied b.in_default.is))))
       | then-loop-test+in-Some+in_default-parent b ↦
-          row-label-top w f c.args.levels ts h c.loop.at i.there (ap parent_in (rw b.number.ensures at (row-entry m b.number.result b.in-Some.row.now (sym b.get.ensures ∙ ap option_copied b.in-Some.is))) ∙ b.in_default-parent.is)
+          row-label-top w f c.args.levels ts h c.loop.at i.there (ap parent_in (rw b.number.ensures at (row-entry m b.number.result b.in-Some.row.now (sym b.get.ensures ∙ ap option_copied b.in-Some.is))) ∙ sym b.parent.ensures ∙ b.in_default-parent.is)
     ] in
     let same = c.reverse.ensures.after ∙ ap reverse c.as_mut_slice.ensures.value in
     let len = c.reverse.ensures.len in

@@ -10,7 +10,7 @@ pub returns-in-Some : goal.returns-in-Some
 returns-in-Some c =
     let r = c.in-Some.row.now in
     let at = row-is c.self.inside.parts c.args.self.now c.self.view_is c.self.invariant c.args.id (Some r) (sym (ap (option_map (λ (x : Bor Row). x.now)) c.in-Some.is) ∙ c.find.ensures) in
-    sym (parent-in c.args.id c.args.self.now.after (entry_of_row r) at)
+    c.parent.ensures ∙ sym (parent-in c.args.id c.args.self.now.after (entry_of_row r) at)
 
 pub returns-in-None : goal.returns-in-None
 returns-in-None c =
