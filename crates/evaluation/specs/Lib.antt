@@ -8,4 +8,5 @@ pub mod Held
 pub mod Kept
 pub mod Lent
 pub mod Linked
+pub mod Rebound
 pub mod Within

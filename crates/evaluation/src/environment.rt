@@ -6,6 +6,7 @@ ghost use Rattle.std.specs.Option.{option_copied};
 ghost use Rattle.query_meaning.specs.Environment.{looked_at, value_in, with_focus};
 ghost use Rattle.query_meaning.specs.Running.{most_items};
 ghost use Rattle.evaluation.specs.Around.{item_in, position_in, size_in};
+ghost use Rattle.evaluation.specs.Rebound.{rebound};
 
 use crate::sequence::Sequence;
 use std::alloc::{AllocError, Global};
@@ -84,6 +85,25 @@ impl Variables {
         };
         Ok(Variables {
             last: Link::More(Rc::new(alloc, binding)?),
+        })
+    }
+
+    /// These variables, the one that was bound last with those items in place of its own; no variables where there are none. Where nobody shares
+    /// that one it is written over and takes no memory. It fails where memory is refused.
+    pub fn rebound(self, alloc: Global, items: Sequence) -> Result<Variables, AllocError>
+        ensures { IfOk result (λ v. v ≡ rebound items self) }
+    {
+        let Link::More(mut binding) = self.last else {
+            return Ok(Variables::new());
+        };
+        let Some(alone) = Rc::get_mut(&mut binding) else {
+            return Variables::and(alloc, &binding.name, items, &binding.others);
+        };
+        let _few = items.as_slice();
+        alone.others.facts();
+        alone.items = items;
+        Ok(Variables {
+            last: Link::More(binding),
         })
     }
 

@@ -1,6 +1,7 @@
 -- Values of variables, and nodes among items.
 use Rattle.std.proofs.Common.{◌≡◌, ℕ, zero, suc, ◌+◌, pos, List, [], ◌∷◌, ◌++◌, Option, None, Some, Bool, sym, ap, Result, Ok, Err, ◌∙◌, arith, subst}
 use Rattle.std.specs.List.{All}
+use Rattle.std.specs.Option.{ForSome}
 use Rattle.values.specs.Items.{IsThere}
 use Rattle.values.specs.declared.atom.Atom.{Atom}
 use Rattle.values.specs.declared.atom.Atom.TheVariants as atom
@@ -13,7 +14,7 @@ use Rattle.query_meaning.specs.Sequences.{one, tested, variable}
 use Rattle.query_meaning.specs.Meaning.{mean}
 use Rattle.query_grammar.specs.declared.ast.Expr.{Expr}
 use Rattle.query_grammar.specs.declared.ast.Expr.TheVariants as e
-use Rattle.query_control.specs.Parts.{and_position, with_variables}
+use Rattle.query_control.specs.Parts.{Rebinds, RebindsAt, and_position, with_variables}
 use Rattle.query_control.specs.Lasting.{there_on, ready_on}
 use Rattle.evaluation.proofs.Unfolded.{of_variable}
 use Rattle.query_meaning.specs.Environment.{Environment, with_variable}
@@ -52,6 +53,10 @@ ready_at_item : (x : List ℕ) (at : Option (List ℕ)) (i : ℕ) (item : Item) 
 ready_at_item x None i item env run ready there = ready_with x (item ∷ []) env run ready (one_there item run there)
 ready_at_item x (Some at) i item env run ready there =
     ready_with at (one (atom.Integer (pos (i + 1)))) (with_variable x (item ∷ []) env) run (ready_with x (item ∷ []) env run ready (one_there item run there)) (one_stands (atom.Integer (pos (i + 1))) run)
+
+-- where no position is bound
+pub without_position : (x : List ℕ) (at : Option (List ℕ)) (others : List Bound) (o : Option (List Bound)) → at ≡ None → ForSome o (RebindsAt x at others) → ForSome o (Rebinds x others)
+without_position x at others o is h = λ bs found. subst (λ at. RebindsAt x at others bs) is (h bs found)
 
 -- a turn loses none
 pub grows_turned : (old new : Run) (u : Unit {0}) → Turns (Ok u) old new → Grows old new

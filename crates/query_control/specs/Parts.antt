@@ -1,5 +1,5 @@
 -- Parts of expressions, by what they mean or with the expressions in them.
-use Rattle.std.specs.Prelude.{Bool, false, ℕ, ◌+◌, List, ◌∷◌, [], pos, Option, None, Some}
+use Rattle.std.specs.Prelude.{◌≡◌, Bool, false, ℕ, ◌+◌, List, ◌∷◌, [], pos, Option, None, Some}
 use Rattle.values.specs.declared.atom.Atom.{Atom}
 use Rattle.values.specs.declared.atom.Atom.TheVariants as atom
 use Rattle.values.specs.declared.atom.Item.{Item}
@@ -11,6 +11,7 @@ use Rattle.query_grammar.specs.declared.ast.SortKey.{SortKey}
 use Rattle.query_meaning.specs.Running.{M, ◌>>=◌, come_to, joined, turn, each}
 use Rattle.query_meaning.specs.Environment.{Bound, Environment, with_variable}
 use Rattle.evaluation.specs.Bindings.{binding_of}
+use Rattle.evaluation.specs.Rebound.{rebound}
 use Rattle.query_meaning.specs.Sequences.{Meaning, Tuple, one, satisfied, tuples, keys_in, key_in as key_in_order, and_tuple, kept_tuple, in_sorted_order}
 
 -- what the parts of a part mean
@@ -36,6 +37,15 @@ with_variables bs env = record env { variables = bs }
 abbrev pub and_position : Option (List ℕ) → (index : ℕ) → List Bound → List Bound
 and_position None i bs = bs
 and_position (Some at) i bs = record { variable = at; items = one (atom.Integer (pos (i + 1))) } ∷ bs
+
+-- variables that, with other items for the one that was bound last, are that variable bound after those others
+abbrev pub Rebinds : (variable : List ℕ) → (others : List Bound) → List Bound → Type 0
+Rebinds x others bs = (items : List Item) → rebound items bs ≡ record { variable = x; items = items } ∷ others
+
+-- the same where no position is bound after it
+abbrev pub RebindsAt : (variable : List ℕ) → Option (List ℕ) → (others : List Bound) → List Bound → Type 0
+RebindsAt x None others bs = Rebinds x others bs
+RebindsAt x (Some at) others bs = Unit {0}
 
 -- one item of a `for` clause with its position, which follows that index, before the other clauses
 abbrev pub for_one : {S : Type 0} → (variable : List ℕ) → (at : Option (List ℕ)) → List (Clause Meaning) → (Environment → S → M S) → Environment → (index : ℕ) → S → Item → M S

@@ -155,20 +155,27 @@ fn position(run: &Evaluation, index: usize) -> Result<Sequence, AllocError>
     Sequence::one(run.alloc(), Item::Atomic(Atom::Integer(position)))
 }
 
-/// A variable more, with one item. It fails where memory is refused.
+/// A variable more, with one item. What is no longer used of the same variables with another item serves again, where nobody shares it. It fails
+/// where memory is refused.
 pub(crate) fn and_item(
     run: &Evaluation,
     variable: &Text,
     item: &Item,
     others: &Variables,
+    former: Option<Variables>,
 ) -> Result<Variables, AllocError>
+    requires former { ForSome former (part.Rebinds variable.now others.now) }
     ensures { IfOk result (λ v. v ≡ record { variable = variable.now; items = item.now ∷ [] } ∷ others.now) }
 {
     let items = Sequence::one(run.alloc(), item.clone()?)?;
-    Variables::and(run.alloc(), variable, items, others)
+    match former {
+        Some(former) => former.rebound(run.alloc(), items),
+        None => Variables::and(run.alloc(), variable, items, others),
+    }
 }
 
-/// The same, and one more with the position that follows an index, where a variable is there for it. It fails where memory is refused.
+/// The same, and one more with the position that follows an index, where a variable is there for it: then nothing serves again. It fails where
+/// memory is refused.
 pub(crate) fn and_item_at(
     run: &Evaluation,
     variable: &Text,
@@ -176,13 +183,17 @@ pub(crate) fn and_item_at(
     index: usize,
     item: &Item,
     others: &Variables,
+    former: Option<Variables>,
 ) -> Result<Variables, AllocError>
-    requires { index < most_items }
+    requires most { index < most_items }
+    requires former { ForSome former (part.RebindsAt variable.now (option_copied at) others.now) }
     ensures { IfOk result (λ v. v ≡ part.and_position (option_copied at.entry) index (record { variable = variable.now; items = item.now ∷ [] } ∷ others.now)) }
 {
-    let variables = and_item(run, variable, item, others)?;
     match at {
-        None => Ok(variables),
-        Some(at) => Variables::and(run.alloc(), at, position(run, index)?, &variables),
+        None => and_item(run, variable, item, others, former),
+        Some(at) => {
+            let variables = and_item(run, variable, item, others, None)?;
+            Variables::and(run.alloc(), at, position(run, index)?, &variables)
+        }
     }
 }

@@ -1,6 +1,7 @@
 //! Quantified expressions, over a function that evaluates their parts (XQuery 1.0, section 3.11).
 
 ghost use Rattle.std.specs.Prelude.{◌≡◌, ◌∷◌, [], map};
+ghost use Rattle.std.specs.Option.{ForSome};
 ghost use Rattle.values.specs.Items.{IsThere};
 ghost use Rattle.query_meaning.specs.Environment.{with_variable};
 ghost use Rattle.query_meaning.specs.Meaning.{mean};
@@ -13,7 +14,7 @@ ghost use Rattle.query_control.specs.Parts as part;
 
 use crate::flwor::and_item;
 use crate::forms::Forms;
-use evaluation::{Environment, Evaluation, Sequence};
+use evaluation::{Environment, Evaluation, Sequence, Variables};
 use query_grammar::{Binding, Expr, Quantifier};
 use query_operators::boolean;
 use sqlite_items::{Boxed, Items};
@@ -84,8 +85,18 @@ impl<F: Fn(&mut Evaluation, &Expr, &Environment) -> Result<Sequence, ValueFault>
         requires items { Stand items.now run.old }
         ensures { GivesIn Any (meaning.until_decided quantifier (part.satisfied_by quantifier variable.now (map (binding_of mean) bindings.now) (mean test.now) env.now) items.now) run.old result run.new }
     {
+        let mut former = None;
         for item in items {
-            let value = self.satisfied_by(run, quantifier, variable, item, bindings, test, env)?;
+            let value = self.satisfied_by(
+                run,
+                quantifier,
+                variable,
+                item,
+                &mut former,
+                bindings,
+                test,
+                env,
+            )?;
             if decides(quantifier, value) {
                 return Ok(value);
             }
@@ -93,6 +104,7 @@ impl<F: Fn(&mut Evaluation, &Expr, &Environment) -> Result<Sequence, ValueFault>
         Ok(undecided(quantifier))
     }
 
+    /// One item. The variables of the item before it serve again; then its own are left for the next.
     #[cycle(satisfied)]
     #[tactic(auto, using(crate::proofs::Calls::quantified_rest, crate::proofs::Values::ready_with))]
     fn satisfied_by(
@@ -101,6 +113,7 @@ impl<F: Fn(&mut Evaluation, &Expr, &Environment) -> Result<Sequence, ValueFault>
         quantifier: Quantifier,
         variable: &Text,
         item: &Item,
+        former: &mut Option<Variables>,
         bindings: &[Binding<Expr>],
         test: &Boxed<Expr>,
         env: &Environment,
@@ -108,11 +121,15 @@ impl<F: Fn(&mut Evaluation, &Expr, &Environment) -> Result<Sequence, ValueFault>
         requires quantified { EvaluatesQuantified (F.pre self.now.value_of) (F.post self.now.value_of) bindings.now test.now }
         requires ready { IsReady env.now run.old }
         requires item { IsThere (trees_of run.old) item.now }
-        ensures { GivesIn Any (part.satisfied_by quantifier variable.now (map (binding_of mean) bindings.now) (mean test.now) env.now item.now) run.old result run.new }
+        requires former { ForSome former.old (part.Rebinds variable.now env.now.variables) }
+        ensures gives { GivesIn Any (part.satisfied_by quantifier variable.now (map (binding_of mean) bindings.now) (mean test.now) env.now item.now) run.old result run.new }
+        ensures former { ForSome former.new (part.Rebinds variable.now env.now.variables) }
     {
         run.turn()?;
-        let variables = and_item(run, variable, item, env.variables())?;
-        self.satisfied(run, quantifier, bindings, test, &env.with(&variables))
+        let variables = and_item(run, variable, item, env.variables(), former.take())?;
+        let value = self.satisfied(run, quantifier, bindings, test, &env.with(&variables));
+        *former = Some(variables);
+        value
     }
 }
 

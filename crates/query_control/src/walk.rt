@@ -1,6 +1,7 @@
 //! The walk over the clauses of a FLWOR expression, whatever is done at each tuple (XQuery 1.0, section 3.8).
 
 ghost use Rattle.std.specs.Prelude.{◌<◌, ◌≤◌, length, map, option_copied};
+ghost use Rattle.std.specs.Option.{ForSome};
 ghost use Rattle.std.specs.List.{All};
 ghost use Rattle.values.specs.Items.{IsThere};
 ghost use Rattle.query_grammar.specs.declared.ast.Expr.{Expr};
@@ -155,14 +156,16 @@ impl<'w, A: AtTuple> Walk<'w, A> {
             run.old result run.new }
     {
         let mut found = given;
+        let mut former = None;
         let mut index = 0;
         for item in items {
-            found = self.for_one(run, variable, at, index, item, found)?;
+            found = self.for_one(run, variable, at, index, item, &mut former, found)?;
             index += 1;
         }
         Ok(found)
     }
 
+    /// One item. The variables of the item before it serve again; then its own are left for the next.
     #[cycle(tuples)]
     fn for_one(
         &self,
@@ -171,6 +174,7 @@ impl<'w, A: AtTuple> Walk<'w, A> {
         at: Option<&Text>,
         index: usize,
         item: &Item,
+        former: &mut Option<Variables>,
         given: A::Given,
     ) -> Result<A::Given, ValueFault>
         requires clauses { All (λ c. A.can_evaluate self.now.at_tuple.now (part.source_of c)) self.now.clauses.now }
@@ -178,18 +182,30 @@ impl<'w, A: AtTuple> Walk<'w, A> {
         requires ready { IsReady (part.with_variables self.now.variables.now (A.env self.now.at_tuple.now)) run.old }
         requires most { index < most_items }
         requires item { IsThere (trees_of run.old) item.now }
+        requires former { ForSome former.old (part.RebindsAt variable.now (option_copied at) self.now.variables.now) }
         requires fits { A.fits self.now.at_tuple.now given run.old }
-        ensures { GivesIn (A.fits self.now.at_tuple.now)
+        ensures gives { GivesIn (A.fits self.now.at_tuple.now)
             (part.for_one variable.now (option_copied at.entry) (map (part.clause_of mean) self.now.clauses.now) (A.means self.now.at_tuple.now)
             (part.with_variables self.now.variables.now (A.env self.now.at_tuple.now)) index given item.now)
             run.old result run.new }
+        ensures former { ForSome former.new (part.RebindsAt variable.now (option_copied at.entry) self.now.variables.now) }
     {
         run.turn()?;
-        let variables = and_item_at(run, variable, at, index, item, self.variables)?;
+        let variables = and_item_at(
+            run,
+            variable,
+            at,
+            index,
+            item,
+            self.variables,
+            former.take(),
+        )?;
         let with_item = Walk {
             variables: &variables,
             ..*self
         };
-        with_item.tuples(run, given)
+        let found = with_item.tuples(run, given);
+        *former = Some(variables);
+        found
     }
 }

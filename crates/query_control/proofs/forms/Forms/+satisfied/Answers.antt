@@ -13,4 +13,4 @@ satisfied-returns g t c = satisfied_first _ _ _ _ _ _ _ _ _ _ _ _ c.in-Some.ensu
 
 pub until_decided-loop-item-preserved : goal.until_decided-loop-item-preserved
 until_decided-loop-item-preserved g t c =
-    seeks_on _ _ _ _ _ _ _ _ _ c.loop-item.invariant c.loop-item-test.true c.item-item.is c.in_ok-value.ensures (sym c.decides.ensures ∙ c.if-decides.false)
+    (c.in_ok-value.ensures.former, seeks_on _ _ _ _ _ _ _ _ _ c.loop-item.invariant.1 c.loop-item-test.true c.item-item.is c.in_ok-value.ensures.gives (sym c.decides.ensures ∙ c.if-decides.false))

@@ -32,8 +32,8 @@ pub tuples-returns-in-ForAt : goal.tuples-returns-in-ForAt
 tuples-returns-in-ForAt g t c =
     tuples_for (g.A.AtTuple.fits c.args.self.now.at_tuple.now) _ _ _ _ (Some _) _ _ _ _ _ _ _ _ _ _ c.in-Some.ensures.cases.0 c.in-ForAt.is c.source_of.ensures c.in_ok-items.ensures c.as_slice-in-ForAt.ensures.items c.for_each-in-ForAt.ensures
 
-pub for_one-tuples-requires : goal.for_one-tuples-requires
-for_one-tuples-requires g t c κs within =
+pub for_one-tuples-found-requires : goal.for_one-tuples-found-requires
+for_one-tuples-found-requires g t c κs within =
     let fits = g.met.A.AtTuple.lasts c.args.self.now.at_tuple.now c.args.given c.args.run.now c.turn.new.self (grows_turned _ _ _ c.in_ok-turn.ensures) c.requires.fits in
     let ready = ready_in_turn _ _ _ _ (with_variables c.args.self.now.variables.now (g.A.AtTuple.env c.args.self.now.at_tuple.now)) _ _ _ _ c.requires.ready c.requires.item c.in_ok-turn.ensures c.in_ok-variables.ensures in
     (omega (arith, c.decreases), (search rules, (search rules, (search rules, (search rules, (ready, fits))))))
@@ -41,4 +41,7 @@ for_one-tuples-requires g t c κs within =
 pub for_one-returns : goal.for_one-returns
 for_one-returns g t c =
     let env = with_variables c.args.self.now.variables.now (g.A.AtTuple.env c.args.self.now.at_tuple.now) in
-    one_gives (g.A.AtTuple.fits c.args.self.now.at_tuple.now) _ _ (map (clause_of mean) c.args.self.now.clauses.now) (g.A.AtTuple.means c.args.self.now.at_tuple.now) env c.args.index c.args.given _ _ c.args.run.now c.turn.new.self c.tuples.new.run _ c.tuples.result c.in_ok-turn.ensures c.in_ok-variables.ensures c.tuples.ensures
+    record {
+      gives = one_gives (g.A.AtTuple.fits c.args.self.now.at_tuple.now) _ _ (map (clause_of mean) c.args.self.now.clauses.now) (g.A.AtTuple.means c.args.self.now.at_tuple.now) env c.args.index c.args.given _ _ c.args.run.now c.turn.new.self c.tuples-found.new.run _ c.tuples-found.result c.in_ok-turn.ensures c.in_ok-variables.ensures c.tuples-found.ensures;
+      former = search rules;
+    }
