@@ -1,10 +1,10 @@
 -- The order of keys in the definition beside one of all keys, and keys of one type.
-use Rattle.std.proofs.Common.{◌≡◌, ℕ, suc, ℤ, pos, Bool, true, false, cond, List, [], ◌∷◌, length, map, Option, Some, None, Ok, Err, refl, sym, ap, ap₂, ◌∙◌, arith}
+use Rattle.std.proofs.Common.{◌≡◌, ℕ, zero, suc, ◌+◌, ◌<◌, ℤ, pos, Bool, true, false, cond, List, [], ◌∷◌, length, drop, map, Option, Some, None, Ok, Err, refl, sym, ap, ap₂, ◌∙◌, arith}
 use Rattle.std.specs.Prelude.{◌&&◌}
 use Rattle.std.specs.Cmp.{IsTotalOrder, IsStrictWeakOrder}
 use Rattle.std.specs.Cmp.Lexicographic.{slice_cmp}
 use Rattle.std.specs.List.{list_all}
-use Rattle.std.specs.Ordering.{nat_cmp, int_cmp, bool_cmp, ordering_reverse, ordering_then, is_lt, on, then_cmp, flip_args}
+use Rattle.std.specs.Ordering.{nat_cmp, int_cmp, bool_cmp, ordering_reverse, ordering_then, is_eq, is_lt, on, then_cmp, flip_args}
 use Rattle.std.specs.Str.{chars}
 use Rattle.std.specs.declared.cmp.Ordering.{Ordering}
 use Rattle.std.specs.declared.cmp.Ordering.TheVariants.{Less, Equal, Greater}
@@ -38,10 +38,15 @@ number_of (Some (atom.Untyped t)) = pos 0
 abbrev by_parts : Option Atom → Option Atom → Ordering
 by_parts = then_cmp (on rank nat_cmp) (then_cmp (on text_of (slice_cmp nat_cmp)) (on number_of int_cmp))
 
-then_equal : (o : Ordering) → o ≡ ordering_then o Equal
+pub then_equal : (o : Ordering) → o ≡ ordering_then o Equal
 then_equal Less = refl
 then_equal Equal = refl
 then_equal Greater = refl
+
+pub is_equal : (o : Ordering) → is_eq o ≡ true → o ≡ Equal
+is_equal Less e = cc
+is_equal Equal e = refl
+is_equal Greater e = cc
 
 bools : (a b : Bool) → bool_cmp a b ≡ int_cmp (pos (cond a 1 0)) (pos (cond b 1 0))
 bools true true = refl
@@ -83,7 +88,7 @@ same_total R S same o = record {
   congr = λ x y z e. same x z ∙ o.congr x y z (sym (same x y) ∙ e) ∙ sym (same y z);
 }
 
-ranked_cmp_total : IsTotalOrder ranked_cmp
+pub ranked_cmp_total : IsTotalOrder ranked_cmp
 ranked_cmp_total =
     same_total ranked_cmp by_parts is_by_parts (then_total (on_total rank nat_cmp_total) (then_total (on_total text_of nat_list_cmp_total) (on_total number_of int_cmp_total)))
 
@@ -164,6 +169,23 @@ ranked_rest : {A : Type 0} (keys : List (SortKey A)) (k : ℕ) (a b : Option Ato
 ranked_rest [] k a b more others = refl
 ranked_rest (key ∷ keys) k a b more others =
     ap (ordering_then (turned key.is_descending (ranked_cmp (key_at k more) (key_at k others)))) (ranked_rest keys (suc k) a b more others)
+
+-- where the keys at one position do not differ, those after it decide
+ranked_next : {A : Type 0} (keys : List (SortKey A)) (i k : ℕ) (xs ys : List (Option Atom)) → i < length keys → ranked_cmp (key_at k xs) (key_at k ys) ≡ Equal
+    → ranked k (drop i keys) xs ys ≡ ranked (suc k) (drop (suc i) keys) xs ys
+ranked_next [] i k xs ys below e = absurd (omega (arith, below))
+ranked_next (key ∷ keys) zero k xs ys below e = ap (λ o. ordering_then (turned key.is_descending o) (ranked (suc k) keys xs ys)) e ∙ by key.is_descending
+  where
+    by : (b : Bool) → ordering_then (turned b Equal) (ranked (suc k) keys xs ys) ≡ ranked (suc k) keys xs ys
+    by true = refl
+    by false = refl
+ranked_next (key ∷ keys) (suc i) k xs ys below e = ranked_next keys i k xs ys (omega (arith, below)) e
+
+pub ranked_after : {A : Type 0} (keys : List (SortKey A)) (k : ℕ) (xs ys : List (Option Atom)) → k < length keys → ranked_cmp (key_at k xs) (key_at k ys) ≡ Equal
+    → ranked k (drop k keys) xs ys ≡ ranked (k + 1) (drop (k + 1) keys) xs ys
+ranked_after keys k xs ys below e =
+    let next : suc k ≡ k + 1 = omega arith in
+    ranked_next keys k k xs ys below e ∙ ap (λ n. ranked n (drop n keys) xs ys) next
 
 keys_compared : (keys : List (SortKey Meaning)) (xs ys : List (Option Atom)) → length xs ≡ length ys → are_comparable ys xs ≡ true → keys_cmp keys xs ys ≡ ranked 0 keys xs ys
 keys_compared [] xs ys l e = refl

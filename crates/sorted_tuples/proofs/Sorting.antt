@@ -33,7 +33,7 @@ module _ {X : Type 0} (lt : X → X → Bool) (o : IsStrictWeakOrder lt) where
       by true e = o.one_way x x e
       by false e = e
 
-  tied_itself : (x : X) → ties lt x x ≡ true
+  pub tied_itself : (x : X) → ties lt x x ≡ true
   tied_itself x = ap₂ (λ a b. not a && not b) (not_itself x) (not_itself x)
 
   above_from : (x : X) (ys : List X) → ((j : ℕ) (d : X) → j < length ys → lt (get_or ys j d) x ≡ false) → Above lt x ys
@@ -141,6 +141,25 @@ module _ {X : Type 0} (lt : X → X → Bool) (o : IsStrictWeakOrder lt) where
   -- what a stable sort ensures
   pub stable_is_inserted : (xs ys : List X) → IsSortedBy lt ys → IsStableBy lt xs ys → ys ≡ inserted_each lt xs
   stable_is_inserted xs ys up stable = alike ys (inserted_each lt xs) (rises_from ys (sorted_far lt o ys up)) (each_rises xs) (λ x. stable x ∙ sym (each_stable x xs))
+
+  -- elements that tie are among those that tie by a coarser test
+  tied_among : (coarse : X → X → Bool) → ((x y : X) → ties lt x y ≡ true → coarse x y ≡ true) → (x : X) (zs : List X) → filter (ties lt x) (filter (coarse x) zs) ≡ filter (ties lt x) zs
+  tied_among coarse h x [] = refl
+  tied_among coarse h x (z ∷ zs) = by (ties lt x z) (coarse x z) refl refl (tied_among coarse h x zs)
+    where
+      by : (b c : Bool) → ties lt x z ≡ b → coarse x z ≡ c → filter (ties lt x) (filter (coarse x) zs) ≡ filter (ties lt x) zs
+          → filter (ties lt x) (cond c (z ∷ filter (coarse x) zs) (filter (coarse x) zs)) ≡ cond b (z ∷ filter (ties lt x) zs) (filter (ties lt x) zs)
+      by true true e f same = ap₂ (λ w ws. cond w (z ∷ ws) ws) e same
+      by true false e f same = absurd (unlike (coarse x z) (h x z e) f)
+      by false true e f same = ap₂ (λ w ws. cond w (z ∷ ws) ws) e same
+      by false false e f same = same
+
+  -- insertion gives the same after a sort that keeps elements in their order which tie by a coarser test
+  pub inserted_after : (coarse : X → X → Bool) → ((x y : X) → ties lt x y ≡ true → coarse x y ≡ true) → (xs ys : List X) → ((x : X) → filter (coarse x) ys ≡ filter (coarse x) xs)
+      → inserted_each lt ys ≡ inserted_each lt xs
+  inserted_after coarse h xs ys stable =
+      alike (inserted_each lt ys) (inserted_each lt xs) (each_rises ys) (each_rises xs)
+      (λ x. each_stable x ys ∙ sym (tied_among coarse h x ys) ∙ ap (filter (ties lt x)) (stable x) ∙ tied_among coarse h x xs ∙ sym (each_stable x xs))
 
 -- what holds of each element holds of each that is inserted
 each_inserted : {X : Type 0} (f : X → X → Bool) (P : X → Type 0) (x : X) (ys : List X) → P x → Each P ys → Each P (inserted f x ys)

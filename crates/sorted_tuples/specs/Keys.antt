@@ -3,7 +3,7 @@ use Rattle.std.specs.Prelude.{◌≡◌, ℕ, zero, suc, Bool, true, ◌&&◌, i
 use Rattle.std.specs.Coded.{Coded, code_by, coded×, coded_list, coded_option}
 use Rattle.std.specs.declared.cmp.Ordering.{Ordering}
 use Rattle.std.specs.declared.cmp.Ordering.TheVariants.{Equal}
-use Rattle.std.specs.Ordering.{nat_cmp, int_cmp, bool_cmp, ordering_reverse, ordering_then, is_lt}
+use Rattle.std.specs.Ordering.{nat_cmp, int_cmp, bool_cmp, ordering_reverse, ordering_then, is_lt, is_le, is_gt}
 use Rattle.values.specs.contracts.atom.Atom as of_atom
 use Rattle.values.specs.declared.atom.Atom.{Atom}
 use Rattle.values.specs.declared.atom.Atom.TheVariants as atom
@@ -53,6 +53,10 @@ ranked k (key ∷ keys) xs ys = ordering_then (turned key.is_descending (ranked_
 
 abbrev pub comes_first : {A : Type 0} → List (SortKey A) → Tuple → Tuple → Bool
 comes_first keys t u = is_lt (ranked 0 keys t.keys u.keys)
+
+-- what holds of neighbours in a run, which is in order, or strictly in the opposite one where it falls
+abbrev pub in_run : {A : Type 0} → List (SortKey A) → (falls : Bool) → Tuple → Tuple → Bool → Type 0
+in_run keys falls t u b = b ≡ (if falls then is_gt (ranked 0 keys t.keys u.keys) else is_le (ranked 0 keys t.keys u.keys))
 
 -- whether two keys can be compared
 abbrev pub has_order : Option Atom → Option Atom → Bool

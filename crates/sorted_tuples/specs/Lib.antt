@@ -1,2 +1,3 @@
+pub mod Abbreviations
 pub mod Held
 pub mod Keys

@@ -1,15 +1,20 @@
 //! Tuples of a FLWOR expression with `order by`, with their keys (XQuery 1.0, section 3.8.3).
 
-ghost use Rattle.std.specs.Prelude.{◌≡◌, ◌++◌, ◌∷◌, [], length, map, Some, None, IfOk, OnOk};
+ghost use Rattle.std.specs.Prelude.{◌≡◌, ℕ, ◌≤◌, ◌++◌, ◌∷◌, [], length, map, Some, None, IfOk, OnOk};
+ghost use Rattle.std.specs.List.{IsAllAdjacentAnswer};
+ghost use Rattle.std.specs.List.Sorted.{IsStableByKey};
 ghost use Rattle.std.specs.Option.{option_copied};
+ghost use Rattle.std.specs.Ordering.{nat_cmp};
 ghost use Rattle.evaluation.specs.Gives.{Judged, Says};
 ghost use Rattle.values.specs.Comparisons.{string_cmp};
 ghost use Rattle.query_meaning.specs.Meaning.{mean};
 ghost use Rattle.query_meaning.specs.Sequences.{all_comparable, and_tuple, in_sorted_order};
-ghost use Rattle.sorted_tuples.specs.Keys.{Each, IsWide, column, comes_first, has_order, inserted_each, is_of_one_type, key_at, rank, ranked, ranked_cmp, turned};
+ghost use Rattle.sorted_tuples.specs.Abbreviations.{eighths, first_abbreviation, shared_bytes};
+ghost use Rattle.sorted_tuples.specs.Keys.{Each, IsWide, column, comes_first, has_order, in_run, inserted_each, is_of_one_type, key_at, rank, ranked, ranked_cmp, turned};
 ghost use Rattle.sorted_tuples.specs.Held.{keys_of};
 ghost use Rattle.sorted_tuples.specs.Keys.{sort_key_of};
 
+use crate::abbreviations;
 use evaluation::{Environment, KeptEnvironment, MOST_ITEMS};
 use fault_codes::Code;
 use query_grammar::{Expr, SortKey};
@@ -18,6 +23,9 @@ use std::cmp::Ordering;
 use std::marker::Model;
 use std::slice;
 use values::{Atom, ValueFault};
+
+/// A sort of so many moves few of them, and is not worth another before it.
+const FEW: usize = 20;
 
 /// The keys of a tuple, each one atomic value or empty.
 pub struct Keys {
@@ -266,8 +274,84 @@ fn has_order(left: Option<&Atom>, right: Option<&Atom>) -> bool
     }
 }
 
-/// A stable sort by the keys. It fails where memory is refused, and then nothing changes.
+/// A stable sort by the keys. It fails where memory is refused.
 fn sort(tuples: &mut Vec<Tuple>, keys: &[SortKey<Expr>]) -> Result<(), AllocError>
+    ensures { OnOk result (tuples.new.items ≡ inserted_each (comes_first keys.now) tuples.old.items) }
+{
+    sort_roughly(tuples, keys)?;
+    sort_by_keys(tuples, keys)
+}
+
+/// A sort by abbreviations of the first keys, which leaves those in their order that have the same. It compares numbers, and moves pairs of words in
+/// place of tuples; a sort by whole keys after it finds most of them in order. Few tuples, and those that seem to be in a run, which that sort makes
+/// use of, stay as they are. It fails where memory is refused, and then nothing changes.
+fn sort_roughly(tuples: &mut Vec<Tuple>, keys: &[SortKey<Expr>]) -> Result<(), AllocError>
+    ensures { (past : ℕ) × IsStableByKey (first_abbreviation keys.now past) nat_cmp tuples.old.items tuples.new.items }
+{
+    if tuples.len() <= FEW {
+        return Ok(());
+    }
+    let some = sample(tuples);
+    if is_run(&some, keys, false) || is_run(&some, keys, true) {
+        return Ok(());
+    }
+    let past = shared_bytes(some[0], &some);
+    tuples.sort_by_cached_key(|tuple| first_abbreviation(keys, past, tuple))
+}
+
+/// One tuple in each eighth of them.
+fn sample<'t, 'f>(tuples: &'t [Tuple<'f>]) -> [&'t Tuple<'f>; 8]
+    requires { 8 ≤ length tuples.now }
+    ensures { (d : _) → map (λ t. t.now) result ≡ eighths d tuples.now }
+{
+    let eighth = tuples.len() / 8;
+    [
+        &tuples[0],
+        &tuples[eighth],
+        &tuples[2 * eighth],
+        &tuples[3 * eighth],
+        &tuples[4 * eighth],
+        &tuples[5 * eighth],
+        &tuples[6 * eighth],
+        &tuples[7 * eighth],
+    ]
+}
+
+/// Whether tuples are in order, or strictly in the opposite one where they are to fall.
+fn is_run(tuples: &[&Tuple], keys: &[SortKey<Expr>], falls: bool) -> bool
+    ensures { IsAllAdjacentAnswer (λ t u b. in_run keys.now falls t.now u.now b) tuples.now result }
+{
+    tuples.is_sorted_by(|left, right| {
+        let order = compare(keys, left, right);
+        if falls { order.is_gt() } else { order.is_le() }
+    })
+}
+
+/// How many of the bytes that a tuple's first key begins with are those of others too. It is 0 where it is no text.
+fn shared_bytes(tuple: &Tuple, others: &[&Tuple]) -> usize
+    ensures { result ≡ shared_bytes tuple.now (map (λ t. t.now) others.now) }
+{
+    let text = abbreviations::bytes_of(tuple.key_at(0));
+    let mut count = text.len();
+    for other in others {
+        let same = abbreviations::same_bytes(text, abbreviations::bytes_of(other.key_at(0)));
+        count = count.min(same);
+    }
+    count
+}
+
+/// The abbreviation of a tuple's first key past so many bytes, the other way round where the key is descending.
+fn first_abbreviation(keys: &[SortKey<Expr>], past: usize, tuple: &Tuple) -> u64
+    ensures { result ≡ first_abbreviation keys.now past tuple.now }
+{
+    match keys {
+        [] => 0,
+        [key, ..] => abbreviations::directed(key.is_descending, past, tuple.key_at(0)),
+    }
+}
+
+/// A stable sort that compares whole keys. It fails where memory is refused, and then nothing changes.
+fn sort_by_keys(tuples: &mut Vec<Tuple>, keys: &[SortKey<Expr>]) -> Result<(), AllocError>
     ensures { OnOk result (tuples.new.items ≡ inserted_each (comes_first keys.now) tuples.old.items) }
 {
     tuples.sort_by(|left, right| compare(keys, left, right))
@@ -275,6 +359,26 @@ fn sort(tuples: &mut Vec<Tuple>, keys: &[SortKey<Expr>]) -> Result<(), AllocErro
 
 /// The order of two tuples: that of the first keys that differ, turned where the key is descending.
 fn compare(keys: &[SortKey<Expr>], left: &Tuple, right: &Tuple) -> Ordering
+    ensures { result ≡ ranked 0 keys.now left.now.keys right.now.keys }
+{
+    match keys {
+        [key] => turned(key.is_descending, compare_first(left, right)),
+        _ => compare_in_turn(keys, left, right),
+    }
+}
+
+/// The order of the first keys. Keys that are held alone need no search.
+fn compare_first(left: &Tuple, right: &Tuple) -> Ordering
+    ensures { result ≡ ranked_cmp (key_at 0 left.now.keys) (key_at 0 right.now.keys) }
+{
+    match (&left.keys.keys, &right.keys.keys) {
+        (Held::Single(left), Held::Single(right)) => compare_keys(left.as_ref(), right.as_ref()),
+        _ => compare_keys(left.key_at(0), right.key_at(0)),
+    }
+}
+
+/// The order of the first keys that differ.
+fn compare_in_turn(keys: &[SortKey<Expr>], left: &Tuple, right: &Tuple) -> Ordering
     ensures { result ≡ ranked 0 keys.now left.now.keys right.now.keys }
 {
     let mut position = 0;

@@ -1,10 +1,8 @@
-use Rattle.std.proofs.Common.{rules}
-use Rattle.query_meaning.specs.Sequences.{Tuple}
-use Rattle.sorted_tuples.specs.Keys.{ranked}
-use Rattle.sorted_tuples.proofs.Ranking.{comes_first_weak}
-use Rattle.sorted_tuples.proofs.Sorting.{sort_inserts}
+use Rattle.std.proofs.Common.{◌≡◌, subst}
+use Rattle.std.specs.Prelude.{OnOk}
+use Rattle.sorted_tuples.proofs.Abbreviated.{sorted_after}
 use Rattle.sorted_tuples.proofs.tuples.sort.Goals as goal
 
 pub returns : goal.returns
 returns c =
-    sort_inserts (λ (t : Tuple) u. ranked 0 c.args.keys.now t.keys u.keys) (comes_first_weak c.args.keys.now) c.sort_by.result _ _ c.sort_by.ensures.sorted c.sort_by.ensures.stable (λ a o f' k. search rules)
+    subst (λ ts. OnOk c.sort_by_keys.result (c.sort_by_keys.new.tuples.items ≡ ts)) (sorted_after c.args.keys.now c.sort_roughly.ensures.0 c.args.tuples.now.items c.sort_roughly.new.tuples.items c.sort_roughly.ensures.1) c.sort_by_keys.ensures

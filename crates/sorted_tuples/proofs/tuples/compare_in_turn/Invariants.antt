@@ -1,6 +1,6 @@
 use Rattle.std.proofs.Common.{◌≡◌, drop}
 use Rattle.sorted_tuples.specs.Keys.{ranked}
-use Rattle.sorted_tuples.proofs.tuples.compare.Given as goal
+use Rattle.sorted_tuples.proofs.tuples.compare_in_turn.Given as goal
 
 abbrev pub invariant-loop-key : goal.invariant-loop-key
 invariant-loop-key l =
