@@ -6,7 +6,7 @@ ghost use Rattle.std.specs.HashMap.{spare};
 ghost use Rattle.row_pages.specs.Pages.{number_of};
 ghost use Rattle.row_pages.specs.Index.{IsIndex};
 
-use super::pages::{Pages, add_number, drop_page, set_number};
+use super::pages::{Pages, drop_page, set_number};
 
 /// Appends an item to a list that has room for it.
 pub(super) fn append<T: Drop>(items: &mut Vec<T>, item: T)
@@ -30,25 +30,6 @@ pub(super) fn shrink_list<T: Drop>(items: &mut Vec<T>)
     if items.capacity() / 4 > count {
         items.shrink_to(count.saturating_mul(2));
     }
-}
-
-/// Appends a key that does not stand in the list. There is room for it.
-pub(super) fn add_key(pages: &mut Pages, keys: &mut Vec<u64>, key: u64)
-    requires index { IsIndex (number_of pages.old) keys.old.items }
-    requires absent { number_of pages.old key ≡ 0 }
-    requires few { vec_len keys.old + 1 < 2 ^ 32 }
-    requires pages { 1 ≤ spare pages.old }
-    requires room { vec_len keys.old < vec_capacity keys.old }
-    ensures index { IsIndex (number_of pages.new) keys.new.items }
-    ensures keys { keys.new.items ≡ keys.old.items ++ key ∷ [] }
-    ensures number { number_of pages.new key ≡ suc (vec_len keys.old) }
-    ensures others { (k : ℕ) → k ≢ key → number_of pages.new k ≡ number_of pages.old k }
-    ensures len { vec_len keys.new ≡ vec_len keys.old + 1 }
-    ensures spare { spare pages.old ≤ spare pages.new + 1 }
-    ensures capacity { vec_capacity keys.old ≤ vec_capacity keys.new }
-{
-    append(keys, key);
-    add_number(pages, key, keys.len() as u32);
 }
 
 /// Takes a key out of the list. The last of the list takes its place.

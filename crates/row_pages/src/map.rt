@@ -8,8 +8,8 @@ ghost use Rattle.row_pages.specs.Rows.{entries, spare, get, Changes};
 
 use super::cursor::Cursor;
 use super::hasher::PageHashes;
-use super::index::{add_key, append, remove_key, shrink_list};
-use super::pages::{Pages, number, shrink_pages};
+use super::index::{append, remove_key, shrink_list};
+use super::pages::{Pages, number, number_or_add, shrink_pages};
 use std::alloc::{AllocError, Global};
 use std::collections::HashMap;
 use std::marker::Model;
@@ -133,11 +133,12 @@ impl<V: Drop> RowPages<V> {
         ensures put { Changes key (Some value) self.old self.new }
         ensures room { spare self.old ≤ spare self.new + 1 }
     {
-        let number = number(&self.pages, key);
+        let next = self.keys.len() as u32 + 1;
+        let number = number_or_add(&mut self.pages, key, next);
         if number > 0 {
             return Some(mem::replace(&mut self.values[number as usize - 1], value));
         }
-        add_key(&mut self.pages, &mut self.keys, key);
+        append(&mut self.keys, key);
         append(&mut self.values, value);
         None
     }

@@ -1,6 +1,6 @@
 //! Numbers by key, 16 to a page, so that what is looked up most takes few cache lines.
 
-ghost use Rattle.std.specs.Prelude.{◌≡◌, ◌≢◌, ◌≤◌, ◌<◌, ◌+◌, ◌^◌, ℕ, ◌/◌, true, false, set, get_or};
+ghost use Rattle.std.specs.Prelude.{◌≡◌, ◌≢◌, ◌≤◌, ◌<◌, ◌+◌, ◌^◌, ℕ, ◌/◌, true, false, set, get_or, cond, eqb};
 ghost use Rattle.std.specs.HashMap.{spare};
 ghost use Rattle.row_pages.specs.Pages.{number_of, HasPage};
 ghost use Rattle.row_pages.specs.AtHand.{IsAtHand};
@@ -69,16 +69,30 @@ fn write(page: &mut [u32; 16], at: usize, number: u32)
     page[at] = number;
 }
 
-/// Gives a key a number, in a page that is made where none is there.
-pub(super) fn add_number(pages: &mut Pages, key: u64, number: u32)
+/// Writes a number into a page where 0 stands, and gives what stood there.
+fn fill(page: &mut [u32; 16], at: usize, number: u32) -> u32
+    requires { at < 16 }
+    ensures was { result ≡ get_or page.old at 0 }
+    ensures page { page.new ≡ set page.old at (cond (eqb result 0) number result) }
+    ensures here { get_or page.new at 0 ≡ cond (eqb result 0) number result }
+{
+    let was = page[at];
+    if was == 0 {
+        page[at] = number;
+    }
+    was
+}
+
+/// Gives a key that has no number this one, in a page that is made where none is there, and gives the number that the key had, 0 for none.
+pub(super) fn number_or_add(pages: &mut Pages, key: u64, number: u32) -> u32
     requires room { 1 ≤ spare pages.old }
-    ensures here { number_of pages.new key ≡ number }
+    ensures was { result ≡ number_of pages.old key }
+    ensures here { number_of pages.new key ≡ cond (eqb result 0) number result }
     ensures apart { (k : ℕ) → k ≢ key → number_of pages.new k ≡ number_of pages.old k }
     ensures spare { spare pages.old ≤ spare pages.new + 1 }
 {
     if let Some(page) = pages.get_mut(&(key / 16)) {
-        write(page, (key % 16) as usize, number);
-        return;
+        return fill(page, (key % 16) as usize, number);
     }
     let mut page = [0; 16];
     write(&mut page, (key % 16) as usize, number);
@@ -87,6 +101,7 @@ pub(super) fn add_number(pages: &mut Pages, key: u64, number: u32)
         // There is room, so this is not reached.
         Err(_) => {}
     }
+    0
 }
 
 /// Gives back the room of pages where there is more than four times what stands, but for as much again.
