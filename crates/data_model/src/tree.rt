@@ -6,7 +6,7 @@ ghost use Rattle.data_model.specs.Tree.{all_of, tree_size, trees_of_tree};
 ghost use Rattle.data_model.specs.Trees.{height, size};
 
 use super::node::{Content, NodeId};
-use std::alloc::AllocError;
+use std::alloc::{AllocError, Global};
 use std::marker::Model;
 
 /// A node with its attributes and its children, each a tree of its own.
@@ -82,13 +82,13 @@ impl Tree {
     }
 
     /// Adds to the text of its node. Where memory is refused, it stays as it was.
-    pub fn push_text(&mut self, text: &str) -> Result<(), AllocError>
+    pub fn push_text(&mut self, alloc: Global, text: &str) -> Result<(), AllocError>
         ensures pushed { OnOk result
             (self.new
             ≡ record self.old { content = record self.old.content { text = self.old.content.text ++ text.now } }) }
         ensures refused { OnErr result (self.new ≡ self.old) }
     {
-        self.content.text.push_str(text)
+        self.content.text.push_str(alloc, text)
     }
 
     /// Gives its nodes the identities `first`, `first + 1` and so on in document order, and gives the one after them.

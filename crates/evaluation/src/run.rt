@@ -276,7 +276,7 @@ impl<'a> Evaluation<'a> {
             if self.work < nodes {
                 return Err(ValueFault::Code(Code::PXQ0002));
             }
-            let atom = plain_atom(self.alloc, plain)?;
+            let atom = plain_atom(plain)?;
             self.spend(nodes)?;
             self.spend(atom_work(&atom))?;
             return Ok(atom);

@@ -10,10 +10,10 @@ ghost use Rattle.node_table.specs.Plans.{changed};
 ghost use Rattle.node_plans.specs.Planned.{planned, rows_with, table_with, places_with};
 
 use data_model::NodeId;
-use node_table::name::Name;
 use node_table::table;
 use node_table::table::{Row, Rows};
 use row_pages::RowPages;
+use shared_texts::{Name, Text};
 use std::alloc::{AllocError, Global};
 use std::collections::HashSet;
 
@@ -81,6 +81,8 @@ pub fn set_text(rows: &Rows, plan: &mut Plan, id: NodeId, text: String) -> Resul
     ensures refused { OnErr result (table_with plan.new rows.now ≡ table_with plan.old rows.now) }
     ensures places { places_with plan.new rows.now ≡ places_with plan.old rows.now }
 {
+    let alloc = *text.allocator();
+    let text = Text::shared(alloc, text)?;
     touch(rows, plan, id)?;
     table::set_text(&mut plan.rows, id, text);
     Ok(())

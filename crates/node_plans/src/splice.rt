@@ -18,9 +18,9 @@ use super::plan::Plan;
 use super::{numbers, plan};
 use data_model::{NodeId, Part, Tree};
 use node_table::list::NodeList;
-use node_table::name::Names;
 use node_table::plant::{self, Planted};
 use node_table::table::{Row, Rows};
+use shared_texts::Names;
 use std::alloc::{AllocError, Global};
 
 /// Part of a list below a node.

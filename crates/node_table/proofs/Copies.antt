@@ -1,6 +1,6 @@
 -- Trees that are copied, with new identities.
 use Prim.Native.Nat.{zero, suc}
-use Rattle.std.proofs.Common.{◌≡◌, ℕ, ◌+◌, ◌≤◌, ◌<◌, List, [], ◌∷◌, length, get_or, cond, eqb, refl, ap, sym, ◌∙◌, arith, ⊎_elim, Option, Some, None, is_some, subst, add-one, append-nil, true, false, string_bytes}
+use Rattle.std.proofs.Common.{◌≡◌, ℕ, ◌+◌, ◌≤◌, ◌<◌, List, [], ◌∷◌, length, get_or, cond, eqb, refl, ap, sym, ◌∙◌, arith, ⊎_elim, Option, Some, None, is_some, subst, add-one, append-nil, true, false}
 use Rattle.std.proofs.lemmas.Bool.{cases_lt}
 use Rattle.std.proofs.lemmas.Bool.Decides.{eqb_tells}
 use Rattle.data_model.specs.Trees.{Trees, no_trees, tree, Content, append, roots, weigh, count, size, height}
@@ -375,7 +375,7 @@ pub copy-says : (s r : Row) (c : Content) (q p : Option ℕ) (n : ℕ) (xs ys zs
 copy-says s r c q p n xs ys zs ws says kind name text parent attributes children =
     let k = kind ∙ ap (λ (e : Entry). e.kind) says in
     let m = name ∙ ap (λ (e : Entry). e.name) says in
-    let t = ap string_bytes text ∙ ap (λ (e : Entry). e.text) says in
+    let t = text ∙ ap (λ (e : Entry). e.text) says in
     λ j. record { kind = k j; name = m j; text = t j; parent = parent j; attributes = attributes j; children = children j }
 
 -- a table that was put back

@@ -1,5 +1,5 @@
 -- What rows say of nodes, and what room they have.
-use Rattle.std.specs.Prelude.{ℕ, Option, Some, None, cond, option_map, string_bytes}
+use Rattle.std.specs.Prelude.{ℕ, Option, Some, None, cond, option_map}
 use Rattle.row_pages.specs.Rows.{Term, get}
 use Rattle.data_model.specs.Trees.{Trees}
 use Rattle.node_table.specs.Lists.{Nodes, HasRoomFor}
@@ -14,7 +14,7 @@ parent_of_row r = cond r.has_parent (Some r.parent) None
 
 abbrev pub entry_of_row : Row → Entry
 entry_of_row r =
-    record { kind = r.kind; name = r.name; text = string_bytes r.text; parent = parent_of_row r; attributes = r.attributes.items; children = r.children.items }
+    record { kind = r.kind; name = r.name; text = r.text; parent = parent_of_row r; attributes = r.attributes.items; children = r.children.items }
 
 -- the row of a node
 unfoldable pub row_of : Term Row → ℕ → Option Row

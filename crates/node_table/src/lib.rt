@@ -9,7 +9,6 @@ pub mod exchange;
 pub mod label;
 pub mod laws;
 pub mod list;
-pub mod name;
 pub mod order;
 pub mod plain;
 pub mod plant;

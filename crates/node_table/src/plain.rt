@@ -10,14 +10,15 @@ use super::table::{Row, Rows};
 use super::walk::count;
 use data_model::{Kind, NodeId};
 use row_pages::Cursor;
+use shared_texts::Text;
 
 /// What the typed value of a node is made of, where its string value stands in one text.
 #[derive(Clone, Copy)]
 pub struct PlainValue<'r> {
     /// The node's kind.
     pub kind: Kind,
-    /// Its string value.
-    pub text: &'r str,
+    /// Its string value, which the node's row has too.
+    pub text: &'r Text,
     /// How many nodes its tree has, itself and attributes counted.
     pub size: u64,
 }
@@ -25,7 +26,7 @@ pub struct PlainValue<'r> {
 /// The text below a row, and how many nodes stand among its children.
 #[derive(Clone, Copy)]
 struct TextBelow<'r> {
-    text: &'r str,
+    text: &'r Text,
     nodes: u64,
 }
 
@@ -51,9 +52,10 @@ fn text_below<'r>(cursor: &mut Cursor<'r, Row>, row: &'r Row) -> Option<TextBelo
     ensures { IfSome result (IsTextBelow (table_of cursor.old) (entry_of_row row.now)) }
 {
     match row.children.as_slice() {
-        [] if row.kind.is_inner() => Some(TextBelow { text: "", nodes: 0 }),
+        // The value is the empty text, as is that of such a row.
+        [] if row.kind.is_inner() && !row.text.as_str().is_empty() => None,
         [] => Some(TextBelow {
-            text: row.text.as_str(),
+            text: &row.text,
             nodes: 0,
         }),
         [only] if row.kind.is_inner() => Some(TextBelow {
@@ -65,12 +67,12 @@ fn text_below<'r>(cursor: &mut Cursor<'r, Row>, row: &'r Row) -> Option<TextBelo
 }
 
 /// The text of a node of the kind of texts with nothing below it; `None` of another one, and where there is no row.
-fn leaf_text<'r>(cursor: &mut Cursor<'r, Row>, id: NodeId) -> Option<&'r str>
+fn leaf_text<'r>(cursor: &mut Cursor<'r, Row>, id: NodeId) -> Option<&'r Text>
     ensures { IfSome result (λ s. IsLeafText (table_of cursor.old) id s.now) }
 {
     let row = cursor.seek(id.number())?;
     if row.kind.is_text() && row.attributes.is_empty() && row.children.is_empty() {
-        Some(row.text.as_str())
+        Some(&row.text)
     } else {
         None
     }

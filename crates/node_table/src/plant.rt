@@ -9,9 +9,9 @@ ghost use Rattle.node_table.specs.Rows.{table_of, row_of};
 ghost use Rattle.node_table.specs.Labels.{place_of, AreRanked};
 
 use super::list::NodeList;
-use super::name::Names;
 use super::table::{Row, Rows, as_in_row};
 use data_model::{NodeId, Tree};
+use shared_texts::Names;
 use std::alloc::{AllocError, Global};
 
 /// What has been planted so far.
@@ -83,7 +83,7 @@ pub fn plant_all(
             kind: content.kind,
             has_parent,
             name: names.name(content.name.as_str())?,
-            text: content.text.clone()?,
+            text: content.text.to_shared()?,
             parent: above,
             attributes: plant_all(rows, names, alloc, attributes, Some(id), 0, planted)?,
             children: plant_all(rows, names, alloc, tree.children(), Some(id), past, planted)?,

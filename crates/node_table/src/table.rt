@@ -1,6 +1,6 @@
 //! The flat table of nodes that a forest stands on.
 
-ghost use Rattle.std.specs.Prelude.{◌≡◌, ◌≢◌, ℕ, ◌+◌, ◌≤◌, Option, Some, None, OnOk, cond, IsSome, length, string_bytes};
+ghost use Rattle.std.specs.Prelude.{◌≡◌, ◌≢◌, ℕ, ◌+◌, ◌≤◌, Option, Some, None, OnOk, cond, IsSome, length};
 ghost use Rattle.data_model.specs.declared.node.Part.{Part};
 ghost use Rattle.node_table.specs.Flat.{Entry, IsChangedAt, Puts, with_child, with_parent, with_text, with_name, without_child, listed, IsOnceBelow};
 ghost use Rattle.node_table.specs.Lists.{HasRoomFor};
@@ -8,9 +8,9 @@ ghost use Rattle.node_table.specs.Rows.{table_of, entry_of_row, parent_of_row, l
 ghost use Rattle.node_table.specs.Labels.{place_of};
 
 use super::list::NodeList;
-use super::name::Name;
 use data_model::{Kind, NodeId, Part};
 use row_pages::RowPages;
+use shared_texts::{Name, Text};
 use std::alloc::AllocError;
 
 /// What the table has of a node. What most look-ups read comes first, so that it mostly lies in one line of the processor's cache.
@@ -31,7 +31,7 @@ pub struct Row {
     /// Its attributes, in their list's order.
     pub attributes: NodeList,
     /// The text of an attribute, a text, a comment or a processing instruction; empty for other kinds.
-    pub text: String,
+    pub text: Text,
 }
 
 impl Row {
@@ -144,9 +144,9 @@ pub fn move_below(rows: &mut Rows, part: Part, parent: NodeId, index: usize, chi
 }
 
 /// Gives a node another text.
-pub fn set_text(rows: &mut Rows, id: NodeId, text: String)
+pub fn set_text(rows: &mut Rows, id: NodeId, text: Text)
     requires { IsSome (table_of rows.old id) }
-    ensures changed { IsChangedAt (table_of rows.old) (table_of rows.new) id (with_text (string_bytes text)) }
+    ensures changed { IsChangedAt (table_of rows.old) (table_of rows.new) id (with_text text) }
     ensures places { place_of rows.new ≡ place_of rows.old }
 {
     if let Some(row) = rows.get_mut(id.number()) {

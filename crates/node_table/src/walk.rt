@@ -5,8 +5,9 @@ ghost use Rattle.data_model.specs.Trees.{bytes_in, count, size, text_of, text_wi
 ghost use Rattle.node_table.specs.Flat.{read_trees};
 ghost use Rattle.node_table.specs.Rows.{table_of};
 
-use super::table::Rows;
+use super::table::{Row, Rows};
 use data_model::NodeId;
+use row_pages::Cursor;
 use std::alloc::AllocError;
 
 /// Appends a text where at most `most` bytes stand there then, and says whether they do; where not, nothing is appended.
@@ -51,7 +52,7 @@ pub fn add_text_within(
         let fits = if row.kind.is_inner() {
             add_text_within(rows, &row.children, levels - 1, most, out)?
         } else if row.kind.is_text() {
-            push_within(out, &row.text, most)?
+            push_within(out, row.text.as_str(), most)?
         } else {
             true
         };
@@ -87,17 +88,32 @@ pub fn without_texts(rows: &Rows, ids: &[NodeId], levels: u64, bytes: u64) -> Op
     ensures left { IfSome result (λ left. left + bytes_in (read_trees levels (table_of rows.now) ids.now) ≡ bytes) }
     ensures more { IfNone result (bytes < bytes_in (read_trees levels (table_of rows.now) ids.now)) }
 {
+    let mut cursor = rows.cursor();
+    without_texts_by(&mut cursor, ids, levels, bytes)
+}
+
+/// What is left of so many bytes, as `without_texts` finds it, by a cursor over the rows.
+fn without_texts_by(
+    cursor: &mut Cursor<'_, Row>,
+    ids: &[NodeId],
+    levels: u64,
+    bytes: u64,
+) -> Option<u64>
+    ensures left { IfSome result (λ left. left + bytes_in (read_trees levels (table_of cursor.old) ids.now) ≡ bytes) }
+    ensures more { IfNone result (bytes < bytes_in (read_trees levels (table_of cursor.old) ids.now)) }
+    ensures same { cursor.new ≡ cursor.old }
+{
     let mut left = bytes;
     if levels == 0 {
         return Some(left);
     }
     for id in ids {
-        let Some(row) = rows.get(id.number()) else {
+        let Some(row) = cursor.seek(id.number()) else {
             return Some(left);
         };
         left = left.checked_sub(row.text.as_str().len() as u64)?;
-        left = without_texts(rows, &row.attributes, levels - 1, left)?;
-        left = without_texts(rows, &row.children, levels - 1, left)?;
+        left = without_texts_by(cursor, &row.attributes, levels - 1, left)?;
+        left = without_texts_by(cursor, &row.children, levels - 1, left)?;
     }
     Some(left)
 }

@@ -14,7 +14,7 @@ use evaluation::{Evaluation, Sequence};
 use query_constructors::rooted;
 use std::alloc::{AllocError, Global};
 use trees::{Content, Kind, NodeId, Tree};
-use values::ValueFault;
+use values::{Text, ValueFault};
 
 /// What may have children.
 #[derive(Clone, Copy)]
@@ -104,8 +104,8 @@ fn tree_with(
     let content = Content {
         identity,
         kind: parent.kind(),
-        name: String::from_str(alloc, name)?,
-        text: String::new(alloc),
+        name: Text::of(alloc, name)?,
+        text: Text::empty(),
     };
     let SplitContent { attributes, others } = parts.split(alloc)?;
     Ok(Tree::new(content, attributes, others))

@@ -79,7 +79,7 @@ fn make_child(
 
 fn plant(alloc: Global, forest: &mut Forest, words: &mut Words<'_>) -> Result<Given, RowFault> {
     let number = words.number()?;
-    let node = element(alloc, number, words.text(alloc)?);
+    let node = element(number, words.text(alloc)?);
     if number < forest.next().number() || number >= LIMIT {
         return Err(RowFault::NotARow);
     }

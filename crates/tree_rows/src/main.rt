@@ -125,9 +125,9 @@ fn take_own(
 fn nested(alloc: Global, words: Words<'_>) -> Result<String, RowFault> {
     let mut words = words;
     let number = words.number()?;
-    let parent = element(alloc, number, words.text(alloc)?);
+    let parent = element(number, words.text(alloc)?);
     let number = words.number()?;
-    let child = element(alloc, number, words.text(alloc)?);
+    let child = element(number, words.text(alloc)?);
     let leaf = Tree::new(child, Vec::new(alloc), Vec::new(alloc));
     let mut children = Vec::new(alloc);
     children.push(leaf)?;

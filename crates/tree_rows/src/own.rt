@@ -59,7 +59,7 @@ fn take_step(
 
 fn plant(alloc: Global, shelf: &mut Shelf<'_>, words: &mut Words<'_>) -> Result<Given, RowFault> {
     let number = words.number()?;
-    let node = element(alloc, number, words.text(alloc)?);
+    let node = element(number, words.text(alloc)?);
     if number < shelf.next().number() || number >= LIMIT {
         return Err(RowFault::NotARow);
     }

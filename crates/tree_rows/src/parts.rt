@@ -5,6 +5,7 @@ ghost use Rattle.std.specs.Prelude.{◌≡◌};
 use rows::{RowFault, Words};
 use std::alloc::{AllocError, Global};
 use trees::{Content, Kind, MakeFault, NodeId};
+use values::Text;
 
 /// No identity reaches this number.
 pub(super) const LIMIT: u64 = 1 << 62;
@@ -129,13 +130,13 @@ pub(super) fn take_made(alloc: Global, words: &mut Words<'_>) -> Result<Made, Ro
 }
 
 /// An element of no text.
-pub(super) fn element(alloc: Global, number: u64, name: String) -> Content
+pub(super) fn element(number: u64, name: String) -> Content
     ensures { result.identity ≡ number }
 {
     Content {
         identity: NodeId::new(number),
         kind: Kind::Element,
-        name,
-        text: String::new(alloc),
+        name: Text::new(name),
+        text: Text::empty(),
     }
 }

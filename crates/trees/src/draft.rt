@@ -23,9 +23,9 @@ use indexmap::IndexMap;
 use node_plans::plan::Plan;
 use node_plans::splice::Span;
 use node_plans::{plan, splice};
-use node_table::name::Names;
 use node_table::table::Rows;
 use row_pages::RowPages;
+use shared_texts::Names;
 use std::alloc::{AllocError, Global};
 use std::marker::Model;
 

@@ -27,7 +27,7 @@ use node_plans::plan::Plan;
 use node_table::cursor::NodeCursor;
 use node_table::plain::PlainValue;
 use node_table::table::{Row, Rows};
-use node_table::{name, plain, tree, walk};
+use node_table::{plain, tree, walk};
 use row_pages::RowPages;
 use std::alloc::{AllocError, Global};
 use std::marker::Model;
@@ -42,7 +42,7 @@ pub struct Forest {
     pub(crate) next: u64,
     pub(crate) nodes: u64,
     pub(crate) index: Option<ForestIndex>,
-    pub(crate) names: name::Names,
+    pub(crate) names: shared_texts::Names,
 }
 
 // By one call, whose contract is all that a caller's proof sees of it.
@@ -94,7 +94,7 @@ impl Forest {
             next: next.number(),
             nodes: 0,
             index: None,
-            names: name::Names::new(alloc),
+            names: shared_texts::Names::new(alloc),
         }
     }
 
@@ -350,7 +350,7 @@ impl Forest {
         let fits = if row.kind.is_inner() {
             walk::add_text_within(&self.rows, &row.children, self.next, most, &mut value)?
         } else {
-            walk::push_within(&mut value, &row.text, most)?
+            walk::push_within(&mut value, row.text.as_str(), most)?
         };
         Ok(fits.then_some(value))
     }

@@ -10,10 +10,10 @@ ghost use Rattle.data_model.specs.Planted.{past};
 use super::forest::{Forest, MakeFault};
 use data_model::{Kind, NodeId, Part, Tree};
 use node_table::list::NodeList;
-use node_table::name::Name;
 use node_table::plant::Planted;
 use node_table::table::Row;
 use node_table::{copy, order, plant, table};
+use shared_texts::{Name, Text};
 use std::alloc::{AllocError, Global};
 use std::slice;
 
@@ -42,7 +42,7 @@ impl Forest {
             return Err(MakeFault::Limit);
         }
         match self.names.name(name.as_str()) {
-            Ok(name) => self.make_named(alloc, kind, name, text),
+            Ok(name) => self.make_named(alloc, kind, name, Text::new(text)),
             Err(_) => Err(MakeFault::Memory),
         }
     }
@@ -53,13 +53,13 @@ impl Forest {
         alloc: Global,
         kind: Kind,
         name: Name,
-        text: String,
+        text: Text,
     ) -> Result<NodeId, MakeFault>
         requires room { self.old.next < 2 ^ 62 }
         ensures made { IfOk result
             (λ i. (i ≡ self.old.next)
             × (self.new
-            ≡ record self.old { trees = append self.old.trees (leaf (record { identity = i; kind = kind; name = name; text = string_bytes text })); next = i + 1 })) }
+            ≡ record self.old { trees = append self.old.trees (leaf (record { identity = i; kind = kind; name = name; text = text })); next = i + 1 })) }
         ensures limit { IsErrOf result MakeFault.Limit → ⊥ }
         ensures refused { OnErr result (self.new ≡ self.old) }
     {
@@ -163,7 +163,7 @@ impl Forest {
         requires { IsSome (find id self.old.trees) }
         ensures { self.new ≡ record self.old { trees = with_content id (λ c. record c { text = string_bytes text }) self.old.trees } }
     {
-        table::set_text(&mut self.rows, id, text);
+        table::set_text(&mut self.rows, id, Text::new(text));
         self.index = None;
     }
 

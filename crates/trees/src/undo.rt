@@ -19,8 +19,8 @@ use node_plans::changes;
 use node_plans::plan::Plan;
 use node_table::exchange;
 use node_table::exchange::Change;
-use node_table::name::Names;
 use node_table::table::Rows;
+use shared_texts::Names;
 use std::alloc::{AllocError, Global};
 use std::marker::Model;
 

@@ -10,6 +10,7 @@ ghost use Rattle.data_model.specs.Tree.{all_of};
 ghost use Rattle.update_words.specs.New.{IsGrown};
 
 use rows::{RowFault, Word, Words, cut};
+use shared_texts::Text;
 use std::alloc::{AllocError, Global};
 use trees::{Content, Kind, NodeId, Tree};
 
@@ -47,8 +48,8 @@ impl Node {
         Ok(Content {
             identity: NodeId::new(number),
             kind,
-            name,
-            text,
+            name: Text::new(name),
+            text: Text::new(text),
         })
     }
 }

@@ -1,8 +1,5 @@
--- What the code asks of texts: how a text stands for its bytes, and the pieces of a node's text, in the order in which they are written.
-use Rattle.std.specs.Prelude.{ℕ, Bool, true, cond, List, [], ◌∷◌, ◌++◌, codes, string_bytes}
-use Rattle.std.specs.Rc.{rc_value}
-use Rattle.values.specs.declared.text.Kept.{Kept}
-use Rattle.values.specs.declared.text.Kept.TheVariants.{Alone, Shared, Short}
+-- The pieces of a node's text, in the order in which they are written.
+use Rattle.std.specs.Prelude.{ℕ, Bool, true, cond, List, [], ◌∷◌, ◌++◌, codes}
 use Rattle.data_model.specs.declared.node.Kind.{Kind}
 use Rattle.data_model.specs.declared.node.Kind.TheVariants.{Document, Element, Attribute, Text, Comment, Instruction}
 
@@ -28,9 +25,3 @@ nothing Attribute b = []
 nothing Text b = []
 nothing Comment b = []
 nothing Instruction b = []
-
--- the bytes of a text
-abbrev pub bytes_of : Kept → List ℕ
-bytes_of (Alone text) = string_bytes text
-bytes_of (Shared text) = string_bytes (rc_value text)
-bytes_of (Short text) = text

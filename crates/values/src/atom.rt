@@ -9,9 +9,9 @@ ghost use Rattle.values.specs.Atoms.{bounded, typed, typed_at, atom_of, atomized
 ghost use Rattle.values.specs.Items.{IsThere, AreThere};
 
 use super::fault::ValueFault;
-use super::text::Text;
 use data_model::limits::MOST_BYTES;
 use fault_codes::Code;
+use shared_texts::Text;
 use shelves::Shelf;
 use std::alloc::Global;
 use trees::{Kind, NodeId, PlainValue};
@@ -71,20 +71,20 @@ fn typed_value(alloc: Global, shelf: &Shelf, id: NodeId) -> Result<Atom, ValueFa
     ensures code { IfErr result (λ fault. (code : Code) → fault ≡ ValueFault.Code code → typed_at (find id (shelf_trees shelf.now)) ≡ Err code) }
 {
     match shelf.plain_value(id) {
-        Some(plain) => plain_atom(alloc, plain),
+        Some(plain) => plain_atom(plain),
         None => gathered_value(alloc, shelf, id),
     }
 }
 
 /// The typed value of a node whose string value stands in one text. Faults: `Memory`; `Code` with PXQ0002 where it is longer than 65,536 bytes.
-pub fn plain_atom(alloc: Global, plain: PlainValue) -> Result<Atom, ValueFault>
+pub fn plain_atom(plain: PlainValue) -> Result<Atom, ValueFault>
     ensures atom { IfOk result (λ a. bounded plain.entry.kind plain.entry.text.now ≡ Ok a) }
     ensures code { IfErr result (λ fault. (code : Code) → fault ≡ ValueFault.Code code → bounded plain.entry.kind plain.entry.text.now ≡ Err code) }
 {
-    if plain.text.len() > MOST_BYTES {
+    if plain.text.as_str().len() > MOST_BYTES {
         return Err(Code::PXQ0002.into());
     }
-    Ok(typed(plain.kind, Text::of(alloc, plain.text)?))
+    Ok(typed(plain.kind, plain.text.clone()?))
 }
 
 /// The typed value of a node, whose string value is put together first, with the same faults.

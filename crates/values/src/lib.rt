@@ -10,8 +10,6 @@ mod operand;
 mod operators;
 mod print;
 mod readings;
-mod short_text;
-mod text;
 mod work;
 
 pub use atom::{Atom, Item, atomize, atomize_item, plain_atom, truth};
@@ -22,5 +20,5 @@ pub use limited_text::LimitedText;
 pub use operators::{Operator, arithmetic, integer_operands};
 pub use print::push_item;
 pub use readings::{read_boolean, read_integer};
-pub use text::Text;
+pub use shared_texts::Text;
 pub use work::{atom_work, text_work};

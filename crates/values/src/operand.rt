@@ -9,9 +9,9 @@ ghost use Rattle.fault_codes.specs.declared.code.Code.TheVariants.{FORG0001};
 
 use super::atom::Atom;
 use super::readings::{cast_boolean, cast_integer, read_boolean, read_integer};
-use super::text::Text;
 use super::work::atom_work;
 use fault_codes::Code;
+use shared_texts::Text;
 use std::alloc::{AllocError, Global};
 use std::marker::Model;
 

@@ -12,9 +12,9 @@ pub returns-clause-changed : goal.returns-clause-changed
 returns-clause-changed c =
     let q : Plan = record c.touch.new.plan { rows = c.set_text.new.rows } in
     let P : Table → Type 0 = λ t. IsChangedAt t (table_with q c.args.rows.now) c.args.id (with_text (string_bytes c.args.text)) in
-    subst P c.touch.ensures.same (changed-table c.touch.new.plan q c.args.rows.now refl c.args.id (with_text (string_bytes c.args.text)) c.in_ok-touch.ensures.there c.set_text.ensures.changed)
+    subst P c.touch.ensures.same (changed-table c.touch.new.plan q c.args.rows.now refl c.args.id (with_text (string_bytes c.args.text)) c.in_ok-touch.ensures.there (rw c.in_ok-text.ensures at c.set_text.ensures.changed))
 
 pub returns-clause-places : goal.returns-clause-places
 returns-clause-places c =
     let q : Plan = record c.touch.new.plan { rows = c.set_text.new.rows } in
-    changed-places c.touch.new.plan q c.args.rows.now refl c.args.id (with_text (string_bytes c.args.text)) c.in_ok-touch.ensures.there c.set_text.ensures.changed c.set_text.ensures.places ∙ c.touch.ensures.places
+    changed-places c.touch.new.plan q c.args.rows.now refl c.args.id (with_text (string_bytes c.args.text)) c.in_ok-touch.ensures.there (rw c.in_ok-text.ensures at c.set_text.ensures.changed) c.set_text.ensures.places ∙ c.touch.ensures.places

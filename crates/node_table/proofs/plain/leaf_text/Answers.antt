@@ -1,4 +1,4 @@
-use Rattle.std.proofs.Common.{◌∙◌, ap, sym, option_copied}
+use Rattle.std.proofs.Common.{◌∙◌, ap, sym, refl, option_copied}
 use Rattle.node_table.specs.Rows.{entry_of_row}
 use Rattle.node_table.proofs.Rows.{row-entry}
 use Rattle.node_table.proofs.InPlace.{empty-list}
@@ -12,7 +12,7 @@ returns-then-is_empty-2 c =
       entry = entry_of_row r;
       there = at;
       kind = sym c.is_text.ensures ∙ c.if-is_text.true;
-      text = sym c.as_str.ensures.value;
+      text = refl;
       attributes = empty-list c.deref.result.now _ c.is_empty.result c.is_empty.ensures c.if-is_empty.true c.deref.ensures.value;
       children = empty-list c.deref-then-is_empty.result.now _ c.is_empty-then-is_empty.result c.is_empty-then-is_empty.ensures c.if-is_empty-2.true c.deref-then-is_empty.ensures.value;
     }

@@ -1,4 +1,4 @@
-use Rattle.std.proofs.Common.{◌≡◌, ℕ, ◌+◌, Some, take, drop, length, max, cond, eqb, ap, sym, refl, ◌∙◌, arith, subst, string_bytes, ⊎_elim}
+use Rattle.std.proofs.Common.{◌≡◌, ℕ, ◌+◌, Some, take, drop, length, max, cond, eqb, ap, sym, refl, ◌∙◌, arith, subst, ⊎_elim}
 use Rattle.std.proofs.lemmas.Bool.Decides.{eqb_tells}
 use Rattle.data_model.specs.Trees.{Trees, Content, append, count, roots, size}
 use Rattle.data_model.specs.Tree.{all_of, trees_of_tree}
@@ -99,7 +99,7 @@ returns-in_err-push-clause-same t c = λ i none.
     let at = c.loop-tree.tree-index in
     let view = c.content.view_is ∙ c.content-content.ensures in
     let id : c.number.result ≡ item.content.identity = c.number.ensures ∙ ap (λ (n : Content). n.identity) view in
-    let r : Row = record { kind = c.content.inside.kind; has_parent = c.as_in_row-has_parent.result.0; name = c.in_ok-name.field-0; text = c.in_ok-clone.field-0; parent = c.as_in_row-has_parent.result.1; attributes = c.in_ok-plant_all.field-0; children = c.in_ok-plant_all-2.field-0; place = c.loop-tree.place } in
+    let r : Row = record { kind = c.content.inside.kind; has_parent = c.as_in_row-has_parent.result.0; name = c.in_ok-name.field-0; text = c.in_ok-to_shared.field-0; parent = c.as_in_row-has_parent.result.1; attributes = c.in_ok-plant_all.field-0; children = c.in_ok-plant_all-2.field-0; place = c.loop-tree.place } in
     let set = rw id at (row-set c.plant_all-in-loop-tree.new.rows c.insert.new.self c.number.result r c.in_ok-insert.ensures.put) in
     let w = weigh-turn (λ j. cond (eqb i j) 1 0) ts at item c.loop-tree-test.true c.tree-item.is in
     let bs : count i (all_of c.attributes-attributes.result.now) ≡ count i item.attributes = ap (count i) c.attributes-attributes.ensures in
@@ -113,12 +113,12 @@ loop-tree-preserved t c =
     let at = c.loop-tree.tree-index in
     let view = c.content.view_is ∙ c.content-content.ensures in
     let id : c.number.result ≡ item.content.identity = c.number.ensures ∙ ap (λ (n : Content). n.identity) view in
-    let name : c.in_ok-name.field-0 ≡ item.content.name = c.in_ok-name.ensures ∙ c.as_str.ensures.value ∙ ap (λ (n : Content). n.name) view in
-    let text : string_bytes c.in_ok-clone.field-0 ≡ item.content.text = c.in_ok-clone.ensures.cases ∙ ap (λ (n : Content). n.text) view in
+    let name : c.in_ok-name.field-0 ≡ item.content.name = c.in_ok-name.ensures ∙ c.as_str.ensures ∙ ap (λ (n : Content). n.name) view in
+    let text : c.in_ok-to_shared.field-0 ≡ item.content.text = c.in_ok-to_shared.ensures ∙ ap (λ (n : Content). n.text) view in
     let kind = ap (λ (n : Content). n.kind) view in
     let roots1 : c.in_ok-plant_all.field-0.items ≡ roots item.attributes = c.in_ok-plant_all.ensures.roots ∙ ap roots c.attributes-attributes.ensures in
     let roots2 : c.in_ok-plant_all-2.field-0.items ≡ roots item.children = c.in_ok-plant_all-2.ensures.roots ∙ ap roots c.children.ensures in
-    let r : Row = record { kind = c.content.inside.kind; has_parent = c.as_in_row-has_parent.result.0; name = c.in_ok-name.field-0; text = c.in_ok-clone.field-0; parent = c.as_in_row-has_parent.result.1; attributes = c.in_ok-plant_all.field-0; children = c.in_ok-plant_all-2.field-0; place = c.loop-tree.place } in
+    let r : Row = record { kind = c.content.inside.kind; has_parent = c.as_in_row-has_parent.result.0; name = c.in_ok-name.field-0; text = c.in_ok-to_shared.field-0; parent = c.as_in_row-has_parent.result.1; attributes = c.in_ok-plant_all.field-0; children = c.in_ok-plant_all-2.field-0; place = c.loop-tree.place } in
     let says : entry_of_row r ≡ entry_of item.content c.args.parent (roots item.attributes) (roots item.children) =
     λ j. record { kind = kind j; name = name j; text = text j; parent = c.as_in_row-has_parent.ensures j; attributes = roots1 j; children = roots2 j } in
     let g0 = table_of c.loop-tree.rows in

@@ -23,7 +23,7 @@ returns-then-not-fits-clause-value t c =
     (rw c.number.ensures at (row-entry c.args.rows.now c.number.result c.in-Some.row.now (sym c.get.ensures ∙ ap option_copied c.in-Some.is))) a c.loop-id.invariant.1 c.if-not-fits.true in
     elim c.if-is_inner.branch [
       | then-is_inner+in_ok-fits w ↦ stop (rw (sym c.is_inner.ensures ∙ w.if-is_inner.true, ← w.deref.ensures.value, w.out-is, w.fits-is) w.in_ok-fits.ensures.value)
-      | else-is_inner+then-is_text+in_ok-fits-2 w ↦ stop (rw (sym c.is_inner.ensures ∙ w.if-is_inner.false, sym w.is_text.ensures ∙ w.if-is_text.true, ← w.deref-then-is_text.ensures, w.out-is, w.fits-is) w.in_ok-fits-2.ensures.value)
+      | else-is_inner+then-is_text+in_ok-fits-2 w ↦ stop (rw (sym c.is_inner.ensures ∙ w.if-is_inner.false, sym w.is_text.ensures ∙ w.if-is_text.true, ← w.as_str.ensures, w.out-is, w.fits-is) w.in_ok-fits-2.ensures.value)
       | else-is_inner+else-is_text w ↦ (let z = sym c.if-not-fits.true ∙ w.fits-is in cc)
     ]
 
@@ -37,6 +37,6 @@ loop-id-preserved t c =
     (rw c.number.ensures at (row-entry c.args.rows.now c.number.result c.in-Some.row.now (sym c.get.ensures ∙ ap option_copied c.in-Some.is))) a c.loop-id.invariant.1 c.if-not-fits.false in
     elim c.if-is_inner.branch [
       | then-is_inner+in_ok-fits w ↦ (rw w.out-is w.in_ok-fits.ensures.most, turn (rw (sym c.is_inner.ensures ∙ w.if-is_inner.true, ← w.deref.ensures.value, w.out-is, w.fits-is) w.in_ok-fits.ensures.value))
-      | else-is_inner+then-is_text+in_ok-fits-2 w ↦ (rw w.out-is w.in_ok-fits-2.ensures.most, turn (rw (sym c.is_inner.ensures ∙ w.if-is_inner.false, sym w.is_text.ensures ∙ w.if-is_text.true, ← w.deref-then-is_text.ensures, w.out-is, w.fits-is) w.in_ok-fits-2.ensures.value))
+      | else-is_inner+then-is_text+in_ok-fits-2 w ↦ (rw w.out-is w.in_ok-fits-2.ensures.most, turn (rw (sym c.is_inner.ensures ∙ w.if-is_inner.false, sym w.is_text.ensures ∙ w.if-is_text.true, ← w.as_str.ensures, w.out-is, w.fits-is) w.in_ok-fits-2.ensures.value))
       | else-is_inner+else-is_text w ↦ (rw w.out-is c.loop-id.invariant.0, turn (rw (sym c.is_inner.ensures ∙ w.if-is_inner.false, sym w.is_text.ensures ∙ w.if-is_text.false, w.out-is, w.fits-is) (within-all c.args.most (string_bytes c.loop-id.out) _ c.loop-id.invariant.0 (sym (append-nil _)))))
     ]

@@ -11,7 +11,7 @@ pub returns-in-Some : goal.returns-in-Some
 returns-in-Some c =
     let r = c.in-Some.row.now in
     let at = row-is c.self.inside.parts c.args.self.now c.self.view_is c.self.invariant c.args.id (Some r) (sym (ap (option_map (λ (x : Bor Row). x.now)) c.in-Some.is) ∙ c.find.ensures) in
-    view-entry _ (entry_of_row r) (find c.args.id c.args.self.now.after) at refl c.as_str.ensures.value c.as_str-in-Some.ensures.value c.parent.ensures c.as_slice.ensures c.as_slice-in-Some.ensures
+    view-entry _ (entry_of_row r) (find c.args.id c.args.self.now.after) at refl c.as_str.ensures.value c.as_str-in-Some.ensures c.parent.ensures c.as_slice.ensures c.as_slice-in-Some.ensures
 
 pub returns-in-None : goal.returns-in-None
 returns-in-None c =

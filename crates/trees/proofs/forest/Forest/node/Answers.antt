@@ -11,7 +11,7 @@ returns-in-Some c =
     let a = c.self.inside in
     let r = c.in-Some.row.now in
     let at = rw c.number.ensures at (row-entry a.rows c.number.result r (sym c.get.ensures ∙ ap option_copied c.in-Some.is)) in
-    view-entry _ (entry_of_row r) (find c.args.id c.args.self.now.trees) (entry-is a c.args.self.now c.self.view_is c.self.invariant c.args.id ∙ at) refl c.as_str.ensures.value c.as_str-in-Some.ensures.value c.parent.ensures c.as_slice.ensures c.as_slice-in-Some.ensures
+    view-entry _ (entry_of_row r) (find c.args.id c.args.self.now.trees) (entry-is a c.args.self.now c.self.view_is c.self.invariant c.args.id ∙ at) refl c.as_str.ensures.value c.as_str-in-Some.ensures c.parent.ensures c.as_slice.ensures c.as_slice-in-Some.ensures
 
 pub returns-in-None : goal.returns-in-None
 returns-in-None c =

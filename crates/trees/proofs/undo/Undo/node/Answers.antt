@@ -13,7 +13,7 @@ returns-in-Some c =
     let r = c.in-Some.row.now in
     let at = rw c.number.ensures at (row-entry c.self.inside.parts.rows c.number.result r (sym c.get.ensures ∙ ap option_copied c.in-Some.is)) in
     let entry = entry-is (changed_forest c.self.inside.parts) c.args.self.now.after (ap (λ (u : UndoTerm). u.after) c.self.view_is) c.self.invariant.after c.args.id in
-    view-entry _ (entry_of_row r) (find c.args.id c.args.self.now.after.trees) (entry ∙ at) refl c.as_str.ensures.value c.as_str-in-Some.ensures.value c.parent.ensures c.as_slice.ensures c.as_slice-in-Some.ensures
+    view-entry _ (entry_of_row r) (find c.args.id c.args.self.now.after.trees) (entry ∙ at) refl c.as_str.ensures.value c.as_str-in-Some.ensures c.parent.ensures c.as_slice.ensures c.as_slice-in-Some.ensures
 
 pub returns-in-None : goal.returns-in-None
 returns-in-None c =
