@@ -55,7 +55,8 @@ fn are_apart(trees: &[Tree]) -> bool
 fn is_apart(was_text: bool, tree: &Tree) -> bool
     ensures { result ≡ is_apart was_text tree.now.content }
 {
-    text_len(tree) <= MOST_BYTES && !(is_text(tree) && (was_text || tree.content().text.is_empty()))
+    text_len(tree) <= MOST_BYTES
+        && !(is_text(tree) && (was_text || tree.content().text.as_str().is_empty()))
 }
 
 /// One tree more: the last before it takes in its text, if both are texts. Faults: `Memory`; `Code` with PXQ0002 where a text would be
@@ -93,7 +94,7 @@ fn is_within(merged: &[Tree], tree: &Tree) -> bool
 fn text_len(tree: &Tree) -> usize
     ensures { result ≡ length tree.now.content.text }
 {
-    tree.content().text.len()
+    tree.content().text.as_str().len()
 }
 
 /// One tree more, merged with those before it. It fails where memory is refused.
@@ -105,7 +106,8 @@ fn merged_with(merged: Vec<Tree>, tree: Tree) -> Result<Vec<Tree>, AllocError>
         None => and_last(merged, tree),
         Some(last) => {
             if are_texts(&last, &tree) {
-                return and_last(merged, with_text_of(last, &tree)?);
+                let alloc = *merged.allocator();
+                return and_last(merged, with_text_of(alloc, last, &tree)?);
             }
             merged.push(last)?;
             and_last(merged, tree)
@@ -123,12 +125,12 @@ fn and_last(trees: Vec<Tree>, tree: Tree) -> Result<Vec<Tree>, AllocError>
 }
 
 /// The tree with the other's text after its own. It fails where memory is refused.
-fn with_text_of(tree: Tree, other: &Tree) -> Result<Tree, AllocError>
+fn with_text_of(alloc: Global, tree: Tree, other: &Tree) -> Result<Tree, AllocError>
     ensures { IfOk result
         (λ joined. joined ≡ record tree { content = record tree.content { text = tree.content.text ++ other.now.content.text } }) }
 {
     let mut tree = tree;
-    tree.push_text(other.content().text.as_str())?;
+    tree.push_text(alloc, other.content().text.as_str())?;
     Ok(tree)
 }
 
@@ -150,7 +152,7 @@ fn is_text(tree: &Tree) -> bool
 fn is_empty_text(tree: &Tree) -> bool
     ensures { result ≡ is_empty_text tree.now.content }
 {
-    is_text(tree) && tree.content().text.is_empty()
+    is_text(tree) && tree.content().text.as_str().is_empty()
 }
 
 /// The same, but empty texts are gone.

@@ -1,7 +1,7 @@
 //! Copies of nodes.
 
 ghost use Rattle.std.specs.Prelude.{◌≡◌, ◌<◌, ◌≤◌, ◌^◌, IsSome, IsTrue, IfOk, IfErr, IsErrOf};
-ghost use Rattle.data_model.specs.Trees.{find, size};
+ghost use Rattle.data_model.specs.Trees.{IsAt, find, size};
 ghost use Rattle.shelves.specs.Shelf.{shelf_trees};
 ghost use Rattle.query_meaning.specs.Content as meaning;
 ghost use Rattle.query_meaning.specs.Running.{trees_of};
@@ -46,14 +46,16 @@ fn sources(run: &Evaluation, node: NodeId) -> Result<CopiedContent, ValueFault>
     ensures err { IfErr result (λ fault. Fails (copied_as_new node run.now) fault) }
     ensures judged { IsPlain node (trees_of run.now) → Judged (copied_as_new node run.now) result }
 {
+    let kind = run.shelf().kind(node);
     match run.nodes_left() {
-        Some(left) if !is_too_large(run.shelf(), node, left) => Ok(source(run, node)?),
+        Some(left) if !is_too_large(run.shelf(), node, kind, left) => Ok(source(run, node, kind)?),
         _ => Err(ValueFault::Code(Code::PXQ0003)),
     }
 }
 
-/// The same. It fails where memory is refused.
-fn source(run: &Evaluation, node: NodeId) -> Result<CopiedContent, AllocError>
+/// The same of a node of that kind. It fails where memory is refused.
+fn source(run: &Evaluation, node: NodeId, kind: Kind) -> Result<CopiedContent, AllocError>
+    requires kind { IsAt (find node (trees_of run.now)) (λ c. kind ≡ c.kind) }
     requires there { IsSome (find node (trees_of run.now)) }
     ensures ok { IfOk result (λ us. us ≡ meaning.source_at node (trees_of run.now) (find node (trees_of run.now))) }
     ensures few { IfOk result (λ us. size us ≤ run.now.shelf.own.next) }
@@ -61,14 +63,15 @@ fn source(run: &Evaluation, node: NodeId) -> Result<CopiedContent, AllocError>
     let shelf = run.shelf();
     shelf.facts();
     let tree = shelf.tree(run.alloc(), node)?;
-    match shelf.kind(node) {
+    match kind {
         Kind::Document => Ok(CopiedContent::of(tree.into_children())),
         _ => Ok(CopiedContent::one(run.alloc(), tree)?),
     }
 }
 
-/// Whether a copy of a node is known to have more than so many nodes.
-fn is_too_large(shelf: &Shelf, node: NodeId, most: u64) -> bool
+/// Whether a copy of a node of that kind is known to have more than so many nodes.
+fn is_too_large(shelf: &Shelf, node: NodeId, kind: Kind, most: u64) -> bool
+    requires kind { IsAt (find node (shelf_trees shelf.now)) (λ c. kind ≡ c.kind) }
     requires there { IsSome (find node (shelf_trees shelf.now)) }
     requires most { most < 2 ^ 63 }
     ensures more { IsTrue result
@@ -78,7 +81,7 @@ fn is_too_large(shelf: &Shelf, node: NodeId, most: u64) -> bool
         → IsTrue result }
 {
     shelf.facts();
-    match shelf.kind(node) {
+    match kind {
         // The document itself is not copied, nor would its attributes be.
         Kind::Document => { shelf.attributes(node).is_empty() && !shelf.is_within(node, most + 1) }
         _ => !shelf.is_within(node, most),

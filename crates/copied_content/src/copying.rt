@@ -124,7 +124,7 @@ fn and_text(
         [] => Ok(before),
         _ => {
             let text = spaced(run.alloc(), values)?;
-            let more = new_text(run, text.as_str())?;
+            let more = new_text(run, text)?;
             Ok(before.and(more)?)
         }
     }

@@ -11,10 +11,10 @@ use crate::roots::with_text;
 use evaluation::{Environment, Evaluation, Sequence};
 use fault_codes::Code;
 use query_grammar::{Expr, Name};
-use query_strings::{LimitedString, after_spaces, ends_in_hyphen, holds, spaced};
+use query_strings::{after_spaces, ends_in_hyphen, holds, spaced};
 use sqlite_items::Boxed;
 use trees::Kind;
-use values::{Atom, ValueFault};
+use values::{Atom, Text, ValueFault};
 
 /// Computed constructors, over a function value that evaluates their parts.
 #[derive(Clone, Copy)]
@@ -117,12 +117,7 @@ impl<F: Fn(&mut Evaluation, &Expr, &Environment) -> Result<Sequence, ValueFault>
     }
 
     /// The typed values of an expression's items, which take their work, joined by single spaces.
-    fn text_of(
-        &self,
-        run: &mut Evaluation,
-        x: &Expr,
-        env: &Environment,
-    ) -> Result<LimitedString, ValueFault>
+    fn text_of(&self, run: &mut Evaluation, x: &Expr, env: &Environment) -> Result<Text, ValueFault>
         requires evaluates { Evaluates (F.pre self.now.value_of) (F.post self.now.value_of) (x.now ∷ []) }
         requires ready { IsReady env.now run.old }
         ensures { GivesIn Any (meaning.text_of (mean x.now) env.now) run.old result run.new }

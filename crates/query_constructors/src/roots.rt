@@ -55,8 +55,8 @@ fn leaf(
     let content = Content {
         identity,
         kind,
-        name: String::from_str(alloc, name)?,
-        text: String::from_str(alloc, text)?,
+        name: Text::of(alloc, name)?,
+        text: Text::of(alloc, text)?,
     };
     Ok(Tree::new(content, Vec::new(alloc), Vec::new(alloc)))
 }

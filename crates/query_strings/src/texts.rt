@@ -7,6 +7,7 @@ ghost use Rattle.evaluation.specs.Gives.{Fails, Says};
 ghost use Rattle.query_strings.specs.Texts.{text_at};
 
 use crate::limited_string::LimitedString;
+use data_model::limits::MOST_BYTES;
 use fault_codes::Code;
 use std::alloc::{AllocError, Global};
 use values::{Atom, Text, ValueFault};
@@ -105,7 +106,28 @@ fn push_printed(alloc: Global, joined: &mut LimitedString, value: &Atom) -> Resu
 
 /// Atomic values joined by single spaces (XQuery 1.0, section 3.7.1.3). Faults: `Memory`; `Code` with PXQ0002 where that is longer than
 /// 65,536 bytes.
-pub fn spaced(alloc: Global, values: &[Atom]) -> Result<LimitedString, ValueFault>
+pub fn spaced(alloc: Global, values: &[Atom]) -> Result<Text, ValueFault>
+    ensures { Says (meaning.spaced values.now) result }
+{
+    match values {
+        [value] => printed_within(alloc, value),
+        _ => Ok(all_spaced(alloc, values)?.into_text(alloc)?),
+    }
+}
+
+/// One value as a string, with the same faults. Where it is a text already, that is shared.
+fn printed_within(alloc: Global, value: &Atom) -> Result<Text, ValueFault>
+    ensures { Says (meaning.limited (meaning.printed value.now)) result }
+{
+    let text = printed(alloc, value)?;
+    if text.as_str().len() > MOST_BYTES {
+        return Err(ValueFault::Code(Code::PXQ0002));
+    }
+    Ok(text)
+}
+
+/// The same, put together.
+fn all_spaced(alloc: Global, values: &[Atom]) -> Result<LimitedString, ValueFault>
     ensures { Says (meaning.spaced values.now) result }
 {
     match values.split_first() {

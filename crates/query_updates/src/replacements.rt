@@ -141,7 +141,7 @@ fn text_of_values(run: &mut Evaluation, values: &[Atom]) -> Result<CopiedContent
         [] => Ok(CopiedContent::new(run.alloc())),
         _ => {
             let text = spaced(run.alloc(), values)?;
-            new_text(run, text.as_str())
+            new_text(run, text)
         }
     }
 }

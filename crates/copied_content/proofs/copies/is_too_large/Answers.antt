@@ -11,7 +11,7 @@ returns-then-is_empty-clause-more c =
     let P : Kind → Type 0 = λ k. IsAt (find c.args.node ts) (λ x. k ≡ x.kind) in
     let none = bare c.attributes.result.now c.is_empty.result c.is_empty.ensures c.if-is_empty.true in
     passes c.is_within.result _ c.args.most _ c.is_within.ensures
-    (document_size c.args.node ts (find c.args.node ts) c.facts.ensures.distinct refl (subst P c.in-Document.is c.kind.ensures) (sym c.attributes.ensures ∙ none))
+    (document_size c.args.node ts (find c.args.node ts) c.facts.ensures.distinct refl (subst P c.in-Document.is c.requires.kind) (sym c.attributes.ensures ∙ none))
 
 pub returns-then-is_empty-clause-known : goal.returns-then-is_empty-clause-known
 returns-then-is_empty-clause-known c = λ plain over.
@@ -19,4 +19,4 @@ returns-then-is_empty-clause-known c = λ plain over.
     let P : Kind → Type 0 = λ k. IsAt (find c.args.node ts) (λ x. k ≡ x.kind) in
     let none = bare c.attributes.result.now c.is_empty.result c.is_empty.ensures c.if-is_empty.true in
     is_more c.is_within.result _ c.args.most _ c.is_within.ensures
-    (document_size c.args.node ts (find c.args.node ts) c.facts.ensures.distinct refl (subst P c.in-Document.is c.kind.ensures) (sym c.attributes.ensures ∙ none)) over
+    (document_size c.args.node ts (find c.args.node ts) c.facts.ensures.distinct refl (subst P c.in-Document.is c.requires.kind) (sym c.attributes.ensures ∙ none)) over

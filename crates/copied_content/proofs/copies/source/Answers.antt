@@ -12,7 +12,7 @@ returns-in-Document-clause-ok c =
     let i = c.args.node in
     let ts = shelf_trees c.shelf-shelf.result.now in
     let P : Kind → Type 0 = λ k. IsAt (find i ts) (λ x. k ≡ x.kind) in
-    c.of.ensures ∙ c.into_children.ensures ∙ document_source i ts (find i ts) c.in_ok-tree.tree c.facts.ensures.distinct refl (subst P c.in-Document.is c.kind.ensures) c.in_ok-tree.ensures
+    c.of.ensures ∙ c.into_children.ensures ∙ document_source i ts (find i ts) c.in_ok-tree.tree c.facts.ensures.distinct refl (subst P c.in-Document.is (subst (λ (s : ShelfTerm). IsAt (find c.args.node (shelf_trees s)) (λ x. c.args.kind ≡ x.kind)) (sym c.shelf-shelf.ensures) c.requires.kind)) c.in_ok-tree.ensures
     ∙ ap (λ (s : ShelfTerm). source_at i (shelf_trees s) (find i (shelf_trees s))) c.shelf-shelf.ensures
 
 pub returns-in-Document-clause-few : goal.returns-in-Document-clause-few
@@ -36,6 +36,6 @@ returns-in_ok-one-in_default c =
     let next = ap (λ (s : ShelfTerm). s.own.next) c.shelf-shelf.ensures in
     let P : ShelfTerm → Type 0 = λ s. IsSome (find i (shelf_trees s)) in
     record {
-      ok = is ∙ other_source i ts (find i ts) c.kind.result (subst P (sym c.shelf-shelf.ensures) c.requires.there) c.kind.ensures c.in_default.not-Document ∙ ap (λ (s : ShelfTerm). source_at i (shelf_trees s) (find i (shelf_trees s))) c.shelf-shelf.ensures;
+      ok = is ∙ other_source i ts (find i ts) c.args.kind (subst P (sym c.shelf-shelf.ensures) c.requires.there) (subst (λ (s : ShelfTerm). IsAt (find c.args.node (shelf_trees s)) (λ x. c.args.kind ≡ x.kind)) (sym c.shelf-shelf.ensures) c.requires.kind) c.in_default.not-Document ∙ ap (λ (s : ShelfTerm). source_at i (shelf_trees s) (find i (shelf_trees s))) c.shelf-shelf.ensures;
       few = omega (arith, same, few, most, next);
     }
