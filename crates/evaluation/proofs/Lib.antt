@@ -1,3 +1,4 @@
+pub mod Comparing
 pub mod Copies
 pub mod Counted
 pub mod Each

@@ -1,6 +1,7 @@
 pub mod Around
 pub mod Atoms
 pub mod Bindings
+pub mod Compared
 pub mod Copying
 pub mod Evaluates
 pub mod Gives

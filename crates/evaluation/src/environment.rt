@@ -5,6 +5,7 @@ ghost use Rattle.std.specs.List.{All};
 ghost use Rattle.std.specs.Option.{option_copied};
 ghost use Rattle.query_meaning.specs.Environment.{looked_at, value_in, with_focus};
 ghost use Rattle.query_meaning.specs.Running.{most_items};
+ghost use Rattle.evaluation.specs.Compared.{IsBoundLast};
 ghost use Rattle.evaluation.specs.Around.{item_in, position_in, size_in};
 ghost use Rattle.evaluation.specs.Rebound.{rebound};
 
@@ -112,6 +113,19 @@ impl Variables {
         ensures few { All (λ b. length b.items ≤ most_items) self.now }
     {
         let _few = &self.last;
+    }
+
+    /// The item of the variable of that name, where that was bound last, to one item.
+    pub(crate) fn item_of(&self, name: &str) -> Option<&Item>
+        ensures { IfSome result (λ item. IsBoundLast name.now item.now self.now) }
+    {
+        let Link::More(binding) = &self.last else {
+            return None;
+        };
+        match binding.items.as_slice() {
+            [item] if name == binding.name.as_str() => Some(item),
+            _ => None,
+        }
     }
 
     /// The value of a variable, and what is left of so many units once one is taken for each variable that is looked at: the one that was bound last

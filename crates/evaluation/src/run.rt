@@ -14,6 +14,7 @@ ghost use Rattle.query_meaning.specs.Meaning.{start};
 ghost use Rattle.query_meaning.specs.Operators.{ordering};
 ghost use Rattle.query_meaning.specs.Sequences.{variable};
 ghost use Rattle.query_meaning.specs.Running.{Run, trees_of, adding, atom, atoms, copying, most_nodes, nodes_of, new_nodes, standing, turns, work};
+ghost use Rattle.evaluation.specs.Compared.{pair};
 ghost use Rattle.evaluation.specs.Copying.{standing_copy};
 ghost use Rattle.evaluation.specs.Gives.{Any, Fails, Gives, GivesIn, IsReady, Judged, Says, Stand, Turns};
 
@@ -27,9 +28,10 @@ use shelves::Shelf;
 use std::alloc::{AllocError, Global};
 use std::marker::Model;
 use std::mem;
+use std::slice;
 use trees::{Forest, NodeId, Tree};
 use values::{
-    Atom, Comparison, Item, Text, ValueFault, atom_work, atomize_item, compare_general, plain_atom,
+    Atom, Comparison, Item, Text, ValueFault, atom_work, atomize_item, compare_general, compare_value, plain_atom,
 };
 
 /// The most turns in an evaluation (our own limit).
@@ -257,7 +259,7 @@ impl<'a> Evaluation<'a> {
     }
 
     /// The typed value of one item, with the same work and the same faults.
-    fn atom(&mut self, item: &Item) -> Result<Atom, ValueFault>
+    pub(crate) fn atom(&mut self, item: &Item) -> Result<Atom, ValueFault>
         requires there { IsThere (trees_of self.old) item.now }
         ensures given { GivesIn Any (atom item.now) self.old result self.new }
         ensures same { self.new ≡ record self.old { work = self.new.work } }
@@ -329,6 +331,24 @@ impl<'a> Evaluation<'a> {
         let holds = compare_general(self.alloc, op, left, right, &mut turns, &mut work)?;
         (self.turns, self.work) = (turns, work);
         Ok(holds)
+    }
+
+    /// The same of one value on each side.
+    pub(crate) fn compare_pair(
+        &mut self,
+        op: Comparison,
+        left: &Atom,
+        right: &Atom,
+    ) -> Result<bool, ValueFault>
+        ensures { GivesIn Any (pair op left.now right.now) self.old result self.new }
+    {
+        if !matches!(right, Atom::String(_)) {
+            return self.compare(op, slice::from_ref(left), slice::from_ref(right));
+        }
+        // Beside a string each other value is compared as in a value comparison, which reads none.
+        self.turn()?;
+        self.spend(atom_work(left).min(atom_work(right)))?;
+        Ok(compare_value(op, slice::from_ref(left), slice::from_ref(right))? == Some(true))
     }
 
     /// Adds a primitive. Faults: `Memory`; `Code` with PXQ0002 where there are 10,000.
