@@ -43,13 +43,29 @@ pub(crate) fn and_item(given: Sequence, item: Item) -> Result<Sequence, ValueFau
 }
 
 /// The sequence of atomic values. It fails only where memory is refused.
+#[tactic(auto, unfolding(query_meaning::specs::Running::most_items))]
 pub(crate) fn sequence_of(alloc: Global, values: Vec<Atom>) -> Result<Sequence, ValueFault>
     requires most { length values.items ≤ most_items }
     ensures { Says (Ok (functions.items_of values.items)) result }
 {
-    let mut given = Sequence::new(alloc);
-    for value in values {
-        given = and_item(given, Item::Atomic(value))?;
+    if let [_] = values.as_slice() {
+        return alone(alloc, values);
     }
-    Ok(given)
+    let mut items = Vec::with_capacity(alloc, values.len())?;
+    for value in values {
+        items.push(Item::Atomic(value))?;
+    }
+    Ok(Sequence::of(items)?)
+}
+
+/// The sequence of one value at the most, which takes no memory.
+fn alone(alloc: Global, values: Vec<Atom>) -> Result<Sequence, ValueFault>
+    requires most { length values.items ≤ 1 }
+    ensures { Says (Ok (functions.items_of values.items)) result }
+{
+    let mut values = values;
+    match values.pop() {
+        Some(value) => Ok(Sequence::one(alloc, Item::Atomic(value))?),
+        None => Ok(Sequence::new(alloc)),
+    }
 }
