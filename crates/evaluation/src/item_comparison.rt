@@ -34,13 +34,16 @@ pub struct ItemComparison<'x> {
 // By one call, whose contract is all that a caller's proof sees of it.
 impl Drop for ItemComparison<'_> {
     fn drop(self) {
-        let ItemComparison { subject: _, operator: _, literal: _ } = self;
+        let ItemComparison {
+            subject: _,
+            operator: _,
+            literal: _,
+        } = self;
     }
 }
 
 impl<'x> Model for ItemComparison<'x> {
     ghost use Rattle.evaluation.specs.Compared.{Compared, IsLiteral, compared_of};
-
     ghost use Rattle.std.specs.Coded.{codes};
     ghost use Rattle.query_grammar.specs.contracts.ast.Expr as of_expr;
 

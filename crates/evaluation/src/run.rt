@@ -27,11 +27,11 @@ use pending::{ListFault, PendingList, Primitive};
 use shelves::Shelf;
 use std::alloc::{AllocError, Global};
 use std::marker::Model;
-use std::mem;
-use std::slice;
+use std::{mem, slice};
 use trees::{Forest, NodeId, Tree};
 use values::{
-    Atom, Comparison, Item, Text, ValueFault, atom_work, atomize_item, compare_general, compare_value, plain_atom,
+    Atom, Comparison, Item, Text, ValueFault, atom_work, atomize_item, compare_general,
+    compare_value, plain_atom,
 };
 
 /// The most turns in an evaluation (our own limit).
