@@ -20,7 +20,7 @@ use Rattle.node_table.proofs.Axes.{filter-same, ancestor-up}
 use Rattle.shelves.specs.Shelf.{ShelfTerm, IsShelf, shelf_trees}
 use Rattle.query_grammar.specs.declared.ast.NodeTest.{NodeTest}
 use Rattle.query_grammar.specs.declared.ast.NodeTest.TheVariants as node_test
-use Rattle.query_meaning.specs.Paths.{is_element, passes_at, tested_nodes}
+use Rattle.query_meaning.specs.Paths.{is_element, is_principal, passes_at, tested_nodes}
 use Rattle.query_steps.specs.Below.{levels_below}
 use Rattle.query_steps.proofs.Descendants.{descendants-walked, descendants-or-self-walked}
 use Rattle.query_steps.proofs.Lists.{both-true, filter-both, in-filter, eqb-turned, and-turned}
@@ -39,12 +39,12 @@ element-only Text h = cc
 element-only Comment h = cc
 element-only Instruction h = cc
 
--- what passes the test of a name is an element of that name
-named-at : (n : List ℕ) (o : Option Place) → passes_at Descendant (node_test.Name n) o ≡ true → IsAt o (λ c. (c.kind ≡ Element) × (c.name ≡ n))
-named-at n None h = cc
-named-at n (Some x) h =
-    let both = both-true (is_element x.content.kind) (bytes_eq n x.content.name) h in
-    (element-only x.content.kind both.0, sym ((bytes_eq-Decides n x.content.name).0 both.1))
+-- what passes the test of a name, on an axis whose principal nodes are elements, is an element of that name
+pub named-at : (a : Axis) → ((k : Kind) → is_principal a k ≡ is_element k) → (n : List ℕ) (o : Option Place) → passes_at a (node_test.Name n) o ≡ true → IsAt o (λ c. (c.kind ≡ Element) × (c.name ≡ n))
+named-at a elements n None h = cc
+named-at a elements n (Some x) h =
+    let both = both-true (is_principal a x.content.kind) (bytes_eq n x.content.name) h in
+    (element-only x.content.kind (sym (elements x.content.kind) ∙ both.0), sym ((bytes_eq-Decides n x.content.name).0 both.1))
 
 -- ---- one node
 pub turned-any : (i : ℕ) (ks : List ℕ) → list_any (λ j. eqb j i) ks ≡ is_in i ks
@@ -86,7 +86,7 @@ module _ (s : ShelfTerm) (facts : IsShelf s) (a : ℕ) (lent : IsSome (find a s.
   ts = shelf_trees s
 
   -- an own node has no parent that is lent
-  own-parent : (j p : ℕ) → parent_of j ts ≡ Some p → count j s.lent.trees ≡ 0 → count p s.lent.trees ≡ 0
+  pub own-parent : (j p : ℕ) → parent_of j ts ≡ Some p → count j s.lent.trees ≡ 0 → count p s.lent.trees ≡ 0
   own-parent j p is none =
       let own : parent_of j s.own.trees ≡ Some p = ap parent_at (sym (find-own j s.lent.trees s.own.trees none)) ∙ is in
       let above = climb-up j p s.own.trees facts.own.distinct (parent-found (find j s.own.trees) p own) own in
@@ -122,7 +122,7 @@ module _ (s : ShelfTerm) (facts : IsShelf s) (a : ℕ) (lent : IsSome (find a s.
         let both = both-true (passes_at Descendant (node_test.Name n) (find j ts)) (is_descendant ts a j) h in
         let below = both-true (is_ancestor ts j a) (not (is_some_attribute ts j)) both.1 in
         let P : Option Place → Type 0 = λ o. IsAt o (λ c. (c.kind ≡ Element) × (c.name ≡ n)) in
-        listed j (subst P (find-lent j s.lent.trees s.own.trees (below-lent (depth_of j ts) j (omega arith) below.0)) (named-at n (find j ts) both.0))
+        listed j (subst P (find-lent j s.lent.trees s.own.trees (below-lent (depth_of j ts) j (omega arith) below.0)) (named-at Descendant (λ k. refl) n (find j ts) both.0))
 
     wanted-in : (j : ℕ) → is_in j (filter is_wanted ids) ≡ is_wanted j
     wanted-in j = in-filter is_wanted j ids ∙ by (is_wanted j) (is_in j ids) (wanted-listed j)

@@ -5,3 +5,4 @@ pub mod Besides
 pub mod Turns
 pub mod Members
 pub mod ByName
+pub mod ByParent
