@@ -1,5 +1,5 @@
 -- Attributes, and what is none.
-use Rattle.std.proofs.Common.{◌≡◌, Bool, true, false, ◌&&◌, if◌then◌else◌, List, [], ◌∷◌, ◌++◌, length, arith, refl, ap, sym, ◌∙◌}
+use Rattle.std.proofs.Common.{◌≡◌, Bool, true, false, ◌&&◌, if◌then◌else◌, List, [], ◌∷◌, ◌++◌, refl, ap, sym, ◌∙◌}
 use Rattle.std.specs.Prelude.{not}
 use Rattle.std.specs.List.{list_all}
 use Rattle.data_model.specs.Tree.{TreeTerm, all_of, trees_of_tree}
@@ -35,10 +35,6 @@ those_more f b xs ys t e h = of b e ∙ sym (ap (those f) (all_of-push xs t) ∙
     of : (b : Bool) → f t.content.kind ≡ b → all_of (if b then ys ++ t ∷ [] else ys) ≡ append (those f (all_of xs)) (if f t.content.kind then trees_of_tree t else no_trees)
     of true e = all_of-push ys t ∙ ap (λ us. append us (trees_of_tree t)) h ∙ ap (λ b. append (those f (all_of xs)) (if b then trees_of_tree t else no_trees)) (sym e)
     of false e = h ∙ sym (append-none (those f (all_of xs))) ∙ ap (λ b. append (those f (all_of xs)) (if b then trees_of_tree t else no_trees)) (sym e)
-
-pub none_before : (xs ys : List TreeTerm) → length xs ≡ 0 → all_of ys ≡ append (all_of xs) (all_of ys)
-none_before [] ys none = refl
-none_before (x ∷ xs) ys none = absurd (omega (arith, none))
 
 -- none is an attribute
 no_attribute : (b : Bool) → not b ≡ true → b ≡ false

@@ -11,7 +11,7 @@ use Rattle.query_meaning.specs.Running.{M, Run, pure, and_then, ◌>>=◌, each}
 use Rattle.query_meaning.specs.Content.{Part, values, node, with_value, parts_of, copied, made, content}
 use Rattle.evaluation.specs.Gives.{Any, GivesIn}
 use Rattle.evaluation.proofs.Each.{then_gives}
-use Rattle.copied_content.specs.Copying.{Partial, nothing, closed, and_item}
+use Rattle.copied_content.specs.Copying.{Partial, after, nothing, closed, and_item}
 
 -- one part more
 abbrev put : ℕ → Trees → Part → M Trees
@@ -51,11 +51,12 @@ none_left n m given (a ∷ more) run = of (made (values (a ∷ more)) run) ∙ a
 
 -- a node after content that is closed
 node_left : (i : ℕ) (xs : List Item) → SameLeft xs → (n m : ℕ) (given : Trees) (run : Run)
-    → and_then (and_then ((copied i >>= (λ us. pure (state (append given us) []))) run) (each (λ _. and_item) n xs)) closed ≡ each put m (node i ∷ parts_of xs) given run
+    → and_then (and_then ((after given (copied i) >>= (λ us. pure (state us []))) run) (each (λ _. and_item) n xs)) closed ≡ each put m (node i ∷ parts_of xs) given run
 node_left i xs rest n m given run = of (copied i run)
   where
     of : (r : Result (Trees × Run) Code)
-        → and_then (and_then (and_then r (λ us. pure (state (append given us) []))) (each (λ _. and_item) n xs)) closed ≡ and_then (and_then r (λ us. pure (append given us))) (each put (suc m) (parts_of xs))
+        → and_then (and_then (and_then (and_then r (λ us. pure (append given us))) (λ us. pure (state us []))) (each (λ _. and_item) n xs)) closed
+        ≡ and_then (and_then r (λ us. pure (append given us))) (each put (suc m) (parts_of xs))
     of (Ok p) = rest n (suc m) (append given p.0) [] p.1
     of (Err code) = refl
 
@@ -65,7 +66,7 @@ one_more (item.Node i) xs rest n m given [] run = node_left i xs rest (suc n) m 
 one_more (item.Node i) xs rest n m given (a ∷ more) run = of (made (values (a ∷ more)) run) ∙ ap (λ ps. each put m ps given run) (sym (before_node a more i (parts_of xs)))
   where
     of : (r : Result (Trees × Run) Code)
-        → and_then (and_then (and_then (and_then r (λ us. pure (append given us))) (λ before. copied i >>= (λ us. pure (state (append before us) [])))) (each (λ _. and_item) (suc n) xs)) closed
+        → and_then (and_then (and_then (and_then r (λ us. pure (append given us))) (λ before. after before (copied i) >>= (λ us. pure (state us [])))) (each (λ _. and_item) (suc n) xs)) closed
         ≡ and_then (and_then r (λ us. pure (append given us))) (each put (suc m) (node i ∷ parts_of xs))
     of (Ok p) = node_left i xs rest (suc n) (suc m) (append given p.0) p.1
     of (Err code) = refl
@@ -75,7 +76,7 @@ same_left [] = none_left
 same_left (x ∷ xs) = one_more x xs (same_left xs)
 
 -- the same of what is equal
-gives_same : (m q : M Trees) (old new : Run) (r : Result Trees ValueFault) → m old ≡ q old → GivesIn Any q old r new → GivesIn Any m old r new
+pub gives_same : (m q : M Trees) (old new : Run) (r : Result Trees ValueFault) → m old ≡ q old → GivesIn Any q old r new → GivesIn Any m old r new
 gives_same m q old new (Ok us) e g = (e ∙ g.0, g.1)
 gives_same m q old new (Err fault.Memory) e g = tt
 gives_same m q old new (Err (fault.Code code)) e g = e ∙ g

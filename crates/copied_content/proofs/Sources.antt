@@ -2,13 +2,12 @@
 use Rattle.std.specs.Prelude.{◌↔◌, IsTrue, not, nat_eq, length}
 use Rattle.std.proofs.lemmas.Bool.{cases_lt}
 use Rattle.std.proofs.lemmas.Bool.Decides.{nat_tests}
-use Rattle.std.proofs.Common.{⊎_elim, ◌≡◌, ◌≢◌, ℕ, ◌+◌, ◌≤◌, ◌<◌, Bool, true, false, if◌then◌else◌, List, [], ◌∷◌, Option, Some, None, IsSome, refl, ap, sym, ◌∙◌, subst, arith}
+use Rattle.std.proofs.Common.{⊎_elim, ◌≡◌, ℕ, ◌+◌, ◌≤◌, ◌<◌, Bool, true, false, if◌then◌else◌, List, [], ◌∷◌, Option, Some, None, IsSome, refl, ap, ap₂, sym, ◌∙◌, subst, arith}
 use Rattle.data_model.specs.Changes.{pick}
 use Rattle.data_model.specs.Tidy.{is_document}
 use Rattle.data_model.specs.Tree.{TreeTerm, trees_of_tree}
-use Rattle.data_model.specs.Trees.{Trees, no_trees, tree, Place, find, roots, size, attributes_at, attributes_of, IsAt}
-use Rattle.data_model.specs.declared.node.Kind.{Kind}
-use Rattle.data_model.specs.declared.node.Kind.TheVariants.{Document, Element, Attribute, Text, Comment, Instruction}
+use Rattle.data_model.specs.Trees.{Trees, no_trees, tree, Content, Place, find, roots, size, attributes_at, attributes_of, IsAt}
+use Rattle.data_model.specs.declared.node.Kind.TheVariants.{Document}
 use Rattle.data_model.proofs.Climbs.{AreDistinct}
 use Rattle.data_model.proofs.Weights.{weigh-pick}
 use Rattle.trees.proofs.CallerLemmas.{picked-place}
@@ -18,7 +17,7 @@ use Rattle.values.specs.Items.{IsThere}
 use Rattle.query_meaning.specs.Content.{source_at}
 use Rattle.query_meaning.specs.Running.{Run, trees_of}
 use Rattle.evaluation.specs.Gives.{Grows}
-use Rattle.copied_content.specs.Copying.{IsPlain}
+use Rattle.copied_content.specs.Copying.{IsPlain, source_of}
 
 none_of : (ts : Trees) → roots ts ≡ [] → ts ≡ no_trees
 none_of no_trees e = refl
@@ -33,33 +32,27 @@ document_size i ts (Some x) d found at bare =
     let source : size (source_at i ts (Some x)) ≡ size x.children = ap (λ k. size (if is_document k then x.children else pick i ts)) (sym at) in
     omega (arith, whole, none, source)
 
--- the children of a document's tree
-pub document_source : (i : ℕ) (ts : Trees) (o : Option Place) (t : TreeTerm) → AreDistinct ts → find i ts ≡ o → IsAt o (λ c. Document ≡ c.kind) → trees_of_tree t ≡ pick i ts → t.children ≡ source_at i ts o
-document_source i ts None t d found at is = absurd at
-document_source i ts (Some x) t d found at is =
+-- the tree of a node, or a document's children
+pub picked_source : (i : ℕ) (ts : Trees) (o : Option Place) (t : TreeTerm) → AreDistinct ts → find i ts ≡ o → IsSome o → trees_of_tree t ≡ pick i ts → source_of t ≡ source_at i ts o
+picked_source i ts None t d found there is = cc
+picked_source i ts (Some x) t d found there is =
     let same : trees_of_tree t ≡ tree x.content x.attributes x.children no_trees = is ∙ picked-place None i ts x d found in
-    let here : t.children ≡ x.children = cc in
-    here ∙ ap (λ k. if is_document k then x.children else pick i ts) at
-
--- the tree of what is no document
-pub other_source : (i : ℕ) (ts : Trees) (o : Option Place) (k : Kind) → IsSome o → IsAt o (λ c. k ≡ c.kind) → (k ≢ Document) → pick i ts ≡ source_at i ts o
-other_source i ts None k there at other = cc
-other_source i ts (Some x) k there at other = ap (λ b. if b then x.children else pick i ts) (sym (none x.content.kind (λ is. other (at ∙ is))))
-  where
-    none : (k : Kind) → (k ≢ Document) → is_document k ≡ false
-    none Document other = absurd (other refl)
-    none Element other = refl
-    none Attribute other = refl
-    none Text other = refl
-    none Comment other = refl
-    none Instruction other = refl
+    let here : t.content ≡ x.content = cc in
+    let below : t.children ≡ x.children = cc in
+    ap (λ (c : Content). if is_document c.kind then t.children else trees_of_tree t) here ∙ ap₂ (λ cs us. if is_document x.content.kind then cs else us) below is
 
 -- no tree among others has more nodes
 pub picked_few : (i : ℕ) (ts : Trees) → size (pick i ts) ≤ size ts
 picked_few i ts = let e = weigh-pick (λ _. 1) i ts in omega (arith, e)
 
-pub children_few : (t : TreeTerm) → size t.children ≤ size (trees_of_tree t)
-children_few t = omega arith
+-- what is copied of a node has no more than its tree
+pub source_few : (i : ℕ) (ts : Trees) (o : Option Place) → AreDistinct ts → find i ts ≡ o → size (source_at i ts o) ≤ size (pick i ts)
+source_few i ts None d found = omega arith
+source_few i ts (Some x) d found = of (is_document x.content.kind)
+  where
+    of : (b : Bool) → size (if b then x.children else pick i ts) ≤ size (pick i ts)
+    of true = let whole : size (pick i ts) ≡ 1 + size x.attributes + size x.children + 0 = ap size (picked-place None i ts x d found) in omega (arith, whole)
+    of false = omega arith
 
 -- no attributes
 pub bare : (xs : List ℕ) (b : Bool) → b ≡ nat_eq (length xs) 0 → b ≡ true → xs ≡ []

@@ -1,6 +1,6 @@
 //! New trees.
 
-ghost use Rattle.std.specs.Prelude.{◌≡◌, IfOk};
+ghost use Rattle.std.specs.Prelude.{◌≡◌, OnOk};
 ghost use Rattle.data_model.specs.Tree.{all_of, trees_of_tree};
 ghost use Rattle.data_model.specs.Trees.{no_trees, append};
 
@@ -42,26 +42,25 @@ impl CopiedContent {
         CopiedContent { trees }
     }
 
-    /// One tree. It fails where memory is refused.
-    pub(crate) fn one(alloc: Global, tree: Tree) -> Result<CopiedContent, AllocError>
-        ensures { IfOk result (λ us. us ≡ trees_of_tree tree) }
+    /// Adds a tree. It fails where memory is refused.
+    pub(crate) fn add(&mut self, tree: Tree) -> Result<(), AllocError>
+        ensures { OnOk result (self.new ≡ append self.old (trees_of_tree tree)) }
     {
-        let mut trees = Vec::new(alloc);
-        trees.push(tree)?;
-        Ok(CopiedContent { trees })
+        self.trees.push(tree)?;
+        Ok(())
     }
 
-    /// The trees of the one, then those of the other, which are given back where the first has none. It fails where memory is refused.
-    pub(crate) fn and(self, other: CopiedContent) -> Result<CopiedContent, AllocError>
-        ensures { IfOk result (λ all. all ≡ append self other) }
+    /// Adds trees, whose list is kept where there are none before them. It fails where memory is refused.
+    pub(crate) fn add_all(&mut self, trees: Vec<Tree>) -> Result<(), AllocError>
+        ensures { OnOk result (self.new ≡ append self.old (all_of trees.items)) }
     {
-        let CopiedContent { mut trees } = self;
-        let CopiedContent { trees: mut others } = other;
-        if trees.is_empty() {
-            return Ok(CopiedContent { trees: others });
+        if self.trees.is_empty() {
+            self.trees = trees;
+            return Ok(());
         }
-        trees.append(&mut others)?;
-        Ok(CopiedContent { trees })
+        let mut trees = trees;
+        self.trees.append(&mut trees)?;
+        Ok(())
     }
 
     /// The trees.

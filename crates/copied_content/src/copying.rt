@@ -1,17 +1,15 @@
 //! Content that is copied item by item.
 
-ghost use Rattle.std.specs.Prelude.{◌≡◌, ◌∷◌, ◌++◌, [], IsSome, IfOk};
-ghost use Rattle.data_model.specs.Trees.{no_trees, find};
+ghost use Rattle.std.specs.Prelude.{◌≡◌, ◌∷◌, ◌++◌, [], IsSome, OnOk};
+ghost use Rattle.data_model.specs.Trees.{find};
 ghost use Rattle.values.specs.Items.{IsThere};
 ghost use Rattle.query_meaning.specs.Content as meaning;
 ghost use Rattle.query_meaning.specs.Running.{each, trees_of};
 ghost use Rattle.evaluation.specs.Gives.{Any, GivesIn, Stand};
-ghost use Rattle.copied_content.specs.Copying.{and_item, and_node, and_text, closed, nothing};
+ghost use Rattle.copied_content.specs.Copying.{and_item, and_node, closed, leaving, nothing};
 ghost use Rattle.copied_content.specs.New.{IsNew};
 
 use crate::copied::CopiedContent;
-use crate::copies::copied;
-use crate::texts::new_text;
 use evaluation::{Evaluation, Sequence};
 use query_strings::spaced;
 use std::alloc::{AllocError, Global};
@@ -27,7 +25,7 @@ pub fn content(run: &mut Evaluation, items: &Sequence) -> Result<CopiedContent, 
     ensures { GivesIn (IsNew run.old) (meaning.content items.now) run.old result run.new }
 {
     let partial = copied_items(run, items.as_slice())?;
-    partial.closed(run)
+    partial.into_content(run)
 }
 
 /// What is copied of items.
@@ -37,7 +35,7 @@ fn copied_items(run: &mut Evaluation, items: &[Item]) -> Result<PartialContent, 
 {
     let mut partial = PartialContent::new(run.alloc());
     for item in items {
-        partial = partial.and_item(run, item)?;
+        partial.add_item(run, item)?;
     }
     Ok(partial)
 }
@@ -70,62 +68,54 @@ impl PartialContent {
         }
     }
 
-    /// One item more.
-    fn and_item(self, run: &mut Evaluation, item: &Item) -> Result<PartialContent, ValueFault>
+    /// Adds an item.
+    fn add_item(&mut self, run: &mut Evaluation, item: &Item) -> Result<(), ValueFault>
         requires there { IsThere (trees_of run.old) item.now }
-        ensures { GivesIn Any (and_item self item.now) run.old result run.new }
+        ensures { GivesIn Any (and_item self.old item.now) run.old (leaving result self.new) run.new }
     {
         match item {
-            Item::Node(node) => self.and_node(run, *node),
-            Item::Atomic(value) => Ok(self.and_value(value)?),
+            Item::Node(node) => self.add_node(run, *node),
+            Item::Atomic(value) => Ok(self.add_value(value)?),
         }
     }
 
-    /// One value more. It fails where memory is refused.
-    fn and_value(self, value: &Atom) -> Result<PartialContent, AllocError>
-        ensures { IfOk result (λ partial. partial ≡ record self { values = self.values ++ value.now ∷ [] }) }
+    /// Adds a value. It fails where memory is refused.
+    fn add_value(&mut self, value: &Atom) -> Result<(), AllocError>
+        ensures { OnOk result (self.new ≡ record self.old { values = self.old.values ++ value.now ∷ [] }) }
     {
-        let PartialContent { trees, mut values } = self;
-        values.push(value.clone()?)?;
-        Ok(PartialContent { trees, values })
+        self.values.push(value.clone()?)?;
+        Ok(())
     }
 
-    /// One node more.
-    fn and_node(self, run: &mut Evaluation, node: NodeId) -> Result<PartialContent, ValueFault>
+    /// Adds a node.
+    fn add_node(&mut self, run: &mut Evaluation, node: NodeId) -> Result<(), ValueFault>
         requires there { IsSome (find node (trees_of run.old)) }
-        ensures { GivesIn Any (and_node self node) run.old result run.new }
+        ensures { GivesIn Any (and_node self.old node) run.old (leaving result self.new) run.new }
     {
-        let before = self.closed(run)?;
-        let copy = copied(run, node)?;
-        Ok(PartialContent {
-            trees: before.and(copy)?,
-            values: Vec::new(run.alloc()),
-        })
+        self.close(run)?;
+        self.trees.add_copy(run, node)
+    }
+
+    /// Makes a text of the values, if there are any; none are left.
+    fn close(&mut self, run: &mut Evaluation) -> Result<(), ValueFault>
+        ensures closed { GivesIn Any (closed self.old) run.old (leaving result self.new.trees) run.new }
+        ensures none { OnOk result (self.new.values ≡ []) }
+    {
+        if self.values.is_empty() {
+            return Ok(());
+        }
+        let text = spaced(run.alloc(), &self.values)?;
+        self.values.clear();
+        self.trees.add_text(run, text)
     }
 
     /// The whole content, where nothing more follows.
-    fn closed(self, run: &mut Evaluation) -> Result<CopiedContent, ValueFault>
+    fn into_content(self, run: &mut Evaluation) -> Result<CopiedContent, ValueFault>
         ensures { GivesIn Any (closed self) run.old result run.new }
     {
-        let PartialContent { trees, values } = self;
-        and_text(trees, run, &values)
-    }
-}
-
-/// Content, and a new text of the values after it, if there are any.
-fn and_text(
-    before: CopiedContent,
-    run: &mut Evaluation,
-    values: &[Atom],
-) -> Result<CopiedContent, ValueFault>
-    ensures { GivesIn Any (and_text before values.now) run.old result run.new }
-{
-    match values {
-        [] => Ok(before),
-        _ => {
-            let text = spaced(run.alloc(), values)?;
-            let more = new_text(run, text)?;
-            Ok(before.and(more)?)
-        }
+        let mut partial = self;
+        partial.close(run)?;
+        let PartialContent { trees, .. } = partial;
+        Ok(trees)
     }
 }

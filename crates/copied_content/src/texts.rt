@@ -1,13 +1,15 @@
 //! New texts.
 
-ghost use Rattle.std.specs.Prelude.{◌≡◌, IfOk};
+ghost use Rattle.std.specs.Prelude.{◌≡◌};
+ghost use Rattle.data_model.specs.Tree.{trees_of_tree};
 ghost use Rattle.query_meaning.specs.Content as meaning;
-ghost use Rattle.evaluation.specs.Gives.{GivesIn, Judged};
+ghost use Rattle.evaluation.specs.Gives.{Any, GivesIn, Judged};
+ghost use Rattle.copied_content.specs.Copying.{after, leaving};
 ghost use Rattle.copied_content.specs.New.{IsNew};
 
 use crate::copied::CopiedContent;
 use evaluation::Evaluation;
-use std::alloc::{AllocError, Global};
+use std::alloc::Global;
 use trees::{Content, Kind, NodeId, Tree};
 use values::{Text, ValueFault, text_work};
 
@@ -17,14 +19,26 @@ pub fn new_text(run: &mut Evaluation, text: Text) -> Result<CopiedContent, Value
     ensures made { GivesIn (IsNew run.old) (meaning.new_text text) run.old result run.new }
     ensures judged { Judged (meaning.new_text text run.old) result }
 {
-    run.spend(text_work(text.as_str()))?;
-    let identity = run.new_nodes(1)?;
-    Ok(text_node(run.alloc(), text, identity)?)
+    let mut content = CopiedContent::new(run.alloc());
+    content.add_text(run, text)?;
+    Ok(content)
 }
 
-/// A text as a tree of its own. It fails where memory is refused.
-fn text_node(alloc: Global, text: Text, identity: NodeId) -> Result<CopiedContent, AllocError>
-    ensures { IfOk result (λ us. us ≡ meaning.text_node text identity) }
+impl CopiedContent {
+    /// Adds a new text, as `new_text` makes it.
+    pub(crate) fn add_text(&mut self, run: &mut Evaluation, text: Text) -> Result<(), ValueFault>
+        ensures added { GivesIn Any (after self.old (meaning.new_text text)) run.old (leaving result self.new) run.new }
+        ensures judged { Judged (meaning.new_text text run.old) result }
+    {
+        run.spend(text_work(text.as_str()))?;
+        let identity = run.new_nodes(1)?;
+        Ok(self.add(text_node(run.alloc(), text, identity))?)
+    }
+}
+
+/// A text as a tree of its own.
+fn text_node(alloc: Global, text: Text, identity: NodeId) -> Tree
+    ensures { trees_of_tree result ≡ meaning.text_node text identity }
 {
     let content = Content {
         identity,
@@ -32,5 +46,5 @@ fn text_node(alloc: Global, text: Text, identity: NodeId) -> Result<CopiedConten
         name: Text::empty(),
         text,
     };
-    CopiedContent::one(alloc, Tree::new(content, Vec::new(alloc), Vec::new(alloc)))
+    Tree::new(content, Vec::new(alloc), Vec::new(alloc))
 }

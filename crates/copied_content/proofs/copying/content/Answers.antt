@@ -11,5 +11,5 @@ returns-in_err-partial c =
 
 pub returns : goal.returns
 returns c =
-    gives_new (content c.args.items.now) c.args.run.now c.closed.new.run c.closed.result (content_new c.args.items.now)
-    (content_gives c.args.items.now c.as_slice.result.now c.args.run.now c.copied_items.new.run c.closed.new.run c.in_ok-partial.partial c.closed.result c.as_slice.ensures.items c.in_ok-partial.ensures c.closed.ensures)
+    gives_new (content c.args.items.now) c.args.run.now c.into_content.new.run c.into_content.result (content_new c.args.items.now)
+    (content_gives c.args.items.now c.as_slice.result.now c.args.run.now c.copied_items.new.run c.into_content.new.run c.in_ok-partial.partial c.into_content.result c.as_slice.ensures.items c.in_ok-partial.ensures c.into_content.ensures)
