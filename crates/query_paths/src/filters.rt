@@ -1,18 +1,19 @@
 //! Predicates, and the filter expressions that have them (XQuery 1.0, sections 3.2.2 and 3.3.2).
 
-ghost use Rattle.std.specs.Prelude.{◌≡◌, ◌≤◌, ◌<◌, ◌+◌, ◌∷◌, [], length, map, pos, option_copied, IfOk, Ok};
+ghost use Rattle.std.specs.Prelude.{◌≡◌, ℕ, ◌≤◌, ◌<◌, ◌+◌, ◌∷◌, [], length, map, pos, option_copied, IfOk, Ok};
 ghost use Rattle.values.specs.Items.{IsThere};
 ghost use Rattle.values.specs.Arithmetic.{in_range};
 ghost use Rattle.query_meaning.specs.Environment.{with_focus};
 ghost use Rattle.query_meaning.specs.Meaning.{mean};
 ghost use Rattle.query_meaning.specs.Paths as meaning;
 ghost use Rattle.query_meaning.specs.Running.{trees_of};
+ghost use Rattle.evaluation.specs.declared.item_comparison.Subject.TheVariants as subject;
 ghost use Rattle.evaluation.specs.Evaluates.{Evaluates};
 ghost use Rattle.evaluation.specs.Gives.{Any, Gives, GivesIn, IsReady, Says, Stand};
 ghost use Rattle.query_paths.specs.Predicates.{at_position, numbered, selected};
 
 use crate::kept::Kept;
-use evaluation::{Environment, Evaluation, Sequence};
+use evaluation::{Environment, Evaluation, ItemComparison, Sequence, Subject};
 use fault_codes::Code;
 use query_grammar::{Expr, IntegerLiteral};
 use sqlite_items::{Boxed, Items};
@@ -149,6 +150,9 @@ impl<F: Fn(&mut Evaluation, &Expr, &Environment) -> Result<Sequence, ValueFault>
         if let Expr::Integer(literal) = predicate {
             return numbered(run, items, *literal);
         }
+        if let Some(comparison) = ItemComparison::of(predicate, Subject::Context)? {
+            return compared(run, items, &comparison);
+        }
         let mut kept = Kept::new(run.alloc());
         let mut index = 0;
         for item in items {
@@ -198,6 +202,43 @@ impl<F: Fn(&mut Evaluation, &Expr, &Environment) -> Result<Sequence, ValueFault>
         let items = self.value_of(run, predicate, env)?;
         Ok(selects(position, items.as_slice())?)
     }
+}
+
+/// The items of which a comparison of the context item with a literal holds, whatever else the environment has; each takes a turn. The comparison was
+/// read once, for all of them. Codes: PXQ0002 where no turn or less work is left; FORG0001 and XPTY0004 as of a general comparison.
+fn compared(
+    run: &mut Evaluation,
+    items: &[Item],
+    comparison: &ItemComparison,
+) -> Result<Kept, ValueFault>
+    requires subject { comparison.now.subject ≡ subject.Context }
+    requires stand { Stand items.now run.old }
+    ensures kept { (env : Environment) → Gives (meaning.filtered env items.now (mean comparison.now.expression)) run.old result run.new }
+    ensures few { IfOk result (λ kept. length kept ≤ length items.now) }
+{
+    let mut kept = Kept::new(run.alloc());
+    for item in items {
+        kept = and_compared(run, kept, item, comparison)?;
+    }
+    Ok(kept)
+}
+
+/// One item more, if the comparison holds of it. It takes a turn.
+fn and_compared(
+    run: &mut Evaluation,
+    given: Kept,
+    item: &Item,
+    comparison: &ItemComparison,
+) -> Result<Kept, ValueFault>
+    requires subject { comparison.now.subject ≡ subject.Context }
+    requires item { IsThere (trees_of run.old) item.now }
+    requires stand { Stand given run.old }
+    ensures kept { (env : Environment) (size index : ℕ) → Gives (meaning.kept (mean comparison.now.expression) env size index given item.now) run.old result run.new }
+    ensures few { IfOk result (λ kept. length kept ≤ length given + 1) }
+{
+    run.turn()?;
+    let is_kept = comparison.holds(run, item)?;
+    Ok(given.and_if(is_kept, item)?)
 }
 
 /// The item at the position that a written number is (XQuery 1.0, section 3.2.2). The number is not evaluated for each item, but each takes its turn,
