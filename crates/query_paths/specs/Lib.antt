@@ -1,4 +1,5 @@
 pub mod Gathered
+pub mod Named
 pub mod Predicates
 pub mod Repeats
 pub mod Steps

@@ -7,6 +7,7 @@ mod distinct;
 mod filters;
 mod found;
 mod kept;
+mod named_segments;
 mod segments;
 mod steps;
 

@@ -13,9 +13,11 @@ ghost use Rattle.query_paths.specs.Gathered.{IsFew, IsFewIn, followed, found_in,
 
 use crate::filters::Paths;
 use crate::found::Found;
+use crate::named_segments::{child_test, gathered_children};
 use evaluation::{Environment, Evaluation, Sequence};
 use fault_codes::Code;
 use query_grammar::Expr;
+use query_steps::children_named;
 use sqlite_items::{Boxed, Items};
 use values::{Item, ValueFault};
 
@@ -102,8 +104,30 @@ impl<F: Fn(&mut Evaluation, &Expr, &Environment) -> Result<Sequence, ValueFault>
         found.concluded(run, mixed)
     }
 
-    /// All that a part gives for some items; each takes a turn.
+    /// All that a part gives for some items; each takes a turn. A step to the children of a name is taken by the elements of the name, where that is
+    /// sooner done.
     fn gathered(
+        &self,
+        run: &mut Evaluation,
+        items: &[Item],
+        part: &Expr,
+        env: &Environment,
+    ) -> Result<Found, ValueFault>
+        requires evaluates { Evaluates (F.pre self.now.value_of) (F.post self.now.value_of) (part.now ∷ []) }
+        requires ready { IsReady env.now run.old }
+        requires stand { Stand items.now run.old }
+        ensures { GivesIn IsFewIn (gathered env.now items.now (mean part.now)) run.old result run.new }
+    {
+        if let Some(test) = child_test(part) {
+            if let Some(children) = children_named(run, test, items)? {
+                return gathered_children(run, items, test, &children);
+            }
+        }
+        self.gathered_each(run, items, part, env)
+    }
+
+    /// The same, by the part's value for each item.
+    fn gathered_each(
         &self,
         run: &mut Evaluation,
         items: &[Item],

@@ -29,9 +29,15 @@ const ELEMENTS_A_NODE: usize = 4;
 const CHILDREN_AN_ELEMENT: u64 = 8;
 
 /// Nodes by the nodes whose children they are. Contracts see them as lists, each with the node that it is of.
-#[derive(Drop)]
 pub struct NamedChildren {
     lists: IndexMap<u64, Vec<NodeId>>,
+}
+
+// By one call, whose contract is all that a caller's proof sees of it.
+impl Drop for NamedChildren {
+    fn drop(self) {
+        let NamedChildren { lists: _ } = self;
+    }
 }
 
 impl Model for NamedChildren {

@@ -1,6 +1,5 @@
-use Rattle.std.proofs.Common.{◌≡◌, ◌∙◌, sym, ap, eqb, Some}
+use Rattle.std.proofs.Common.{◌∙◌, sym, ap, eqb}
 use Rattle.std.specs.List.{list_any}
-use Rattle.data_model.specs.Trees.{parent_of}
 use Rattle.shelves.specs.Shelf.{shelf_trees}
 use Rattle.query_steps.proofs.Ancestors.{up}
 use Rattle.query_steps.proofs.ByParent.{attribute-is-none, no-parent, other-is-child, viewed-none, viewed-parent}

@@ -2,7 +2,7 @@ use Rattle.std.proofs.Common.{◌≡◌, [], length}
 use Rattle.query_meaning.specs.Meaning.{mean}
 use Rattle.evaluation.proofs.Each.{Goes}
 use Rattle.query_paths.specs.Gathered.{IsFewIn, found_in}
-use Rattle.query_paths.proofs.filters.Paths.gathered.Given as goal
+use Rattle.query_paths.proofs.filters.Paths.gathered_each.Given as goal
 
 abbrev pub invariant-loop-item : goal.invariant-loop-item
 invariant-loop-item g l =
