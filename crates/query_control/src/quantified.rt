@@ -1,20 +1,21 @@
 //! Quantified expressions, over a function that evaluates their parts (XQuery 1.0, section 3.11).
 
-ghost use Rattle.std.specs.Prelude.{◌≡◌, ◌∷◌, [], map};
+ghost use Rattle.std.specs.Prelude.{◌≡◌, ℕ, List, ◌∷◌, [], map, Some};
 ghost use Rattle.std.specs.Option.{ForSome};
 ghost use Rattle.values.specs.Items.{IsThere};
 ghost use Rattle.query_meaning.specs.Environment.{with_variable};
 ghost use Rattle.query_meaning.specs.Meaning.{mean};
-ghost use Rattle.query_meaning.specs.Running.{trees_of};
+ghost use Rattle.query_meaning.specs.Running.{trees_of, turn};
 ghost use Rattle.query_meaning.specs.Sequences as meaning;
 ghost use Rattle.query_control.specs.Evaluates.{EvaluatesQuantified};
+ghost use Rattle.evaluation.specs.Compared.{StandsFor};
 ghost use Rattle.evaluation.specs.Gives.{Any, Gives, GivesIn, IsReady, Stand};
 ghost use Rattle.evaluation.specs.Bindings.{binding_of};
 ghost use Rattle.query_control.specs.Parts as part;
 
 use crate::flwor::and_item;
 use crate::forms::Forms;
-use evaluation::{Environment, Evaluation, Sequence, Variables};
+use evaluation::{Environment, Evaluation, ItemComparison, Sequence, Subject, Variables};
 use query_grammar::{Binding, Expr, Quantifier};
 use query_operators::boolean;
 use sqlite_items::{Boxed, Items};
@@ -85,6 +86,11 @@ impl<F: Fn(&mut Evaluation, &Expr, &Environment) -> Result<Sequence, ValueFault>
         requires items { Stand items.now run.old }
         ensures { GivesIn Any (meaning.until_decided quantifier (part.satisfied_by quantifier variable.now (map (binding_of mean) bindings.now) (mean test.now) env.now) items.now) run.old result run.new }
     {
+        if bindings.is_empty() {
+            if let Some(comparison) = ItemComparison::of(test.get(), Subject::Variable(variable))? {
+                return compared_until_decided(run, quantifier, &comparison, items);
+            }
+        }
         let mut former = None;
         for item in items {
             let value = self.satisfied_by(
@@ -131,6 +137,40 @@ impl<F: Fn(&mut Evaluation, &Expr, &Environment) -> Result<Sequence, ValueFault>
         *former = Some(variables);
         value
     }
+}
+
+/// What `until_decided` comes to where no bindings are left and the test compares an item of the variable: that need not be bound.
+fn compared_until_decided(
+    run: &mut Evaluation,
+    quantifier: Quantifier,
+    comparison: &ItemComparison,
+    items: &[Item],
+) -> Result<bool, ValueFault>
+    requires items { Stand items.now run.old }
+    ensures { (variable : List ℕ) (env : Environment) → part.IsVariable variable comparison.now.subject
+        → GivesIn Any (meaning.until_decided quantifier (part.satisfied_by quantifier variable [] (mean comparison.now.expression) env) items.now) run.old result run.new }
+{
+    for item in items {
+        let value = compared_in_turn(run, comparison, item)?;
+        if decides(quantifier, value) {
+            return Ok(value);
+        }
+    }
+    Ok(undecided(quantifier))
+}
+
+/// One item.
+fn compared_in_turn(
+    run: &mut Evaluation,
+    comparison: &ItemComparison,
+    item: &Item,
+) -> Result<bool, ValueFault>
+    requires item { IsThere (trees_of run.old) item.now }
+    ensures { (env : Environment) → StandsFor comparison.now.subject item.now env
+        → GivesIn Any (turn (meaning.tested (Some (mean comparison.now.expression)) env)) run.old result run.new }
+{
+    run.turn()?;
+    comparison.holds(run, item)
 }
 
 /// Whether the value of one item decides.
