@@ -13,6 +13,7 @@ ghost use Rattle.sorted_tuples.specs.Keys.{sort_key_of};
 ghost use Rattle.query_control.specs.Parts as part;
 ghost use Rattle.query_control.specs.Lasting.{stand_on};
 
+use crate::condition::Condition;
 use crate::forms::Forms;
 use crate::walk::{AtTuple, Walk};
 use evaluation::{Environment, Evaluation, Sequence, Variables};
@@ -26,7 +27,6 @@ impl<F: Fn(&mut Evaluation, &Expr, &Environment) -> Result<Sequence, ValueFault>
     /// first part that has one; FORG0006 where `where` has no truth value; PXQ0002 where no turn is left, at the tuple that brings the
     /// 10,001st item, with `order by` at the 10,001st tuple, or where a key's string is too long; XPTY0004 where a key is more than one
     /// value, or, before `return`, where two keys at one position are of different types.
-    #[tactic(auto, using(crate::proofs::Calls::each_alone))]
     pub fn flwor(
         &self,
         run: &mut Evaluation,
@@ -41,46 +41,61 @@ impl<F: Fn(&mut Evaluation, &Expr, &Environment) -> Result<Sequence, ValueFault>
         requires ready { IsReady env.now run.old }
         ensures { Gives (meaning.flwor (map (part.clause_of mean) clauses.now) (option_map mean condition.now) (map (sort_key_of mean) keys.now) (mean body.now) env.now) run.old result run.new }
     {
+        let clauses = clauses.as_slice();
+        let condition = Condition::of(clauses, condition)?;
         if keys.is_empty() {
-            let given = Sequence::new(run.alloc());
-            let at_tuple = &Returning {
-                forms: self,
-                env,
-                condition,
-                body,
-            };
-            let walk = Walk {
-                at_tuple,
-                clauses: clauses.as_slice(),
-                variables: env.variables(),
-            };
-            return walk.tuples(run, given);
+            return self.unordered(run, clauses, &condition, body, env);
         }
-        self.ordered(
-            run,
-            clauses.as_slice(),
-            condition,
-            keys.as_slice(),
-            body,
+        self.ordered(run, clauses, &condition, keys.as_slice(), body, env)
+    }
+
+    /// Clauses, `where` and `return`, tuple by tuple. Codes: those of `flwor`.
+    #[tactic(auto, using(crate::proofs::Calls::each_alone))]
+    fn unordered(
+        &self,
+        run: &mut Evaluation,
+        clauses: &[Clause<Expr>],
+        condition: &Condition,
+        body: &Boxed<Expr>,
+        env: &Environment,
+    ) -> Result<Sequence, ValueFault>
+        requires flwor { EvaluatesFlwor (F.pre self.now.value_of) (F.post self.now.value_of) clauses.now condition.now body.now }
+        requires ready { IsReady env.now run.old }
+        ensures { Gives (meaning.tuples (map (part.clause_of mean) clauses.now) (meaning.returned (option_map mean condition.now) (mean body.now)) env.now []) run.old result run.new }
+    {
+        let given = Sequence::new(run.alloc());
+        let at_tuple = &Returning {
+            forms: self,
             env,
-        )
+            condition,
+            body,
+        };
+        let walk = Walk {
+            at_tuple,
+            clauses,
+            variables: env.variables(),
+        };
+        walk.tuples(run, given)
     }
 
     /// `where`: the effective boolean value of the test, and true where there is none. Codes: those of `holds`.
     pub(crate) fn tested(
         &self,
         run: &mut Evaluation,
-        condition: &Option<Boxed<Expr>>,
+        condition: &Condition,
         env: &Environment,
     ) -> Result<bool, ValueFault>
         requires condition { ForSome condition.now (λ x. Evaluates (F.pre self.now.value_of) (F.post self.now.value_of) (x ∷ [])) }
         requires ready { IsReady env.now run.old }
         ensures { GivesIn Any (meaning.tested (option_map mean condition.now) env.now) run.old result run.new }
     {
-        match condition {
-            None => Ok(true),
-            Some(test) => self.holds(run, test.get(), env),
+        let Some(test) = condition.test() else {
+            return Ok(true);
+        };
+        if let Some(value) = condition.compared(run, env) {
+            return value;
         }
+        self.holds(run, test, env)
     }
 }
 
@@ -89,7 +104,7 @@ impl<F: Fn(&mut Evaluation, &Expr, &Environment) -> Result<Sequence, ValueFault>
 struct Returning<'w, 'f, F> {
     forms: &'w Forms<F>,
     env: &'w Environment<'f, 'w>,
-    condition: &'w Option<Boxed<Expr>>,
+    condition: &'w Condition<'w, 'w>,
     body: &'w Boxed<Expr>,
 }
 

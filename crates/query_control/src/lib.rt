@@ -4,6 +4,7 @@
 #![tactic(auto)]
 
 mod chain;
+mod condition;
 mod flwor;
 mod forms;
 mod logic;

@@ -12,6 +12,7 @@ ghost use Rattle.sorted_tuples.specs.Keys.{AreKept, AreReady, sort_key_of};
 ghost use Rattle.query_control.specs.Parts as part;
 ghost use Rattle.query_control.specs.Lasting.{kept_grows};
 
+use crate::condition::Condition;
 use crate::forms::Forms;
 use crate::walk::{AtTuple, Walk};
 use evaluation::{Environment, Evaluation, Sequence, Variables};
@@ -31,7 +32,7 @@ impl<F: Fn(&mut Evaluation, &Expr, &Environment) -> Result<Sequence, ValueFault>
         &self,
         run: &mut Evaluation,
         clauses: &[Clause<Expr>],
-        condition: &Option<Boxed<Expr>>,
+        condition: &Condition,
         keys: &[SortKey<Expr>],
         body: &Boxed<Expr>,
         env: &Environment,
@@ -51,7 +52,7 @@ impl<F: Fn(&mut Evaluation, &Expr, &Environment) -> Result<Sequence, ValueFault>
         &self,
         run: &mut Evaluation,
         clauses: &[Clause<Expr>],
-        condition: &Option<Boxed<Expr>>,
+        condition: &Condition,
         keys: &[SortKey<Expr>],
         env: &Environment<'f, '_>,
     ) -> Result<Tuples<'f>, ValueFault>
@@ -171,7 +172,7 @@ impl<F: Fn(&mut Evaluation, &Expr, &Environment) -> Result<Sequence, ValueFault>
 struct Keeping<'w, 'f, F> {
     forms: &'w Forms<F>,
     env: &'w Environment<'f, 'w>,
-    condition: &'w Option<Boxed<Expr>>,
+    condition: &'w Condition<'w, 'w>,
     keys: &'w [SortKey<Expr>],
 }
 
