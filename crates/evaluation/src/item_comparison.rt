@@ -83,7 +83,7 @@ impl<'x> ItemComparison<'x> {
         }))
     }
 
-    /// The item for which the variable stands, where that was bound last, to one item.
+    /// The item for which the variable stands, where that was bound last, to one item; `None` elsewhere, and where the subject is the context item.
     pub fn item_in<'v>(&self, variables: &'v Variables) -> Option<&'v Item>
         ensures { IfSome result (λ item. (env : Environment) → env.variables ≡ variables.now → StandsFor self.now.subject item.now env) }
     {
@@ -93,8 +93,9 @@ impl<'x> ItemComparison<'x> {
         }
     }
 
-    /// Whether the comparison holds of an item, as the expression says where what is its subject stands for that item. Codes: PXQ0002 where a string
-    /// value is too long, no turn is left, or too little work; FORG0001 and XPTY0004 as of a pair of a general comparison.
+    /// Whether the comparison holds of an item: what the expression gives in each environment in which its subject stands for that item, for the same
+    /// turn and work. Faults: `Memory`; `Code` with PXQ0002 where the item's string value is too long, no turn is left, or too little work, with
+    /// FORG0001 where an untyped value does not read as the literal's integer, or with XPTY0004 where the two are of different types.
     pub fn holds(&self, run: &mut Evaluation, item: &Item) -> Result<bool, ValueFault>
         requires there { IsThere (trees_of run.old) item.now }
         ensures { (env : Environment) → StandsFor self.now.subject item.now env → Gives (mean self.now.expression env) run.old (said result) run.new }

@@ -19,13 +19,13 @@ use std::marker::Model;
 use trees::{Axis, NodeId};
 use values::Item;
 
-/// For fewer nodes than these it isn't tried.
+/// The children of fewer nodes than these are gone through.
 const FEWEST_NODES: usize = 8;
 
-/// So many elements may be listed for each node, so that it is told soon that there are too many.
+/// Where more elements than so many for each node are listed, no child is counted, so that what gains nothing costs next to nothing.
 const ELEMENTS_A_NODE: usize = 4;
 
-/// To put a listed element among the children of its parent takes as long as going through so many children.
+/// How many children are gone through in the time in which one element is put among those of its parent.
 const CHILDREN_AN_ELEMENT: u64 = 8;
 
 /// Nodes by the nodes whose children they are. Contracts see them as lists, each with the node that it is of.
