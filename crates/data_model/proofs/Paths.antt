@@ -1,41 +1,11 @@
--- Paths grow by one node at each step down, and what two of them share is found by going up.
-use Rattle.std.proofs.Common.{◌≡◌, ◌≢◌, ℕ, ◌+◌, ◌≤◌, ◌<◌, ◌&&◌, true, false, List, [], ◌∷◌, ◌++◌, length, cond, eqb, ltb, refl, ap, sym, ◌∙◌, arith, ⊎_elim, ◌⊎◌, inl, inr, Option, Some, None, IsSome, subst, Result, Ok, Err}
-use Rattle.std.specs.Prelude.{OkIff, min}
-use Rattle.std.specs.Result.{result_unwrap_or}
-use Rattle.std.proofs.lemmas.Bool.{cases_lt}
-use Rattle.std.proofs.lemmas.Bool.Decides.{nat_tests, eqb_tells}
-use Rattle.data_model.specs.Trees.{Trees, no_trees, tree, Content, find, find_below, first, parent_at, parent_of, count, size, height}
+-- Paths grow by one node at each step down.
+use Rattle.std.proofs.Common.{◌≡◌, ℕ, ◌+◌, ◌≤◌, ◌<◌, false, List, [], ◌∷◌, ◌++◌, length, eqb, refl, ap, sym, ◌∙◌, arith, ⊎_elim, ◌⊎◌, inl, inr, Option, Some, None, IsSome, subst}
+use Rattle.std.proofs.lemmas.Bool.Decides.{eqb_tells}
+use Rattle.data_model.specs.Trees.{Trees, no_trees, tree, Content, find, find_below, first, parent_at, parent_of, count, size}
 use Rattle.data_model.specs.Walks.{depth_of}
-use Rattle.data_model.specs.Paths.{path_of, shared, steps}
+use Rattle.data_model.specs.Paths.{path_of}
 use Rattle.data_model.proofs.Weights.{eqb-same}
 use Rattle.data_model.proofs.Climbs.{AreDistinct, any-tells, find-absent, find-present, first-some, there-counts}
-
--- ---- what two lists share
-pub shared-same : (l : List ℕ) → shared l l ≡ length l
-shared-same [] = refl
-shared-same (x ∷ l) = rw (eqb-same x) (omega (arith, shared-same l))
-
--- one more at the end of a list counts for nothing where the other is no longer than the list was
-pub shared-last : (n : ℕ) (l m : List ℕ) → length m ≤ length l → shared (l ++ n ∷ []) m ≡ shared l m
-shared-last n [] [] h = refl
-shared-last n [] (y ∷ m) h = absurd (omega arith)
-shared-last n (x ∷ l) [] h = refl
-shared-last n (x ∷ l) (y ∷ m) h = ap (λ k. cond (eqb x y) (1 + k) 0) (shared-last n l m (omega arith))
-
-pub shared-swap : (l m : List ℕ) → shared l m ≡ shared m l
-shared-swap [] [] = refl
-shared-swap [] (y ∷ m) = refl
-shared-swap (x ∷ l) [] = refl
-shared-swap (x ∷ l) (y ∷ m) =
-    ⊎_elim (λ t. (let z : eqb y x ≡ true = ap (λ k. eqb y k) t.1 ∙ eqb-same y in rw (t.0, z) (ap (λ k. 1 + k) (shared-swap l m))))
-    (λ t. ⊎_elim (λ u. absurd (t.1 (sym u.1))) (λ u. rw (t.0, u.0) refl) (eqb_tells y x)) (eqb_tells x y)
-
--- two others at the ends of two lists of one length
-pub shared-both : (m n : ℕ) (l k : List ℕ) → length l ≡ length k → m ≢ n → shared (l ++ m ∷ []) (k ++ n ∷ []) ≡ shared l k
-shared-both m n [] [] h ne = ⊎_elim (λ t. absurd (ne t.1)) (λ t. rw t.0 refl) (eqb_tells m n)
-shared-both m n [] (y ∷ k) h ne = absurd (omega arith)
-shared-both m n (x ∷ l) [] h ne = absurd (omega arith)
-shared-both m n (x ∷ l) (y ∷ k) h ne = ap (λ j. cond (eqb x y) (1 + j) 0) (shared-both m n l k (omega arith) ne)
 
 pub length-last : (n : ℕ) (l : List ℕ) → length (l ++ n ∷ []) ≡ length l + 1
 length-last n [] = refl
@@ -50,14 +20,6 @@ path-length i (tree c bs cs rest) h =
     ⊎_elim (λ v. rw (t.0, v.0) (omega (arith, path-length i bs v.1)))
     (λ v. ⊎_elim (λ x. rw (t.0, v.0, x.0) (omega (arith, path-length i cs x.1))) (λ x. rw (t.0, v.0, x.0) (path-length i rest (omega arith))) (any-tells (count i cs)))
     (any-tells (count i bs)))) (eqb_tells i c.identity)
-
-pub path-height : (i : ℕ) (ts : Trees) → length (path_of i ts) ≤ height ts
-path-height i no_trees = omega arith
-path-height i (tree c bs cs rest) =
-    ⊎_elim (λ t. rw t.0 (omega arith))
-    (λ t. ⊎_elim (λ v. rw (t.0, v.0) (omega (arith, path-height i bs)))
-    (λ v. ⊎_elim (λ x. rw (t.0, v.0, x.0) (omega (arith, path-height i cs))) (λ x. rw (t.0, v.0, x.0) (omega (arith, path-height i rest))) (any-tells (count i cs)))
-    (any-tells (count i bs))) (eqb_tells i c.identity)
 
 pub depth-size : (i : ℕ) (ts : Trees) → depth_of i ts ≤ size ts
 depth-size i no_trees = omega arith
@@ -152,53 +114,3 @@ pub path-top : (i : ℕ) (ts : Trees) → AreDistinct ts → IsSome (find i ts) 
 path-top i ts d there is =
     ⊎_elim (λ l. (let here = path-length i ts (there-counts i ts there) in let one = ap length l.1 in (l.1, omega arith)))
     (λ (r : (q : ℕ) × Under None i q ts). (let z : None ≡ Some r.0 = sym is ∙ r.1.parent in cc)) (path-steps None i ts d (there-counts i ts there))
-
-pub path-zero : (i : ℕ) (ts : Trees) → AreDistinct ts → IsSome (find i ts) → depth_of i ts ≡ 0 → path_of i ts ≡ i ∷ []
-path-zero i ts d there zero_deep =
-    ⊎_elim (λ l. l.1)
-    (λ (r : (q : ℕ) × Under None i q ts). (let here = path-length i ts (there-counts i ts there) in
-    let up = path-length r.0 ts r.1.there in
-    let more = ap length r.1.path ∙ length-last i (path_of r.0 ts) in absurd (omega arith)))
-    (path-steps None i ts d (there-counts i ts there))
-
-pub shared-most : (xs ys : List ℕ) → shared xs ys ≤ length xs
-shared-most [] ys = omega arith
-shared-most (x ∷ xs) [] = omega arith
-shared-most (x ∷ xs) (y ∷ ys) = ⊎_elim (λ t. rw t.0 (omega (arith, shared-most xs ys))) (λ t. rw t.0 (omega arith)) (eqb_tells x y)
-
--- ---- how many steps, once both are at one level
-pub steps-level : (n : ℕ) (xs ys : List ℕ) → n ≤ length xs → n ≤ length ys → (length xs ≤ n) ⊎ (length ys ≤ n) → shared xs ys ≡ n → steps xs ys ≡ n
-steps-level n xs ys hx hy ends is =
-    let off : (ltb (shared xs ys) (length xs) && ltb (shared xs ys) (length ys)) ≡ false = ⊎_elim (λ (l : length xs ≤ n). rw is (grind (arith, nat_tests))) (λ (l : length ys ≤ n). rw is (grind (arith, nat_tests))) ends in
-    rw (off, is) (omega arith)
-
-pub steps-more : (n : ℕ) (xs ys : List ℕ) → n < length xs → n < length ys → shared xs ys ≡ n → steps xs ys ≡ n + 1
-steps-more n xs ys hx hy is =
-    let on : (ltb (shared xs ys) (length xs) && ltb (shared xs ys) (length ys)) ≡ true = rw is (grind (arith, nat_tests)) in
-    rw (on, is) refl
-
--- two nodes that were lifted to one level share what they did before
-module _ (pa pb pf ps : List ℕ) (n : ℕ) (ef : length pf ≡ n) (es : length ps ≡ n) (least : (length pa ≡ n) ⊎ (length pb ≡ n)) (ka : (path : List ℕ) → length path ≤ n → shared pa path ≡ shared pf path) (kb : (path : List ℕ) → length path ≤ n → shared pb path ≡ shared ps path) where
-  pub lifted-shared : shared pa pb ≡ shared pf ps
-  lifted-shared =
-      ⊎_elim (λ (e : length pa ≡ n). shared-swap pa pb ∙ kb pa (omega arith) ∙ shared-swap ps pa ∙ ka ps (omega arith))
-      (λ (e : length pb ≡ n). ka pb (omega arith) ∙ shared-swap pf pb ∙ kb pf (omega arith) ∙ shared-swap ps pf) least
-
-  pub lifted-same : n ≤ length pa → n ≤ length pb → pf ≡ ps → steps pa pb ≡ shared pf ps
-  lifted-same ha hb e =
-      let all : shared pf ps ≡ n = ap (shared pf) (sym e) ∙ shared-same pf ∙ ef in
-      steps-level n pa pb ha hb (⊎_elim (λ (t : length pa ≡ n). inl (omega arith)) (λ (t : length pb ≡ n). inr (omega arith)) least) (lifted-shared ∙ all) ∙ sym all
-
-  pub lifted-apart : n ≤ length pa → n ≤ length pb → shared pf ps < n → steps pa pb ≡ shared pf ps + 1
-  lifted-apart ha hb less = steps-more (shared pf ps) pa pb (omega arith) (omega arith) lifted-shared
-
-pub steps-most : (xs ys : List ℕ) → steps xs ys ≤ length xs
-steps-most xs ys =
-    let most = shared-most xs ys in
-    ⊎_elim (λ (t : shared xs ys < length xs). elim (ltb (shared xs ys) (length xs) && ltb (shared xs ys) (length ys)) as (λ v. shared xs ys + cond v 1 0 ≤ length xs) [ true ↦ omega arith | false ↦ omega arith ])
-    (λ (t : length xs ≤ shared xs ys). (let off : ltb (shared xs ys) (length xs) ≡ false = grind (arith, nat_tests) in rw off (omega arith))) (cases_lt (shared xs ys) (length xs))
-
--- a number that is made a u32, or else the greatest
-pub unwrap-min : {E : Type 0} (r : Result ℕ E) (s : ℕ) → OkIff r (s < 4294967296) s → result_unwrap_or r 4294967295 ≡ min s 4294967295
-unwrap-min (Ok x) s h = (let e = h.1 in let l = h.0 in omega arith)
-unwrap-min (Err e) s h = ⊎_elim (λ (t : s < 4294967296). absurd (h t)) (λ (t : 4294967296 ≤ s). omega arith) (cases_lt s 4294967296)

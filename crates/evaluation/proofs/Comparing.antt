@@ -1,18 +1,16 @@
 -- A comparison of an item with a literal comes to what its expression means.
-use Rattle.std.proofs.Common.{◌≡◌, ◌∙◌, ℕ, zero, suc, ◌+◌, ◌-◌, pos, unsigned_abs, nat_le, Bool, true, false, cond, List, [], ◌∷◌, ◌++◌, length, Option, Some, None, Result, Ok, Err, refl, ap, sym, rules, arith}
+use Rattle.std.proofs.Common.{◌≡◌, ◌∙◌, ℕ, zero, suc, ◌+◌, ◌-◌, unsigned_abs, nat_le, Bool, true, cond, List, [], ◌∷◌, length, Option, Some, None, Result, Ok, Err, refl, ap, sym, rules, arith}
 use Rattle.std.specs.Str.{bytes_eq}
 use Rattle.std.proofs.lemmas.Bool.Decides.{nat_tests}
 use Rattle.std.proofs.lemmas.Slice.Eq.{bytes_eq-Decides}
 use Rattle.fault_codes.specs.declared.code.Code.{Code}
 use Rattle.fault_codes.specs.declared.code.Code.TheVariants.{XPST0008, PXQ0002}
-use Rattle.values.specs.Arithmetic.{in_range}
 use Rattle.values.specs.Atoms.{or_fault}
 use Rattle.values.specs.Comparisons.{general_compared, pairs_compared, tried, tried_work}
 use Rattle.values.specs.Work.{text_of, text_work}
 use Rattle.values.specs.declared.atom.Atom.{Atom}
 use Rattle.values.specs.declared.atom.Atom.TheVariants as atom
 use Rattle.values.specs.declared.atom.Item.{Item}
-use Rattle.values.specs.declared.atom.Item.TheVariants as item
 use Rattle.values.specs.declared.compare.Comparison.{Comparison}
 use Rattle.values.specs.declared.fault.ValueFault.{ValueFault}
 use Rattle.values.specs.declared.fault.ValueFault.TheVariants as fault
@@ -25,9 +23,9 @@ use Rattle.query_grammar.specs.declared.ast.Expr.TheVariants as e
 use Rattle.query_meaning.specs.Environment.{Bound, Environment, Focus, looked_at, value_in}
 use Rattle.query_meaning.specs.Meaning.{mean}
 use Rattle.query_meaning.specs.Operators.{between_atoms, chain, compared_by_pairs}
-use Rattle.query_meaning.specs.Running.{M, Run, and_then, ◌>>=◌, atom as atom_at, atoms, come_to, counted, each, pure, turns, work}
+use Rattle.query_meaning.specs.Running.{M, Run, and_then, ◌>>=◌, atom as atom_at, atoms, come_to, counted, pure, turns, work}
 use Rattle.query_meaning.specs.Sequences.{context_item, number, one, string}
-use Rattle.evaluation.specs.Compared.{IsBoundLast, IsContext, IsLiteral, StandsFor, comparison_expression, item_holds, item_with, literal_expression, pair, said, sides, subject_expression, subject_work}
+use Rattle.evaluation.specs.Compared.{IsBoundLast, IsContext, IsLiteral, StandsFor, comparison_expression, item_holds, item_with, literal_expression, pair, said, subject_expression, subject_work}
 use Rattle.evaluation.specs.Gives.{Any, Gives, GivesIn, Stand}
 use Rattle.evaluation.specs.declared.item_comparison.Subject.{Subject}
 use Rattle.evaluation.specs.declared.item_comparison.Subject.TheVariants as subject

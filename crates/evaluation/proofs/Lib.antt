@@ -4,4 +4,5 @@ pub mod Counted
 pub mod Each
 pub mod Limits
 pub mod Looking
+pub mod PaidAtoms
 pub mod Unfolded

@@ -3,7 +3,10 @@
 ghost use Rattle.std.specs.Prelude.{◌≡◌, ◌≤◌, ◌<◌, ◌^◌, ◌-◌, ℕ, [], length, option_copied, Ok, Err, IfOk, IfErr, IfSome, IfNone, IsSome, IsTrue, OnOk, OnErr, IsErrOf, ◌+◌, ◌↔◌, map};
 ghost use Rattle.data_model.specs.Tree.{trees_of_tree};
 ghost use Rattle.data_model.specs.Changes.{pick};
-ghost use Rattle.data_model.specs.Trees.{count, find, no_trees, size};
+ghost use Rattle.data_model.specs.Limits.{most_height};
+ghost use Rattle.data_model.specs.Trees.{count, find, height, no_trees, size};
+ghost use Rattle.copied_rows.specs.Copies.{WhereMade, WhereNot};
+ghost use Rattle.trees.specs.Grown.{AllStand, picked, texts_work, with_node};
 ghost use Rattle.pending.specs.Primitives.{primitive_term};
 ghost use Rattle.shelves.specs.Shelf.{ComesAfter};
 ghost use Rattle.values.specs.Comparisons.{general_compared, pairs_compared, tried, tried_work};
@@ -28,10 +31,10 @@ use shelves::Shelf;
 use std::alloc::{AllocError, Global};
 use std::marker::Model;
 use std::{mem, slice};
-use trees::{Forest, NodeId, Tree};
+use trees::{CopyLimits, Forest, Kind, NodeId, Tree};
 use values::{
-    Atom, Comparison, Item, Text, ValueFault, atom_work, atomize_item, compare_general,
-    compare_value, plain_atom,
+    Atom, Atomizer, Comparison, Item, Text, ValueFault, atom_work, compare_general, compare_value,
+    paid_atom,
 };
 
 /// The most turns in an evaluation (our own limit).
@@ -42,6 +45,9 @@ const MOST_WORK: u64 = 100_000_000;
 
 /// The work of a node that is put in document order, where it is not the only one.
 const ORDERING: u64 = 32;
+
+/// The most levels of a tree (our own limit).
+const MOST_HEIGHT: u64 = 60;
 
 /// How many bytes of a copied text are one unit of work.
 const BYTES_A_UNIT: u64 = 16;
@@ -245,6 +251,7 @@ impl<'a> Evaluation<'a> {
     }
 
     /// The same, in a list that more can be appended to.
+    #[tactic(auto, using(crate::proofs::PaidAtoms::goes_paid, crate::proofs::PaidAtoms::stops_paid))]
     pub fn atom_list(&mut self, items: &Sequence) -> Result<Vec<Atom>, ValueFault>
         requires stand { Stand items.now self.old }
         ensures ok { IfOk result (λ v. atoms items.now self.old ≡ Ok (v.items, self.new)) }
@@ -252,9 +259,11 @@ impl<'a> Evaluation<'a> {
         ensures same { self.new ≡ record self.old { work = self.new.work } }
     {
         let mut values = Vec::with_capacity(self.alloc, items.as_slice().len())?;
+        let mut atomizer = Atomizer::new(self.alloc, &self.shelf, self.work);
         for item in items.as_slice() {
-            values.push(self.atom(item)?)?;
+            values.push(atomizer.atom(item)?)?;
         }
+        self.work = atomizer.work();
         Ok(values)
     }
 
@@ -265,49 +274,10 @@ impl<'a> Evaluation<'a> {
         ensures same { self.new ≡ record self.old { work = self.new.work } }
         ensures judged { Judged (work (nodes_of (trees_of self.old) item.now) self.old) result }
     {
-        let node = match item {
-            Item::Atomic(value) => {
-                self.spend(atom_work(value))?;
-                return Ok(value.clone()?);
-            }
-            Item::Node(node) => *node,
-        };
-        if let Some(plain) = self.shelf.plain_value(node) {
-            // What stands in one text is read by the look-ups that count its nodes too.
-            let nodes = plain.size;
-            if self.work < nodes {
-                return Err(ValueFault::Code(Code::PXQ0002));
-            }
-            let atom = plain_atom(plain)?;
-            self.spend(nodes)?;
-            self.spend(atom_work(&atom))?;
-            return Ok(atom);
-        }
-        self.gathered_atom(item)
-    }
-
-    /// The same, whatever the item is.
-    fn gathered_atom(&mut self, item: &Item) -> Result<Atom, ValueFault>
-        requires there { IsThere (trees_of self.old) item.now }
-        ensures given { GivesIn Any (atom item.now) self.old result self.new }
-        ensures same { self.new ≡ record self.old { work = self.new.work } }
-        ensures judged { Judged (work (nodes_of (trees_of self.old) item.now) self.old) result }
-    {
-        self.spend(self.nodes_of(item))?;
-        let atom = atomize_item(self.alloc, &self.shelf, item)?;
-        self.spend(atom_work(&atom))?;
-        Ok(atom)
-    }
-
-    /// How many nodes the tree of a node has; none where the item is an atomic value.
-    fn nodes_of(&self, item: &Item) -> u64
-        requires there { IsThere (trees_of self.now) item.now }
-        ensures { result ≡ nodes_of (trees_of self.now) item.now }
-    {
-        match item {
-            Item::Node(id) => self.shelf.size_of(*id),
-            Item::Atomic(_) => 0,
-        }
+        let mut work = self.work;
+        let atom = paid_atom(self.alloc, &self.shelf, item, &mut work);
+        self.work = work;
+        atom
     }
 
     /// Whether a general comparison holds of some pair; each pair that is tried takes a turn, and its work. Faults: `Memory`; `Code` with
@@ -442,6 +412,45 @@ impl<'a> Evaluation<'a> {
         ensures refused { OnErr result (self.new ≡ self.old) }
     {
         self.shelf.plant(self.alloc, tree)
+    }
+
+    /// Makes a node of that kind and name with no parent, no attributes and no text, which takes the next identity and stands after all trees. Its children are
+    /// copies of the trees of some nodes, which take the identities after it in document order, and the work of their texts. Each tree is gone through
+    /// once.
+    ///
+    /// `None` where that would take more than is left, or the node would have more than 60 levels; then, and where memory is refused, nothing changes.
+    #[tactic(auto, unfolding(query_meaning::specs::Running::most_work))]
+    pub fn grow(
+        &mut self,
+        kind: Kind,
+        name: &str,
+        nodes: &[NodeId],
+    ) -> Result<Option<NodeId>, AllocError>
+        requires stand { AllStand nodes.now (trees_of self.old) }
+        ensures root { WhereMade result (λ root. root ≡ self.old.shelf.own.next) }
+        ensures made { WhereMade result
+            (λ _. self.new
+            ≡ record self.old {
+              shelf = record self.old.shelf { own = with_node kind name.now (picked nodes.now (trees_of self.old)) self.old.shelf.own };
+              work = self.new.work;
+            }) }
+        ensures work { WhereMade result (λ _. self.new.work + texts_work nodes.now (trees_of self.old) ≡ self.old.work) }
+        ensures end { WhereMade result (λ _. self.new.shelf.own.next ≤ self.old.shelf.lent.next + most_nodes) }
+        ensures high { WhereMade result (λ _. height (picked nodes.now (trees_of self.old)) + 1 ≤ most_height) }
+        ensures refused { WhereNot result (self.new ≡ self.old) }
+    {
+        let limits = CopyLimits {
+            end: self.most_next,
+            work: self.work,
+            levels: MOST_HEIGHT - 1,
+        };
+        let root = self.shelf.next();
+        let left = self.shelf.grow(self.alloc, kind, name, nodes, limits)?;
+        let Some(left) = left else {
+            return Ok(None);
+        };
+        self.work = left;
+        Ok(Some(root))
     }
 
     /// Makes a copy of the tree of a node, with no parent, which stands after all trees: its nodes take the next identities, in document

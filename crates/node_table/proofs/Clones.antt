@@ -1,5 +1,5 @@
 -- Clones of rows.
-use Rattle.std.proofs.Common.{◌≡◌, ℕ, List, [], ◌∷◌, refl, ap, rules, Option, Some, None, Bool, true, false, cond, MatchOption, option_map, nat_eq}
+use Rattle.std.proofs.Common.{◌≡◌, ℕ, List, [], ◌∷◌, refl, ap, Option, Some, None, Bool, true, false, cond, MatchOption, option_map, nat_eq}
 use Rattle.std.specs.Map.{lookup}
 use Rattle.row_pages.specs.Rows.{Term}
 use Rattle.std.specs.contracts.prelude.U64Clone as number

@@ -22,4 +22,5 @@ pub mod Listings
 pub mod Ups
 pub mod InPlace
 pub mod Views
+pub mod PlainValues
 pub mod Rising

@@ -1,12 +1,15 @@
 //! Nodes that are looked up one after the other.
 
-ghost use Rattle.std.specs.Prelude.{◌≡◌};
+ghost use Rattle.std.specs.Prelude.{◌≡◌, IfSome, IsSome};
 ghost use Rattle.data_model.specs.Trees.{find};
 ghost use Rattle.data_model.specs.Views.{Views};
 ghost use Rattle.node_table.specs.Flat.{IsTableOf};
 ghost use Rattle.node_table.specs.Cursors.{Names};
+ghost use Rattle.node_table.specs.Plain.{IsPlainValue};
 ghost use Rattle.node_table.specs.Rows.{table_of, trees_of};
 
+use super::plain;
+use super::plain::PlainValue;
 use super::table::{Row, Rows};
 use data_model::{Kind, NodeId, NodeView};
 use row_pages::Cursor;
@@ -84,5 +87,14 @@ impl<'r> NodeCursor<'r> {
             attributes: row.attributes.as_slice(),
             children: row.children.as_slice(),
         })
+    }
+
+    /// What the typed value of a node is made of, where its string value stands in one text, as `plain::plain_value` finds it; `None` elsewhere.
+    pub fn plain_value(&mut self, id: NodeId) -> Option<PlainValue<'r>>
+        requires { IsSome (find id self.old) }
+        ensures plain { IfSome result (IsPlainValue self.old id) }
+        ensures same { self.new ≡ self.old }
+    {
+        plain::plain_value(&mut self.rows, id, self.next)
     }
 }

@@ -3,7 +3,6 @@
 //! Contracts speak of tables (`specs/Flat.antt`), of the numbers that rows carry (`specs/Labels.antt`), and of nested trees.
 #![tactic(auto)]
 
-pub mod copy;
 pub mod cursor;
 pub mod exchange;
 pub mod label;

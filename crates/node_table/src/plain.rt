@@ -6,8 +6,8 @@ ghost use Rattle.node_table.specs.Flat.{Entry, read_trees};
 ghost use Rattle.node_table.specs.Plain.{IsPlain, IsTextBelow, IsLeafText};
 ghost use Rattle.node_table.specs.Rows.{table_of, entry_of_row};
 
-use super::table::{Row, Rows};
-use super::walk::count;
+use super::table::Row;
+use super::walk::count_by;
 use data_model::{Kind, NodeId};
 use row_pages::Cursor;
 use shared_texts::Text;
@@ -32,24 +32,29 @@ struct TextBelow<'r> {
 
 /// What the value of a node is made of, where it stands in one text: that of an attribute, a text, a comment or an instruction, of a node with
 /// no children, and of one whose only child is a text. `None` elsewhere, and where there is no row. The tree is read so many levels down.
-pub fn plain_value(rows: &Rows, id: NodeId, levels: u64) -> Option<PlainValue<'_>>
+pub(crate) fn plain_value<'r>(
+    cursor: &mut Cursor<'r, Row>,
+    id: NodeId,
+    levels: u64,
+) -> Option<PlainValue<'r>>
     requires deep { 1 ≤ levels }
-    requires few { size (read_trees (levels + 1) (table_of rows.now) (id ∷ [])) < 2 ^ 64 }
-    ensures { IfSome result (IsPlain (table_of rows.now) levels id) }
+    requires few { size (read_trees (levels + 1) (table_of cursor.old) (id ∷ [])) < 2 ^ 64 }
+    ensures plain { IfSome result (IsPlain (table_of cursor.old) levels id) }
+    ensures same { cursor.new ≡ cursor.old }
 {
-    let mut cursor = rows.cursor();
     let row = cursor.seek(id.number())?;
-    let below = text_below(&mut cursor, row)?;
+    let below = text_below(cursor, row)?;
     Some(PlainValue {
         kind: row.kind,
         text: below.text,
-        size: 1 + count(rows, &row.attributes, levels) + below.nodes,
+        size: 1 + count_by(cursor, &row.attributes, levels) + below.nodes,
     })
 }
 
 /// The string value of a row, where it stands in one text, and how many nodes stand below its children, these counted.
 fn text_below<'r>(cursor: &mut Cursor<'r, Row>, row: &'r Row) -> Option<TextBelow<'r>>
-    ensures { IfSome result (IsTextBelow (table_of cursor.old) (entry_of_row row.now)) }
+    ensures below { IfSome result (IsTextBelow (table_of cursor.old) (entry_of_row row.now)) }
+    ensures same { cursor.new ≡ cursor.old }
 {
     match row.children.as_slice() {
         // The value is the empty text, as is that of such a row.
@@ -68,7 +73,8 @@ fn text_below<'r>(cursor: &mut Cursor<'r, Row>, row: &'r Row) -> Option<TextBelo
 
 /// The text of a node of the kind of texts with nothing below it; `None` of another one, and where there is no row.
 fn leaf_text<'r>(cursor: &mut Cursor<'r, Row>, id: NodeId) -> Option<&'r Text>
-    ensures { IfSome result (λ s. IsLeafText (table_of cursor.old) id s.now) }
+    ensures text { IfSome result (λ s. IsLeafText (table_of cursor.old) id s.now) }
+    ensures same { cursor.new ≡ cursor.old }
 {
     let row = cursor.seek(id.number())?;
     if row.kind.is_text() && row.attributes.is_empty() && row.children.is_empty() {

@@ -68,16 +68,25 @@ pub fn count(rows: &Rows, ids: &[NodeId], levels: u64) -> u64
     requires { size (read_trees levels (table_of rows.now) ids.now) < 2 ^ 64 }
     ensures { result ≡ size (read_trees levels (table_of rows.now) ids.now) }
 {
+    count_by(&mut rows.cursor(), ids, levels)
+}
+
+/// The same, by a cursor over the rows.
+pub(crate) fn count_by(cursor: &mut Cursor<'_, Row>, ids: &[NodeId], levels: u64) -> u64
+    requires { size (read_trees levels (table_of cursor.old) ids.now) < 2 ^ 64 }
+    ensures count { result ≡ size (read_trees levels (table_of cursor.old) ids.now) }
+    ensures same { cursor.new ≡ cursor.old }
+{
     let mut nodes = 0;
     if levels == 0 {
         return nodes;
     }
     for id in ids {
-        let Some(row) = rows.get(id.number()) else {
+        let Some(row) = cursor.seek(id.number()) else {
             return nodes;
         };
-        nodes += 1 + count(rows, &row.attributes, levels - 1);
-        nodes += count(rows, &row.children, levels - 1);
+        nodes += 1 + count_by(cursor, &row.attributes, levels - 1);
+        nodes += count_by(cursor, &row.children, levels - 1);
     }
     nodes
 }

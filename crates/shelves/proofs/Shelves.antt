@@ -15,20 +15,25 @@ use Rattle.node_table.specs.declared.plain.PlainValue.{PlainValue}
 use Rattle.shelves.specs.Parted.{IsParted}
 use Rattle.data_model.specs.Tree.{TreeTerm, trees_of_tree}
 use Rattle.data_model.specs.declared.node.Kind.TheVariants.{Document}
+use Rattle.data_model.specs.declared.node.Kind.{Kind}
 use Rattle.data_model.specs.declared.node.Part.{Part}
 use Rattle.data_model.specs.Order.{identities, precedes}
 use Rattle.data_model.specs.Walks.{held, seen, or_else}
+use Rattle.copied_rows.specs.Copies.{WhereMade, WhereNot, grown}
 use Rattle.trees.specs.Forest.{ForestTerm, IsForest, IsDocument}
+use Rattle.trees.specs.Grown.{with_node}
 use Rattle.shelves.specs.Shelf.{ShelfTerm, ComesAfter, IsShelf, shelf_trees}
 use Rattle.data_model.proofs.Weights.{weigh-append, eqb-same}
+use Rattle.node_table.proofs.Copies.{renumbered-within}
 use Rattle.node_table.proofs.Plants.{past-most}
 use Rattle.node_table.proofs.Puts.{weigh-moved}
 use Rattle.node_table.proofs.Takes.{ltb-no}
 use Rattle.data_model.proofs.Climbs.{AreDistinct, any-tells, find-absent, there-counts}
 use Rattle.trees.proofs.CallerLemmas.{find-append}
+use Rattle.trees.proofs.Copied.{grown-copy}
 use Rattle.data_model.proofs.Firsts.{before-seen, held-identities, seen-none, seen-a, seen-b, seen-first}
 use Rattle.data_model.proofs.Scans.{seen-append}
-use Rattle.trees.proofs.Lent.{find-lent, find-own, has-counts, has-not-counts, lent-apart}
+use Rattle.trees.proofs.Lent.{find-lent, find-own, has-counts, has-not-counts, lent-apart, pick-lent, pick-own}
 
 -- ---- what is known of both
 pub shelf-facts : (u v : ForestTerm) → IsForest u → IsForest v → ComesAfter u v → IsShelf (record { lent = u; own = v })
@@ -94,6 +99,12 @@ module _ (n i : ℕ) (ts us : Trees) (h : IsParted n ts us) where
 
   pub parted-own : n ≤ i → find i (append ts us) ≡ find i us
   parted-own l = find-own i ts us (⊎_elim (λ t. (let m = h.below i t.1 in absurd (omega (arith, l, m)))) (λ t. t.1) (any-tells (count i ts)))
+
+  pub parted-pick-lent : i < n → pick i ts ≡ pick i (append ts us)
+  parted-pick-lent l = sym (pick-lent i ts us (⊎_elim (λ t. (let m = h.above i t.1 in absurd (omega (arith, l, m)))) (λ t. t.1) (any-tells (count i us))))
+
+  pub parted-pick-own : n ≤ i → pick i us ≡ pick i (append ts us)
+  parted-pick-own l = sym (pick-own i ts us (⊎_elim (λ t. (let m = h.below i t.1 in absurd (omega (arith, l, m)))) (λ t. t.1) (any-tells (count i ts))))
 
 -- ---- document order
 listing-append : (ts us : Trees) → listing (append ts us) ≡ listing ts ++ listing us
@@ -211,6 +222,18 @@ after-more u v w us n h le later e =
 pub after-either : {A E : Type 0} (r : Result A E) (P : A → Type 0) (u v w : ForestTerm) → ComesAfter u v → ((x : A) → P x → ComesAfter u w) → IfOk r P → OnErr r (w ≡ v) → ComesAfter u w
 after-either (Ok x) P u v w h f made same = f x made
 after-either (Err e) P u v w h f made same = after-same u v w h same
+
+pub after-made : {A E : Type 0} (r : Result (Option A) E) (P : A → Type 0) (u v w : ForestTerm) → ComesAfter u v → ((x : A) → P x → ComesAfter u w) → WhereMade r P → WhereNot r (w ≡ v) → ComesAfter u w
+after-made (Ok (Some x)) P u v w h f made same = f x made
+after-made (Ok None) P u v w h f made same = after-same u v w h same
+after-made (Err e) P u v w h f made same = after-same u v w h same
+
+-- a new node with copies of some trees, with later identities
+pub after-grown : (u v w : ForestTerm) (k : Kind) (name : List ℕ) (us : Trees) → ComesAfter u v → w ≡ with_node k name us v → ComesAfter u w
+after-grown u v w k name us h e =
+    let node : Content = record { identity = v.next; kind = k; name = name; text = [] } in
+    let one = tree node no_trees us no_trees in
+    after-more u v w (grown node us) (v.next + 1 + size us) h (omega arith) (λ j there. (let P : Trees → Type 0 = λ t. 0 < count j t in (renumbered-within v.next j one (subst P (grown-copy node us) there)).0)) e
 
 pub one-leaf : (i : ℕ) (c : Content) → count i (leaf c) ≤ 1
 one-leaf i c = ⊎_elim (λ t. rw t.0 (omega arith)) (λ t. rw t.0 (omega arith)) (eqb_tells i c.identity)

@@ -1,15 +1,17 @@
 //! What changes a shelf: nodes of its own forest are made, copied, moved, taken out, and have another name or text.
 
 ghost use Rattle.std.specs.Prelude.{◌≡◌, ℕ, ◌+◌, ◌<◌, ◌≤◌, ◌^◌, ◌↔◌, IfOk, OnOk, OnErr, IsErrOf, IsSome, string_bytes};
-ghost use Rattle.data_model.specs.Trees.{append, leaf, find, count, size, parent_of};
+ghost use Rattle.data_model.specs.Trees.{append, leaf, find, count, height, size, parent_of};
 ghost use Rattle.data_model.specs.Changes.{with_content, taken_out, all_moved_below, CanAllMoveBelow, pick, renumbered};
 ghost use Rattle.data_model.specs.declared.node.Part.TheVariants.{Attributes, Children};
 ghost use Rattle.shelves.specs.Shelf.{shelf_trees};
 ghost use Rattle.data_model.specs.Tree.{trees_of_tree};
+ghost use Rattle.copied_rows.specs.Copies.{WhereMade, WhereNot};
+ghost use Rattle.trees.specs.Grown.{AllStand, picked, texts_work, with_node};
 
 use super::shelf::Shelf;
 use std::alloc::{AllocError, Global};
-use trees::{Kind, MakeFault, NodeId, Tree};
+use trees::{CopyLimits, Kind, MakeFault, NodeId, Tree};
 
 impl<'a> Shelf<'a> {
     /// Makes an own node with no parent, which takes the next identity.
@@ -153,6 +155,31 @@ impl<'a> Shelf<'a> {
         ensures refused { OnErr result (self.new ≡ self.old) }
     {
         self.own.copy_from(alloc, self.lent, id)
+    }
+
+    /// Makes an own node of that kind and name with no parent, no attributes and no text, which takes the next identity, and whose children are copies of the
+    /// trees of some nodes of either forest. The copies have the identities after it, in document order; each tree is gone through once.
+    ///
+    /// It gives how much work is left. `None` where they would take more than they may; then, and where memory is refused, all stays as it was.
+    pub fn grow(
+        &mut self,
+        alloc: Global,
+        kind: Kind,
+        name: &str,
+        nodes: &[NodeId],
+        limits: CopyLimits,
+    ) -> Result<Option<u64>, AllocError>
+        requires stand { AllStand nodes.now (shelf_trees self.old) }
+        requires end { limits.end ≤ 2 ^ 62 }
+        requires work { limits.work < 2 ^ 59 }
+        ensures made { WhereMade result
+            (λ _. self.new ≡ record self.old { own = with_node kind name.now (picked nodes.now (shelf_trees self.old)) self.old.own }) }
+        ensures work { WhereMade result (λ left. left + texts_work nodes.now (shelf_trees self.old) ≡ limits.work) }
+        ensures end { WhereMade result (λ _. self.new.own.next ≤ limits.end) }
+        ensures high { WhereMade result (λ _. height (picked nodes.now (shelf_trees self.old)) ≤ limits.levels) }
+        ensures refused { WhereNot result (self.new ≡ self.old) }
+    {
+        self.own.grow(alloc, self.lent, kind, name, nodes, limits)
     }
 
     /// Makes a tree of its own an own tree after all others, with no parent and with the identities that it has, which have been

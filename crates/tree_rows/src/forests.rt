@@ -152,7 +152,8 @@ fn copy(alloc: Global, forest: &mut Forest, words: &mut Words<'_>) -> Result<Giv
     if !forest.has(id) {
         return Err(RowFault::NotARow);
     }
-    Given::of(forest.copy(alloc, id))
+    let lent = Forest::empty(alloc, NodeId::new(0));
+    Given::of(forest.copy_from(alloc, &lent, id))
 }
 
 fn raise(forest: &mut Forest, words: &mut Words<'_>) -> Result<Given, RowFault> {

@@ -1,10 +1,12 @@
 -- A forest with a copy of a tree.
-use Rattle.std.proofs.Common.{◌≡◌, ℕ, ◌+◌, ◌≤◌, ◌<◌, [], ◌∷◌, refl, sym, arith, ⊎_elim, Option, Some, None, IsSome, subst, leb, IsTrue, ◌-◌, ◌∙◌}
+use Rattle.std.proofs.Common.{◌≡◌, ℕ, ◌+◌, ◌≤◌, ◌<◌, [], ◌∷◌, refl, sym, arith, ⊎_elim, List, Option, Some, None, IsSome, subst, leb, IsTrue, ◌-◌, ◌∙◌}
 use Rattle.std.proofs.lemmas.Bool.{cases_lt}
 use Rattle.std.proofs.lemmas.Bool.Decides.{nat_tests}
-use Rattle.data_model.specs.Trees.{Trees, no_trees, tree, append, roots, count, size, find}
+use Rattle.data_model.specs.Trees.{Trees, no_trees, tree, Content, append, roots, count, size, find}
+use Rattle.data_model.specs.declared.node.Kind.{Kind}
 use Rattle.data_model.specs.Changes.{renumbered, pick}
 use Rattle.node_table.specs.Flat.{Entry, Table, Holds, read_trees, IsTableOf, IsDocumentEntry}
+use Rattle.copied_rows.specs.Copies.{grown}
 use Rattle.trees.specs.Forest.{ForestTerm}
 use Rattle.node_table.specs.Rows.{table_of}
 use Rattle.trees.specs.Inside.{term_of, AreStanding, IsSound}
@@ -38,6 +40,16 @@ module _ (a : Inside) (v : ForestTerm) (is : term_of a ≡ v) (h : IsSound a) (k
   copy-size = let s = weigh-pick (λ _. 1) k v.trees in let n = now-nodes a v is h in omega arith
 
 -- ---- the forest with the copy
+-- a new node with copies is a copy of that node with the trees below it
+pub grown-copy : (c : Content) (us : Trees) → grown c us ≡ renumbered c.identity (tree c no_trees us no_trees)
+grown-copy c us = let e : c.identity + 1 + 0 ≡ c.identity + 1 = omega arith in rw e refl
+
+pub grown-holds : (g : Table) (k : Kind) (i n : ℕ) (x y : List ℕ) (ts us : Trees) → i ≡ n → x ≡ y → ts ≡ us
+    → Holds g None (grown (record { identity = i; kind = k; name = x; text = [] }) ts) → Holds g None (grown (record { identity = n; kind = k; name = y; text = [] }) us)
+grown-holds g k i n x y ts us number name trees holds =
+    let P : ℕ → List ℕ → Trees → Type 0 = λ j z t. Holds g None (grown (record { identity = j; kind = k; name = z; text = [] }) t) in
+    subst (P n y) trees (subst (λ z. P n z ts) name (subst (λ j. P j x ts) number holds))
+
 module _ (a : Inside) (v : ForestTerm) (is : term_of a ≡ v) (h : IsSound a) where
   pub copy-table : (k : ℕ) (us : Trees) → roots us ≡ k ∷ [] → (g : Table) → ((j : ℕ) → j < a.next → g j ≡ table_of a.rows j) → ((j : ℕ) → a.next + size us ≤ j → g j ≡ None) → Holds g None (renumbered a.next us)
       → IsTableOf g (a.next + size us) (append v.trees (renumbered a.next us))
@@ -48,6 +60,17 @@ module _ (a : Inside) (v : ForestTerm) (is : term_of a ≡ v) (h : IsSound a) wh
       let Q : Trees → Type 0 = λ t. IsTableOf g (a.next + size t) (append v.trees (renumbered a.next t)) in
       let z : P vs = subst P one.is (fresh, holds) in
       subst Q (sym one.is) (IsTableOf-copied (table_of a.rows) g a.next v.trees one.content one.attributes one.children (now-table a v is h) same z.0 z.1)
+
+  -- the forest with a new node and copies below it
+  pub grown-table : (k : Kind) (name : List ℕ) (us : Trees) (g : Table) → let node : Content = record { identity = a.next; kind = k; name = name; text = [] } in
+      ((j : ℕ) → j < a.next → g j ≡ table_of a.rows j) → ((j : ℕ) → a.next + 1 + size us ≤ j → g j ≡ None) → Holds g None (grown node us) → IsTableOf g (a.next + 1 + size us) (append v.trees (grown node us))
+  grown-table k name us g same fresh holds =
+      let node : Content = record { identity = a.next; kind = k; name = name; text = [] } in
+      let one = tree node no_trees us no_trees in
+      let P : Trees → Type 0 = Holds g None in
+      let Q : ℕ → Trees → Type 0 = λ n t. IsTableOf g n (append v.trees t) in
+      let n : a.next + size one ≡ a.next + 1 + size us = omega arith in
+      subst (λ t. Q (a.next + 1 + size us) t) (sym (grown-copy node us)) (subst (λ m. Q m (renumbered a.next one)) n (copy-table a.next one refl g same (λ j l. fresh j (omega arith)) (subst P (grown-copy node us) holds)))
 
   pub copy-standing : (g : Table) → ((j : ℕ) → j < a.next → g j ≡ table_of a.rows j) → AreStanding g a.documents.entries
   copy-standing g same =

@@ -1,5 +1,4 @@
 pub mod Forests
-pub mod InPlace
 pub mod Openings
 pub mod Clones
 pub mod Moves

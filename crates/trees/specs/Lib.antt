@@ -4,3 +4,4 @@ pub mod Drafts
 pub mod Drafted
 pub mod Undo
 pub mod Settled
+pub mod Grown

@@ -27,7 +27,7 @@ use node_plans::plan::Plan;
 use node_table::cursor::NodeCursor;
 use node_table::plain::PlainValue;
 use node_table::table::{Row, Rows};
-use node_table::{plain, tree, walk};
+use node_table::{tree, walk};
 use row_pages::RowPages;
 use std::alloc::{AllocError, Global};
 use std::marker::Model;
@@ -317,7 +317,7 @@ impl Forest {
         requires { IsSome (find id self.now.trees) }
         ensures { IfSome result (IsPlainValue self.now.trees id) }
     {
-        plain::plain_value(&self.rows, id, self.next)
+        self.cursor().plain_value(id)
     }
 
     /// The string value of a node (XQuery 1.0 and XPath 2.0 Data Model, section 5.13).

@@ -10,6 +10,7 @@ mod making;
 mod order;
 mod undo;
 
+pub use copied_rows::CopyLimits;
 pub use data_model::{Axis, Content, Kind, NodeId, NodeView, Tree};
 pub use draft::{Draft, Prepared};
 pub use forest::{Forest, MakeFault};

@@ -1,18 +1,21 @@
 //! What changes a forest: nodes and copies that are made, and lists, names and texts that change. Each lets the index go.
 
 ghost use Rattle.std.specs.Prelude.{◌≡◌, ℕ, ◌+◌, ◌<◌, ◌≤◌, ◌^◌, ◌↔◌, ◌-◌, Some, None, IfOk, OnOk, OnErr, IsErrOf, IsSome, string_bytes, IsTrue, max};
-ghost use Rattle.data_model.specs.Trees.{append, leaf, find, count, size, parent_of};
+ghost use Rattle.data_model.specs.Trees.{append, leaf, find, count, height, size, parent_of};
 ghost use Rattle.data_model.specs.Changes.{with_content, taken_out, all_moved_below, CanAllMoveBelow, pick, renumbered, ranked};
 ghost use Rattle.data_model.specs.declared.node.Part.TheVariants.{Attributes, Children};
 ghost use Rattle.data_model.specs.Tree.{trees_of_tree};
 ghost use Rattle.data_model.specs.Planted.{past};
+ghost use Rattle.copied_rows.specs.Copies.{WhereMade, WhereNot};
+ghost use Rattle.trees.specs.Grown.{AllStand, picked, texts_work, with_node};
 
 use super::forest::{Forest, MakeFault};
+use copied_rows::{CopyLimits, Copying, NewNode};
 use data_model::{Kind, NodeId, Part, Tree};
 use node_table::list::NodeList;
 use node_table::plant::Planted;
 use node_table::table::Row;
-use node_table::{copy, order, plant, table};
+use node_table::{order, plant, table};
 use shared_texts::{Name, Text};
 use std::alloc::{AllocError, Global};
 use std::slice;
@@ -195,7 +198,8 @@ impl Forest {
         }
     }
 
-    /// Makes a copy of the tree of a node of this forest or of a lent one, with no parent, as `copy` does. The identities of this forest's nodes come after all of the lent one's.
+    /// Makes a copy of the tree of a node of this forest or of a lent one, with no parent. Its nodes take the identities from the next one on, in document
+    /// order. The identities of this forest's nodes come after all of the lent one's.
     ///
     /// It gives the copy's root. Where memory is refused (`Memory`) or the next identity would pass 2^62 (`Limit`), all stays as it was.
     pub fn copy_from(
@@ -218,35 +222,63 @@ impl Forest {
             return Err(MakeFault::Limit);
         }
         let first = self.next;
-        let mut next = first;
+        let mut copying = Copying::unlimited(&lent.rows, lent.next, first);
         let rows = &mut self.rows;
-        match copy::copy_all(&lent.rows, rows, alloc, &[id], None, first, &mut next) {
-            Ok(_) => {
-                self.nodes += next - first;
-                self.next = next;
+        match copied_rows::copy_all(&mut copying, rows, alloc, &[id], None, first) {
+            Ok(Some(_)) => {
+                self.nodes += copying.next - first;
+                self.next = copying.next;
                 self.index = None;
                 Ok(NodeId::new(first))
             }
-            Err(_) => {
-                copy::remove_range(&mut self.rows, first, next);
+            _ => {
+                copied_rows::remove_range(&mut self.rows, first, copying.next);
                 Err(MakeFault::Memory)
             }
         }
     }
 
-    /// Makes a copy of the tree of a node, with no parent. Its nodes take the identities from the next one on, in document order.
+    /// Makes a node of that kind and name with no parent, no attributes and no text, which takes the next identity, and whose children are copies of the
+    /// trees of some nodes of this forest or of a lent one. The copies have the identities after it, in document order; each tree is gone through once.
     ///
-    /// It gives the copy's root. Where memory is refused (`Memory`) or the next identity would pass 2^62 (`Limit`), all stays as it was.
-    pub fn copy(&mut self, alloc: Global, id: NodeId) -> Result<NodeId, MakeFault>
-        requires { IsSome (find id self.old.trees) }
-        ensures made { IfOk result
-            (λ i. (i ≡ self.old.next)
-            × (self.new
-            ≡ record self.old { trees = append self.old.trees (renumbered self.old.next (pick id self.old.trees)); next = self.old.next + size (pick id self.old.trees) })) }
-        ensures limit { IsErrOf result MakeFault.Limit ↔ (2 ^ 62 < self.old.next + size (pick id self.old.trees)) }
-        ensures refused { OnErr result (self.new ≡ self.old) }
+    /// It gives how much work is left. `None` where they would take more than they may; then, and where memory is refused, all stays as it was.
+    pub fn grow(
+        &mut self,
+        alloc: Global,
+        lent: &Forest,
+        kind: Kind,
+        name: &str,
+        nodes: &[NodeId],
+        limits: CopyLimits,
+    ) -> Result<Option<u64>, AllocError>
+        requires stand { AllStand nodes.now (append lent.now.trees self.old.trees) }
+        requires later { lent.now.next ≤ self.old.next }
+        requires apart { (i : ℕ) → 0 < count i self.old.trees → lent.now.next ≤ i }
+        requires end { limits.end ≤ 2 ^ 62 }
+        requires work { limits.work < 2 ^ 59 }
+        ensures made { WhereMade result
+            (λ _. self.new ≡ with_node kind name.now (picked nodes.now (append lent.now.trees self.old.trees)) self.old) }
+        ensures work { WhereMade result (λ left. left + texts_work nodes.now (append lent.now.trees self.old.trees) ≡ limits.work) }
+        ensures end { WhereMade result (λ _. self.new.next ≤ limits.end) }
+        ensures high { WhereMade result (λ _. height (picked nodes.now (append lent.now.trees self.old.trees)) ≤ limits.levels) }
+        ensures refused { WhereNot result (self.new ≡ self.old) }
     {
-        self.copy_from(alloc, &Forest::empty(alloc, NodeId::new(0)), id)
+        let name = self.names.name(name)?;
+        let identity = NodeId::new(self.next);
+        let node = NewNode {
+            identity,
+            kind,
+            name,
+        };
+        let rows = &mut self.rows;
+        let grown = copied_rows::grow(&lent.rows, lent.next, rows, alloc, node, nodes, limits)?;
+        let Some(grown) = grown else {
+            return Ok(None);
+        };
+        self.nodes += grown.next - self.next;
+        self.next = grown.next;
+        self.index = None;
+        Ok(Some(grown.work))
     }
 
     /// Makes a tree of its own a tree of the forest, with no parent and with the identities that it has, before the trees of larger ones.

@@ -7,6 +7,7 @@ pub mod Printing
 pub mod Limited
 pub mod Items
 pub mod Inside
+pub mod Paid
 pub mod Operands
 pub mod Faults
 pub mod Examples

@@ -2,6 +2,7 @@
 #![tactic(auto)]
 
 mod atom;
+mod atomizer;
 mod compare;
 mod fault;
 mod laws;
@@ -13,6 +14,7 @@ mod readings;
 mod work;
 
 pub use atom::{Atom, Item, atomize, atomize_item, plain_atom, truth};
+pub use atomizer::{Atomizer, paid_atom};
 pub use compare::{Comparison, compare_general, compare_value};
 pub use fault::ValueFault;
 pub use laws::examples;

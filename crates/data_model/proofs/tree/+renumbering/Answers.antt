@@ -1,4 +1,4 @@
-use Rattle.std.proofs.Common.{arith, length, ◌<◌, ◌≤◌, ◌≡◌, ◌+◌}
+use Rattle.std.proofs.Common.{arith, length, ◌<◌, ◌≤◌}
 use Rattle.data_model.proofs.Numbering.{numbered-step, numbered-end, rest-size}
 use Rattle.data_model.proofs.tree.+renumbering.Goals as goal
 

@@ -4,8 +4,8 @@ use Rattle.node_table.proofs.Rows.{row-entry}
 use Rattle.node_table.proofs.InPlace.{empty-list}
 use Rattle.node_table.proofs.plain.leaf_text.Goals as goal
 
-pub returns-then-is_empty-2 : goal.returns-then-is_empty-2
-returns-then-is_empty-2 c =
+pub returns-then-is_empty-2-clause-text : goal.returns-then-is_empty-2-clause-text
+returns-then-is_empty-2-clause-text c =
     let r = c.in_ok-row.row.now in
     let at = rw c.number.ensures at (row-entry c.args.cursor.now c.number.result r (sym c.seek.ensures.value ∙ ap option_copied c.in_ok-row.was)) in
     record {

@@ -6,52 +6,55 @@ use Rattle.node_table.proofs.Rows.{row-entry}
 use Rattle.node_table.proofs.InPlace.{size-single, plus-one}
 use Rattle.node_table.proofs.plain.plain_value.Goals as goal
 
-pub count-requires : goal.count-requires
-count-requires c =
-    let f = table_of c.args.rows.now in
+pub count_by-requires : goal.count_by-requires
+count_by-requires c =
+    let f = table_of c.args.cursor.now in
     let n = c.args.levels in
     let r = c.in_ok-row.row.now in
-    let at = rw (c.number.ensures, c.cursor-cursor.ensures) at (row-entry c.cursor-cursor.result c.number.result r (sym c.seek.ensures.value ∙ ap option_copied c.in_ok-row.was)) in
+    let at = rw c.number.ensures at (row-entry c.args.cursor.now c.number.result r (sym c.seek.ensures.value ∙ ap option_copied c.in_ok-row.was)) in
     let one = size-single f n c.args.id (entry_of_row r) at in
     let few = rw (plus-one n) at c.requires.few in
     let list = c.deref.ensures.value in
-    rw list (omega (arith, one, few))
+    rw (list, c.text_below.ensures.same ∙ c.seek.ensures.same) (omega (arith, one, few))
 
 pub overflow_add-result : goal.overflow_add-result
 overflow_add-result c =
-    let f = table_of c.args.rows.now in
+    let f = table_of c.args.cursor.now in
     let n = c.args.levels in
     let r = c.in_ok-row.row.now in
-    let at = rw (c.number.ensures, c.cursor-cursor.ensures) at (row-entry c.cursor-cursor.result c.number.result r (sym c.seek.ensures.value ∙ ap option_copied c.in_ok-row.was)) in
+    let at = rw c.number.ensures at (row-entry c.args.cursor.now c.number.result r (sym c.seek.ensures.value ∙ ap option_copied c.in_ok-row.was)) in
     let one = size-single f n c.args.id (entry_of_row r) at in
     let few = rw (plus-one n) at c.requires.few in
-    let list : c.count.result ≡ size (read_trees n f r.attributes.items) = c.count.ensures ∙ ap (λ xs. size (read_trees n f xs)) c.deref.ensures.value in
+    let seen = c.text_below.ensures.same ∙ c.seek.ensures.same in
+    let list : c.count_by.result ≡ size (read_trees n f r.attributes.items) = rw (c.deref.ensures.value, seen) at c.count_by.ensures.count in
     omega (arith, one, few, list)
 
 pub overflow_add-result-2 : goal.overflow_add-result-2
 overflow_add-result-2 c =
-    let f = table_of c.args.rows.now in
+    let f = table_of c.args.cursor.now in
     let n = c.args.levels in
     let r = c.in_ok-row.row.now in
-    let at = rw (c.number.ensures, c.cursor-cursor.ensures) at (row-entry c.cursor-cursor.result c.number.result r (sym c.seek.ensures.value ∙ ap option_copied c.in_ok-row.was)) in
+    let at = rw c.number.ensures at (row-entry c.args.cursor.now c.number.result r (sym c.seek.ensures.value ∙ ap option_copied c.in_ok-row.was)) in
     let one = size-single f n c.args.id (entry_of_row r) at in
     let few = rw (plus-one n) at c.requires.few in
-    let list : c.count.result ≡ size (read_trees n f r.attributes.items) = c.count.ensures ∙ ap (λ xs. size (read_trees n f xs)) c.deref.ensures.value in
-    let below = rw (c.seek.ensures.same, c.cursor-cursor.ensures) at c.in_ok-below.ensures in
+    let seen = c.text_below.ensures.same ∙ c.seek.ensures.same in
+    let list : c.count_by.result ≡ size (read_trees n f r.attributes.items) = rw (c.deref.ensures.value, seen) at c.count_by.ensures.count in
+    let below = rw c.seek.ensures.same at c.in_ok-below.ensures.below in
     let nodes = below.nodes n c.requires.deep in
     omega (arith, one, few, list, nodes)
 
-pub returns : goal.returns
-returns c =
-    let f = table_of c.args.rows.now in
+pub returns-clause-plain : goal.returns-clause-plain
+returns-clause-plain c =
+    let f = table_of c.args.cursor.now in
     let n = c.args.levels in
     let r = c.in_ok-row.row.now in
-    let at = rw (c.number.ensures, c.cursor-cursor.ensures) at (row-entry c.cursor-cursor.result c.number.result r (sym c.seek.ensures.value ∙ ap option_copied c.in_ok-row.was)) in
+    let at = rw c.number.ensures at (row-entry c.args.cursor.now c.number.result r (sym c.seek.ensures.value ∙ ap option_copied c.in_ok-row.was)) in
     let one = size-single f n c.args.id (entry_of_row r) at in
-    let list : c.count.result ≡ size (read_trees n f r.attributes.items) = c.count.ensures ∙ ap (λ xs. size (read_trees n f xs)) c.deref.ensures.value in
-    let below = rw (c.seek.ensures.same, c.cursor-cursor.ensures) at c.in_ok-below.ensures in
+    let seen = c.text_below.ensures.same ∙ c.seek.ensures.same in
+    let list : c.count_by.result ≡ size (read_trees n f r.attributes.items) = rw (c.deref.ensures.value, seen) at c.count_by.ensures.count in
+    let below = rw c.seek.ensures.same at c.in_ok-below.ensures.below in
     let nodes = below.nodes n c.requires.deep in
-    let all : 1 + c.count.result + c.in_ok-below.below.nodes ≡ size (read_trees (suc n) f (c.args.id ∷ [])) = omega (arith, one, list, nodes) in
+    let all : 1 + c.count_by.result + c.in_ok-below.below.nodes ≡ size (read_trees (suc n) f (c.args.id ∷ [])) = omega (arith, one, list, nodes) in
     record {
       entry = entry_of_row r;
       there = at;

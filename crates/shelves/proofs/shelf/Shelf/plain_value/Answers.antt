@@ -1,7 +1,7 @@
 use Rattle.node_table.specs.Plain.{IsPlainValue}
 use Rattle.node_table.specs.declared.plain.PlainValue.{PlainValue}
 use Rattle.shelves.specs.Shelf.{shelf_trees}
-use Rattle.trees.proofs.InPlace.{if-some}
+use Rattle.node_table.proofs.PlainValues.{if-some}
 use Rattle.trees.proofs.Nests.{same-picked}
 use Rattle.shelves.proofs.Shelves.{plain-same}
 use Rattle.shelves.proofs.shelf.Shelf.plain_value.Goals as goal

@@ -1,8 +1,7 @@
 use Rattle.std.proofs.Common.{◌≢◌, ℕ, ◌≤◌, ◌∙◌, sym, arith, ap}
 use Rattle.data_model.specs.Walks.{depth_of}
 use Rattle.node_table.proofs.LabelSteps.{order-lift, order-parent}
-use Rattle.data_model.specs.Paths.{path_of, shared}
-use Rattle.data_model.proofs.Paths.{path-up, path-top, path-length, shared-last}
+use Rattle.data_model.proofs.Paths.{path-up, path-top}
 use Rattle.data_model.proofs.Climbs.{there-counts}
 use Rattle.trees.proofs.forest.Forest.lifted.Goals as goal
 
@@ -13,7 +12,6 @@ loop-preserved c =
     let up = path-up c.loop.at c.in-Some.parent ts c.facts.ensures.distinct i.there (sym c.parent.ensures ∙ c.in-Some.is) in
     let level = up.1 in
     let was = i.level in
-    let long = path-length c.in-Some.parent ts (there-counts c.in-Some.parent ts up.0) in
     let w = c.numbered.ensures.0 in
     let o = c.numbered.ensures.1 in
     let p = c.in-Some.parent in
@@ -23,7 +21,6 @@ loop-preserved c =
     record {
       there = up.0;
       level = omega arith;
-      kept = λ path h. i.kept path (omega arith) ∙ ap (λ p. shared p path) up.2 ∙ shared-last c.loop.at (path_of c.in-Some.parent ts) path (omega arith);
       own = λ e. absurd (omega arith);
       above = λ l. (let old = i.order p up.0 (omega arith) (deeper p (omega arith)) in let one = order-parent w ts o x p (there-counts x ts i.there) is in (old.1 ∙ one.0, old.0 ∙ one.1));
       order = λ y hy deep ne. (let old = i.order y hy (omega arith) (deeper y deep) in

@@ -1,8 +1,7 @@
-use Rattle.std.proofs.Common.{◌≡◌, ◌≢◌, ◌+◌, ◌≤◌, ◌<◌, true, false, ℕ, List, length, IsSome}
+use Rattle.std.proofs.Common.{◌≡◌, ◌≢◌, ◌+◌, ◌≤◌, ◌<◌, true, false, ℕ, IsSome}
 use Rattle.data_model.specs.Trees.{find}
 use Rattle.data_model.specs.Order.{precedes}
 use Rattle.data_model.specs.Walks.{depth_of}
-use Rattle.data_model.specs.Paths.{path_of, shared}
 use Rattle.trees.proofs.forest.Forest.lifted.Given as goal
 
 abbrev pub invariant-loop : goal.invariant-loop
@@ -10,7 +9,6 @@ invariant-loop l =
     record {
       there : IsSome (find l.at l.self.trees);
       level : depth_of l.at l.self.trees + l.counter ≡ depth_of l.fn.id l.self.trees;
-      kept : (path : List ℕ) → length path ≤ depth_of l.at l.self.trees + 1 → shared (path_of l.fn.id l.self.trees) path ≡ shared (path_of l.at l.self.trees) path;
       own : l.counter ≡ 0 → l.at ≡ l.fn.id;
       above : 0 < l.counter → (precedes l.at l.fn.id l.self.trees ≡ true) × (precedes l.fn.id l.at l.self.trees ≡ false);
       order : (other : ℕ) → IsSome (find other l.self.trees) → depth_of other l.self.trees ≤ depth_of l.at l.self.trees → other ≢ l.at
