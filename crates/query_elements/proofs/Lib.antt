@@ -1,2 +1,4 @@
 pub mod Assembly
 pub mod Distinct
+pub mod Going
+pub mod Growing

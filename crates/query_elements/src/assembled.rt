@@ -1,7 +1,8 @@
 //! New nodes with copied content.
 
-ghost use Rattle.std.specs.Prelude.{◌≡◌, IfOk, IsErrOf};
+ghost use Rattle.std.specs.Prelude.{◌≡◌, ◌∷◌, [], Ok, IfNone, IfOk, IfSome, IsErrOf};
 ghost use Rattle.data_model.specs.Tree.{trees_of_tree};
+ghost use Rattle.values.specs.declared.atom.Item.TheVariants as item;
 ghost use Rattle.query_meaning.specs.Constructors as meaning;
 ghost use Rattle.query_meaning.specs.Content.{unless_fault};
 ghost use Rattle.evaluation.specs.Gives.{Gives, GivesIn, Says, Stand};
@@ -9,12 +10,13 @@ ghost use Rattle.copied_content.specs.New.{IsNew};
 ghost use Rattle.query_elements.specs.Assembling.{IsBeside, closed, fault_of, kind_of, parts, tree_with};
 
 use crate::judged::{check_children, check_content};
+use crate::whole::whole_nodes;
 use copied_content::{CopiedContent, SplitContent, content};
 use evaluation::{Evaluation, Sequence};
 use query_constructors::rooted;
 use std::alloc::{AllocError, Global};
 use trees::{Content, Kind, NodeId, Tree};
-use values::{Text, ValueFault};
+use values::{Item, Text, ValueFault};
 
 /// What may have children.
 #[derive(Clone, Copy)]
@@ -37,10 +39,42 @@ impl Parent {
     }
 }
 
-/// A new node with copied content: it takes its identity, then the content is copied, merged and judged. Codes: PXQ0003 where the
-/// evaluation would have made more than 100,000 nodes; PXQ0002 where a text is too long; those of `check_content` for an element, and those
-/// of `check_children` for a document.
+/// A new node with copied content: it takes its identity, then the content is copied, merged and judged. Whole nodes alone are copied at once.
+/// Codes: PXQ0003 where the evaluation would have made more than 100,000 nodes; PXQ0002 where a text is too long; those of `check_content` for
+/// an element, and those of `check_children` for a document.
 pub(crate) fn assembled(
+    run: &mut Evaluation,
+    parent: Parent,
+    name: &str,
+    items: &Sequence,
+) -> Result<Sequence, ValueFault>
+    requires stand { Stand items.now run.old }
+    ensures { Gives (meaning.assembled (kind_of parent) name.now (fault_of parent) items.now) run.old result run.new }
+{
+    match grown(run, parent, name, items) {
+        Some(root) => Ok(Sequence::one(run.alloc(), Item::Node(root))?),
+        None => assembled_of_parts(run, parent, name, items),
+    }
+}
+
+/// The same of whole nodes alone, where none is refused, and no memory; elsewhere `None`, and nothing changes: the longer way tells why.
+fn grown(run: &mut Evaluation, parent: Parent, name: &str, items: &Sequence) -> Option<NodeId>
+    ensures made { IfSome result
+        (λ root. Gives (meaning.assembled (kind_of parent) name.now (fault_of parent) items.now) run.old (Ok (item.Node root ∷ [])) run.new) }
+    ensures same { IfNone result (run.new ≡ run.old) }
+{
+    let Ok(Some(nodes)) = whole_nodes(run, items.as_slice()) else {
+        return None;
+    };
+    run.shelf().facts();
+    match run.grow(parent.kind(), name, &nodes) {
+        Ok(root) => root,
+        Err(_) => None,
+    }
+}
+
+/// The same of any content, which is copied item by item.
+fn assembled_of_parts(
     run: &mut Evaluation,
     parent: Parent,
     name: &str,

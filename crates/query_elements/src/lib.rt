@@ -6,5 +6,6 @@
 mod assembled;
 mod elements;
 mod judged;
+mod whole;
 
 pub use elements::Elements;
