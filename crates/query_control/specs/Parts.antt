@@ -1,8 +1,9 @@
 -- Parts of expressions, by what they mean or with the expressions in them.
-use Rattle.std.specs.Prelude.{◌≡◌, Bool, false, ℕ, ◌+◌, List, ◌∷◌, [], pos, Option, None, Some}
+use Rattle.std.specs.Prelude.{◌≡◌, Bool, false, ℕ, ◌+◌, List, ◌∷◌, [], pos, Option, None, Some, Result, Ok, Err}
 use Rattle.values.specs.declared.atom.Atom.{Atom}
 use Rattle.values.specs.declared.atom.Atom.TheVariants as atom
 use Rattle.values.specs.declared.atom.Item.{Item}
+use Rattle.values.specs.declared.fault.ValueFault.{ValueFault}
 use Rattle.query_grammar.specs.declared.ast.Binding.{Binding}
 use Rattle.query_grammar.specs.declared.ast.Clause.{Clause}
 use Rattle.query_grammar.specs.declared.ast.Clause.TheVariants as clause
@@ -30,6 +31,11 @@ source_of (clause.Let b) = b.source
 
 abbrev pub key_in : {A : Type 0} → SortKey A → A
 key_in k = k.key
+
+-- what is left, where there is no fault
+abbrev pub leaving : {A B : Type 0} → Result B ValueFault → A → Result A ValueFault
+leaving (Ok b) a = Ok a
+leaving (Err f) a = Err f
 
 -- what is evaluated with these variables
 abbrev pub with_variables : List Bound → Environment → Environment

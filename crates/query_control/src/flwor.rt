@@ -63,7 +63,7 @@ impl<F: Fn(&mut Evaluation, &Expr, &Environment) -> Result<Sequence, ValueFault>
         requires ready { IsReady env.now run.old }
         ensures { Gives (meaning.tuples (map (part.clause_of mean) clauses.now) (meaning.returned (option_map mean condition.now) (mean body.now)) env.now []) run.old result run.new }
     {
-        let given = Sequence::new(run.alloc());
+        let mut given = Sequence::new(run.alloc());
         let at_tuple = &Returning {
             forms: self,
             env,
@@ -75,7 +75,8 @@ impl<F: Fn(&mut Evaluation, &Expr, &Environment) -> Result<Sequence, ValueFault>
             clauses,
             variables: env.variables(),
         };
-        walk.tuples(run, given)
+        walk.tuples(run, &mut given)?;
+        Ok(given)
     }
 
     /// `where`: the effective boolean value of the test, and true where there is none. Codes: those of `holds`.
@@ -136,13 +137,13 @@ impl<'w, 'f, F: Fn(&mut Evaluation, &Expr, &Environment) -> Result<Sequence, Val
         &self,
         run: &mut Evaluation,
         variables: &Variables,
-        given: Sequence,
-    ) -> Result<Sequence, ValueFault> {
+        given: &mut Sequence,
+    ) -> Result<(), ValueFault> {
         let env = self.env.with(variables);
         if self.forms.tested(run, self.condition, &env)? {
             self.forms.and_items(run, given, self.body.get(), &env)
         } else {
-            Ok(given)
+            Ok(())
         }
     }
 

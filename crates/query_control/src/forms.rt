@@ -9,11 +9,13 @@ ghost use Rattle.query_meaning.specs.Meaning.{mean};
 ghost use Rattle.query_meaning.specs.Sequences as meaning;
 ghost use Rattle.evaluation.specs.Evaluates.{Evaluates};
 ghost use Rattle.evaluation.specs.Gives.{Any, Fails, Gives, GivesIn, IsReady, Stand};
+ghost use Rattle.query_control.specs.Parts.{leaving};
 
 use evaluation::{Environment, Evaluation, Sequence};
 use fault_codes::Code;
 use query_grammar::{Expr, IntegerLiteral};
 use sqlite_items::{Boxed, Items};
+use std::mem;
 use values::{Atom, Item, Text, ValueFault, truth};
 
 /// The forms of expressions, over a function that evaluates their parts.
@@ -105,26 +107,29 @@ impl<F: Fn(&mut Evaluation, &Expr, &Environment) -> Result<Sequence, ValueFault>
     {
         let mut given = Sequence::new(run.alloc());
         for part in parts {
-            given = self.and_items(run, given, part, env)?;
+            self.and_items(run, &mut given, part, env)?;
         }
         Ok(given)
     }
 
-    /// The items before, and then those of an expression. Codes: those of the expression; PXQ0002 where there are more than 10,000 items.
+    /// Adds the items of an expression to those before. Codes: those of the expression; PXQ0002 where there are more than 10,000 items.
+    /// What is left of those before after a fault is not said.
     pub(crate) fn and_items(
         &self,
         run: &mut Evaluation,
-        given: Sequence,
+        given: &mut Sequence,
         x: &Expr,
         env: &Environment,
-    ) -> Result<Sequence, ValueFault>
+    ) -> Result<(), ValueFault>
         requires evaluates { Evaluates (F.pre self.now.value_of) (F.post self.now.value_of) (x.now ∷ []) }
         requires ready { IsReady env.now run.old }
-        requires stand { Stand given run.old }
-        ensures { Gives (meaning.and_items env.now given (mean x.now)) run.old result run.new }
+        requires stand { Stand given.old run.old }
+        ensures { Gives (meaning.and_items env.now given.old (mean x.now)) run.old (leaving result given.new) run.new }
     {
         let items = self.value_of(run, x, env)?;
-        given.joined(items)
+        let before = mem::replace(given, Sequence::new(run.alloc()));
+        *given = before.joined(items)?;
+        Ok(())
     }
 }
 

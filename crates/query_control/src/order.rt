@@ -21,6 +21,7 @@ use query_grammar::{Clause, Expr, SortKey};
 use sorted_tuples::{Keys, Tuple, Tuples};
 use sqlite_items::Boxed;
 use std::alloc::AllocError;
+use std::mem;
 use values::{Atom, ValueFault};
 
 impl<F: Fn(&mut Evaluation, &Expr, &Environment) -> Result<Sequence, ValueFault>> Forms<F> {
@@ -73,8 +74,8 @@ impl<F: Fn(&mut Evaluation, &Expr, &Environment) -> Result<Sequence, ValueFault>
             clauses,
             variables: env.variables(),
         };
-        let found = Tuples::new(run.alloc());
-        let found = walk.tuples(run, found)?;
+        let mut found = Tuples::new(run.alloc());
+        walk.tuples(run, &mut found)?;
         found.sorted(keys)
     }
 
@@ -90,23 +91,23 @@ impl<F: Fn(&mut Evaluation, &Expr, &Environment) -> Result<Sequence, ValueFault>
     {
         let mut given = Sequence::new(run.alloc());
         for tuple in tuples {
-            given = self.returned_at(run, given, tuple, body)?;
+            self.returned_at(run, &mut given, tuple, body)?;
         }
         Ok(given)
     }
 
-    /// The items before, and then those of `return` at a tuple.
+    /// Adds the items of `return` at a tuple to those before.
     fn returned_at(
         &self,
         run: &mut Evaluation,
-        given: Sequence,
+        given: &mut Sequence,
         tuple: &Tuple,
         body: &Boxed<Expr>,
-    ) -> Result<Sequence, ValueFault>
+    ) -> Result<(), ValueFault>
         requires body { Evaluates (F.pre self.now.value_of) (F.post self.now.value_of) (body.now ∷ []) }
         requires ready { IsReady tuple.now.environment run.old }
-        requires stand { Stand given run.old }
-        ensures { Gives (part.returned_at (mean body.now) given tuple.now) run.old result run.new }
+        requires stand { Stand given.old run.old }
+        ensures { Gives (part.returned_at (mean body.now) given.old tuple.now) run.old (part.leaving result given.new) run.new }
     {
         self.and_items(run, given, body.get(), &tuple.environment())
     }
@@ -117,15 +118,19 @@ impl<F: Fn(&mut Evaluation, &Expr, &Environment) -> Result<Sequence, ValueFault>
         run: &mut Evaluation,
         keys: &[SortKey<Expr>],
         env: &Environment<'f, '_>,
-        given: Tuples<'f>,
-    ) -> Result<Tuples<'f>, ValueFault>
+        given: &mut Tuples<'f>,
+    ) -> Result<(), ValueFault>
         requires keys { EvaluatesEach (F.pre self.now.value_of) (F.post self.now.value_of) part.key_in keys.now }
         requires ready { IsReady env.now run.old }
-        requires kept { AreKept (length keys.now) given run.old }
-        ensures { GivesIn (AreKept (length keys.now)) (part.and_tuple_of (map (sort_key_of mean) keys.now) env.now given.entry) run.old result run.new }
+        requires kept { AreKept (length keys.now) given.old run.old }
+        ensures { GivesIn (AreKept (length keys.now)) (part.and_tuple_of (map (sort_key_of mean) keys.now) env.now given.old) run.old (part.leaving result given.new) run.new }
     {
         let keys = self.keys_in(run, keys, env)?;
-        given.and(env.keep()?, keys)
+        let kept = env.keep()?;
+        let before = mem::replace(given, Tuples::new(run.alloc()));
+        let more = before.and(kept, keys)?;
+        put(given, more);
+        Ok(())
     }
 
     /// The keys of a tuple.
@@ -205,17 +210,24 @@ impl<'w, 'f, F: Fn(&mut Evaluation, &Expr, &Environment) -> Result<Sequence, Val
         &self,
         run: &mut Evaluation,
         variables: &Variables,
-        given: Tuples<'f>,
-    ) -> Result<Tuples<'f>, ValueFault> {
+        given: &mut Tuples<'f>,
+    ) -> Result<(), ValueFault> {
         let env = self.env.with(variables);
         if self.forms.tested(run, self.condition, &env)? {
             self.forms.and_tuple(run, self.keys, &env, given)
         } else {
-            Ok(given)
+            Ok(())
         }
     }
 
     ghost lasts = { λ s tuples old new g h. kept_grows (length s.keys.now) tuples old new g h };
+}
+
+/// Puts a value in the place of another. Over any type, as an assignment of tuples themselves through a reference has no proof.
+fn put<A: Drop>(place: &mut A, value: A)
+    ensures { place.new ≡ value }
+{
+    *place = value;
 }
 
 /// A key: none, or one atomic value, untyped as a string (XQuery 1.0, section 3.8.3). Faults: `Memory`; `Code` with XPTY0004 where there

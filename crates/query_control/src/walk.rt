@@ -48,17 +48,17 @@ pub(crate) trait AtTuple {
         requires ready { IsReady (part.with_variables variables.now (env self.now)) run.old }
         ensures { Gives (mean x.now (part.with_variables variables.now (env self.now))) run.old result run.new };
 
-    /// One tuple more. Codes: its own.
+    /// One tuple more. Codes: its own. What is left of what the tuples come to after a fault is not said.
     fn take(
         &self,
         run: &mut Evaluation,
         variables: &Variables,
-        given: Self::Given,
-    ) -> Result<Self::Given, ValueFault>
+        given: &mut Self::Given,
+    ) -> Result<(), ValueFault>
         requires can { can_take self.now }
         requires ready { IsReady (part.with_variables variables.now (env self.now)) run.old }
-        requires fits { fits self.now given run.old }
-        ensures { GivesIn (fits self.now) (means self.now (part.with_variables variables.now (env self.now)) given) run.old result run.new };
+        requires fits { fits self.now given.old run.old }
+        ensures { GivesIn (fits self.now) (means self.now (part.with_variables variables.now (env self.now)) given.old) run.old (part.leaving result given.new) run.new };
 
     /// It stands as long as no node is lost.
     ghost lasts: { (s : Self) (given : Self.Given) (old new : Run) → Grows old new → fits s given old → fits s given new };
@@ -78,16 +78,16 @@ impl<'w, A: AtTuple> Walk<'w, A> {
     pub(crate) fn tuples(
         &self,
         run: &mut Evaluation,
-        given: A::Given,
-    ) -> Result<A::Given, ValueFault>
+        given: &mut A::Given,
+    ) -> Result<(), ValueFault>
         requires clauses { All (λ c. A.can_evaluate self.now.at_tuple.now (part.source_of c)) self.now.clauses.now }
         requires can { A.can_take self.now.at_tuple.now }
         requires ready { IsReady (part.with_variables self.now.variables.now (A.env self.now.at_tuple.now)) run.old }
-        requires fits { A.fits self.now.at_tuple.now given run.old }
+        requires fits { A.fits self.now.at_tuple.now given.old run.old }
         ensures { GivesIn (A.fits self.now.at_tuple.now)
             (meaning.tuples (map (part.clause_of mean) self.now.clauses.now) (A.means self.now.at_tuple.now)
-            (part.with_variables self.now.variables.now (A.env self.now.at_tuple.now)) given)
-            run.old result run.new }
+            (part.with_variables self.now.variables.now (A.env self.now.at_tuple.now)) given.old)
+            run.old (part.leaving result given.new) run.new }
     {
         let Some((clause, clauses)) = self.clauses.split_first() else {
             return self.at_tuple.take(run, self.variables, given);
@@ -114,17 +114,17 @@ impl<'w, A: AtTuple> Walk<'w, A> {
         run: &mut Evaluation,
         variable: &Text,
         items: Sequence,
-        given: A::Given,
-    ) -> Result<A::Given, ValueFault>
+        given: &mut A::Given,
+    ) -> Result<(), ValueFault>
         requires clauses { All (λ c. A.can_evaluate self.now.at_tuple.now (part.source_of c)) self.now.clauses.now }
         requires can { A.can_take self.now.at_tuple.now }
         requires ready { IsReady (part.with_variables self.now.variables.now (A.env self.now.at_tuple.now)) run.old }
         requires items { Stand items run.old }
-        requires fits { A.fits self.now.at_tuple.now given run.old }
+        requires fits { A.fits self.now.at_tuple.now given.old run.old }
         ensures { GivesIn (A.fits self.now.at_tuple.now)
             (meaning.tuples (map (part.clause_of mean) self.now.clauses.now) (A.means self.now.at_tuple.now)
-            (with_variable variable.now items (part.with_variables self.now.variables.now (A.env self.now.at_tuple.now))) given)
-            run.old result run.new }
+            (with_variable variable.now items (part.with_variables self.now.variables.now (A.env self.now.at_tuple.now))) given.old)
+            run.old (part.leaving result given.new) run.new }
     {
         let variables = Variables::and(run.alloc(), variable, items, self.variables)?;
         let with_all = Walk {
@@ -142,27 +142,26 @@ impl<'w, A: AtTuple> Walk<'w, A> {
         variable: &Text,
         at: Option<&Text>,
         items: &[Item],
-        given: A::Given,
-    ) -> Result<A::Given, ValueFault>
+        given: &mut A::Given,
+    ) -> Result<(), ValueFault>
         requires clauses { All (λ c. A.can_evaluate self.now.at_tuple.now (part.source_of c)) self.now.clauses.now }
         requires can { A.can_take self.now.at_tuple.now }
         requires ready { IsReady (part.with_variables self.now.variables.now (A.env self.now.at_tuple.now)) run.old }
         requires most { length items.now ≤ most_items }
         requires items { Stand items.now run.old }
-        requires fits { A.fits self.now.at_tuple.now given run.old }
+        requires fits { A.fits self.now.at_tuple.now given.old run.old }
         ensures { GivesIn (A.fits self.now.at_tuple.now)
             (part.for_each variable.now (option_copied at.entry) (map (part.clause_of mean) self.now.clauses.now) (A.means self.now.at_tuple.now)
-            (part.with_variables self.now.variables.now (A.env self.now.at_tuple.now)) items.now given)
-            run.old result run.new }
+            (part.with_variables self.now.variables.now (A.env self.now.at_tuple.now)) items.now given.old)
+            run.old (part.leaving result given.new) run.new }
     {
-        let mut found = given;
         let mut former = None;
         let mut index = 0;
         for item in items {
-            found = self.for_one(run, variable, at, index, item, &mut former, found)?;
+            self.for_one(run, variable, at, index, item, &mut former, given)?;
             index += 1;
         }
-        Ok(found)
+        Ok(())
     }
 
     /// One item. The variables of the item before it serve again; then its own are left for the next.
@@ -175,19 +174,19 @@ impl<'w, A: AtTuple> Walk<'w, A> {
         index: usize,
         item: &Item,
         former: &mut Option<Variables>,
-        given: A::Given,
-    ) -> Result<A::Given, ValueFault>
+        given: &mut A::Given,
+    ) -> Result<(), ValueFault>
         requires clauses { All (λ c. A.can_evaluate self.now.at_tuple.now (part.source_of c)) self.now.clauses.now }
         requires can { A.can_take self.now.at_tuple.now }
         requires ready { IsReady (part.with_variables self.now.variables.now (A.env self.now.at_tuple.now)) run.old }
         requires most { index < most_items }
         requires item { IsThere (trees_of run.old) item.now }
         requires former { ForSome former.old (part.RebindsAt variable.now (option_copied at) self.now.variables.now) }
-        requires fits { A.fits self.now.at_tuple.now given run.old }
+        requires fits { A.fits self.now.at_tuple.now given.old run.old }
         ensures gives { GivesIn (A.fits self.now.at_tuple.now)
             (part.for_one variable.now (option_copied at.entry) (map (part.clause_of mean) self.now.clauses.now) (A.means self.now.at_tuple.now)
-            (part.with_variables self.now.variables.now (A.env self.now.at_tuple.now)) index given item.now)
-            run.old result run.new }
+            (part.with_variables self.now.variables.now (A.env self.now.at_tuple.now)) index given.old item.now)
+            run.old (part.leaving result given.new) run.new }
         ensures former { ForSome former.new (part.RebindsAt variable.now (option_copied at.entry) self.now.variables.now) }
     {
         run.turn()?;

@@ -1,6 +1,6 @@
 use Rattle.std.proofs.Common.{None, Some, map, arith, rules}
 use Rattle.query_meaning.specs.Meaning.{mean}
-use Rattle.query_control.specs.Parts.{clause_of, with_variables}
+use Rattle.query_control.specs.Parts.{clause_of, leaving, with_variables}
 use Rattle.query_control.proofs.Calls.{clauses_rest}
 use Rattle.query_control.proofs.Clauses.{tuples_for, one_gives}
 use Rattle.query_control.proofs.Values.{grows_turned, ready_in_turn}
@@ -8,19 +8,19 @@ use Rattle.query_control.proofs.walk.Walk.+tuples.Goals as goal
 
 pub tuples-let_all-requires : goal.tuples-let_all-requires
 tuples-let_all-requires g t c κs within =
-    let fits = g.met.A.AtTuple.lasts c.args.self.now.at_tuple.now c.args.given c.args.run.now c.value_of.new.run c.in_ok-items.ensures.1.0 c.requires.fits in
+    let fits = g.met.A.AtTuple.lasts c.args.self.now.at_tuple.now c.args.given.now c.args.run.now c.value_of.new.run c.in_ok-items.ensures.1.0 c.requires.fits in
     let rest = clauses_rest (g.A.AtTuple.can_evaluate c.args.self.now.at_tuple.now) _ _ _ c.in-Some.ensures.cases.0 c.requires.clauses in
     (omega (arith, c.in-Some.ensures.cases.1, c.decreases), (search rules, (search rules, (rest, (search rules, (search rules, (search rules, fits)))))))
 
 pub tuples-for_each-requires : goal.tuples-for_each-requires
 tuples-for_each-requires g t c κs within =
-    let fits = g.met.A.AtTuple.lasts c.args.self.now.at_tuple.now c.args.given c.args.run.now c.value_of.new.run c.in_ok-items.ensures.1.0 c.requires.fits in
+    let fits = g.met.A.AtTuple.lasts c.args.self.now.at_tuple.now c.args.given.now c.args.run.now c.value_of.new.run c.in_ok-items.ensures.1.0 c.requires.fits in
     let rest = clauses_rest (g.A.AtTuple.can_evaluate c.args.self.now.at_tuple.now) _ _ _ c.in-Some.ensures.cases.0 c.requires.clauses in
     (omega (arith, c.in-Some.ensures.cases.1, c.decreases), (search rules, (search rules, (rest, (search rules, (search rules, (search rules, (search rules, fits))))))))
 
 pub tuples-for_each-requires-in-ForAt : goal.tuples-for_each-requires-in-ForAt
 tuples-for_each-requires-in-ForAt g t c κs within =
-    let fits = g.met.A.AtTuple.lasts c.args.self.now.at_tuple.now c.args.given c.args.run.now c.value_of.new.run c.in_ok-items.ensures.1.0 c.requires.fits in
+    let fits = g.met.A.AtTuple.lasts c.args.self.now.at_tuple.now c.args.given.now c.args.run.now c.value_of.new.run c.in_ok-items.ensures.1.0 c.requires.fits in
     let rest = clauses_rest (g.A.AtTuple.can_evaluate c.args.self.now.at_tuple.now) _ _ _ c.in-Some.ensures.cases.0 c.requires.clauses in
     (omega (arith, c.in-Some.ensures.cases.1, c.decreases), (search rules, (search rules, (rest, (search rules, (search rules, (search rules, (search rules, fits))))))))
 
@@ -34,7 +34,7 @@ tuples-returns-in-ForAt g t c =
 
 pub for_one-tuples-found-requires : goal.for_one-tuples-found-requires
 for_one-tuples-found-requires g t c κs within =
-    let fits = g.met.A.AtTuple.lasts c.args.self.now.at_tuple.now c.args.given c.args.run.now c.turn.new.self (grows_turned _ _ _ c.in_ok-turn.ensures) c.requires.fits in
+    let fits = g.met.A.AtTuple.lasts c.args.self.now.at_tuple.now c.args.given.now c.args.run.now c.turn.new.self (grows_turned _ _ _ c.in_ok-turn.ensures) c.requires.fits in
     let ready = ready_in_turn _ _ _ _ (with_variables c.args.self.now.variables.now (g.A.AtTuple.env c.args.self.now.at_tuple.now)) _ _ _ _ c.requires.ready c.requires.item c.in_ok-turn.ensures c.in_ok-variables.ensures in
     (omega (arith, c.decreases), (search rules, (search rules, (search rules, (search rules, (ready, fits))))))
 
@@ -42,6 +42,6 @@ pub for_one-returns : goal.for_one-returns
 for_one-returns g t c =
     let env = with_variables c.args.self.now.variables.now (g.A.AtTuple.env c.args.self.now.at_tuple.now) in
     record {
-      gives = one_gives (g.A.AtTuple.fits c.args.self.now.at_tuple.now) _ _ (map (clause_of mean) c.args.self.now.clauses.now) (g.A.AtTuple.means c.args.self.now.at_tuple.now) env c.args.index c.args.given _ _ c.args.run.now c.turn.new.self c.tuples-found.new.run _ c.tuples-found.result c.in_ok-turn.ensures c.in_ok-variables.ensures c.tuples-found.ensures;
+      gives = one_gives (g.A.AtTuple.fits c.args.self.now.at_tuple.now) _ _ (map (clause_of mean) c.args.self.now.clauses.now) (g.A.AtTuple.means c.args.self.now.at_tuple.now) env c.args.index c.args.given.now _ _ c.args.run.now c.turn.new.self c.tuples-found.new.run _ (leaving c.tuples-found.result c.tuples-found.new.given) c.in_ok-turn.ensures c.in_ok-variables.ensures c.tuples-found.ensures;
       former = search rules;
     }

@@ -21,4 +21,4 @@ abbrev pub invariant-for_each-loop-item : goal.invariant-for_each-loop-item
 invariant-for_each-loop-item g l =
     (l.index ≡ l.item-index)
     × ForSome l.former (RebindsAt l.fn.variable (option_copied l.fn.at) l.fn.self.variables.now)
-    × Goes (g.A.AtTuple.fits l.fn.self.at_tuple.now) (λ i s x. for_one l.fn.variable (option_copied l.fn.at) (map (clause_of mean) l.fn.self.clauses.now) (g.A.AtTuple.means l.fn.self.at_tuple.now) (with_variables l.fn.self.variables.now (g.A.AtTuple.env l.fn.self.at_tuple.now)) i s x) l.fn.items l.fn.given l.fn.run l.item-index l.found l.run
+    × Goes (g.A.AtTuple.fits l.fn.self.at_tuple.now) (λ i s x. for_one l.fn.variable (option_copied l.fn.at) (map (clause_of mean) l.fn.self.clauses.now) (g.A.AtTuple.means l.fn.self.at_tuple.now) (with_variables l.fn.self.variables.now (g.A.AtTuple.env l.fn.self.at_tuple.now)) i s x) l.fn.items l.fn.given l.fn.run l.item-index l.given l.run
