@@ -160,7 +160,8 @@ fn copy_of(alloc: Global, forest: &mut Forest, id: NodeId) -> Result<NodeId, Row
     if !forest.has(id) {
         return Err(RowFault::NotARow);
     }
-    match forest.copy(alloc, id) {
+    let lent = Forest::empty(alloc, NodeId::new(0));
+    match forest.copy_from(alloc, &lent, id) {
         Ok(root) => Ok(root),
         Err(MakeFault::Memory) => Err(RowFault::Memory),
         Err(MakeFault::Limit) => Err(RowFault::NotARow),
