@@ -1,8 +1,8 @@
-pub mod Comparing
+pub mod Alone
 pub mod Copies
 pub mod Counted
 pub mod Each
 pub mod Limits
 pub mod Looking
-pub mod PaidAtoms
+pub mod TextPairs
 pub mod Unfolded

@@ -1,7 +1,6 @@
 pub mod Around
 pub mod Atoms
 pub mod Bindings
-pub mod Compared
 pub mod Copying
 pub mod Evaluates
 pub mod Gives
@@ -9,5 +8,7 @@ pub mod Held
 pub mod Kept
 pub mod Lent
 pub mod Linked
+pub mod Pairs
 pub mod Rebound
+pub mod Texts
 pub mod Within

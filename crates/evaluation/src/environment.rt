@@ -1,11 +1,11 @@
 //! The context of an expression (XQuery 1.0, section 2.1.2).
 
-ghost use Rattle.std.specs.Prelude.{◌≡◌, ◌≤◌, ◌<◌, ◌+◌, [], ◌∷◌, None, length, option_map, IfOk, IfSome, IfNone};
+ghost use Rattle.std.specs.Prelude.{◌≡◌, ◌≤◌, ◌<◌, ◌+◌, ◌^◌, [], ◌∷◌, None, Some, length, option_map, IfOk, IfSome, IfNone};
 ghost use Rattle.std.specs.List.{All};
 ghost use Rattle.std.specs.Option.{option_copied};
+ghost use Rattle.std.specs.Str.{bytes_eq};
 ghost use Rattle.query_meaning.specs.Environment.{looked_at, value_in, with_focus};
 ghost use Rattle.query_meaning.specs.Running.{most_items};
-ghost use Rattle.evaluation.specs.Compared.{IsBoundLast};
 ghost use Rattle.evaluation.specs.Around.{item_in, position_in, size_in};
 ghost use Rattle.evaluation.specs.Rebound.{rebound};
 
@@ -115,15 +115,18 @@ impl Variables {
         let _few = &self.last;
     }
 
-    /// The item of the variable of that name, where that was bound last, to one item.
-    pub(crate) fn item_of(&self, name: &str) -> Option<&Item>
-        ensures { IfSome result (λ item. IsBoundLast name.now item.now self.now) }
+    /// The item of the variable of that name, where it has one alone, and how many variables are looked at for it.
+    pub fn one_item(&self, name: &str) -> Option<OneItem<'_>>
+        ensures item { IfSome result (λ found. value_in name.now self.now ≡ Some (found.item.now ∷ [])) }
+        ensures looked { IfSome result (λ found. found.looked ≡ looked_at name.now self.now) }
+        ensures few { IfSome result (λ found. found.looked + 1 < 2 ^ 64) }
     {
-        let Link::More(binding) = &self.last else {
-            return None;
-        };
-        match binding.items.as_slice() {
-            [item] if name == binding.name.as_str() => Some(item),
+        let sought = self.sought(name, u64::MAX - 1)?;
+        match sought.value?.as_slice() {
+            [item] => Some(OneItem {
+                item,
+                looked: u64::MAX - 1 - sought.left,
+            }),
             _ => None,
         }
     }
@@ -142,7 +145,7 @@ impl Variables {
             }),
             Link::More(binding) => {
                 let left = units.checked_sub(1)?;
-                if name == binding.name.as_str() {
+                if is_same(name, binding.name.as_str()) {
                     Some(Sought {
                         value: Some(&binding.items),
                         left,
@@ -153,6 +156,29 @@ impl Variables {
             }
         }
     }
+}
+
+/// Whether two names are the same. Most have a few bytes.
+pub fn is_same(name: &str, other: &str) -> bool
+    ensures { result ≡ bytes_eq name.now other.now }
+{
+    let (mut left, mut right) = (name.as_bytes(), other.as_bytes());
+    while let (Some((byte, rest)), Some((same, more))) = (left.split_first(), right.split_first()) {
+        if byte != same {
+            return false;
+        }
+        (left, right) = (rest, more);
+    }
+    left.is_empty() && right.is_empty()
+}
+
+/// The item of a variable that has one alone.
+#[derive(Clone, Copy)]
+pub struct OneItem<'v> {
+    /// The item.
+    pub item: &'v Item,
+    /// How many variables are looked at for it: those that were bound after it, and itself.
+    pub looked: u64,
 }
 
 /// What a look for a variable comes to.

@@ -5,14 +5,13 @@
 
 mod atoms;
 mod environment;
-mod item_comparison;
 mod run;
 mod sequence;
+mod text_pair;
 mod value;
 
 pub use atoms::Atoms;
-pub use environment::{Environment, KeptEnvironment, Variables};
-pub use item_comparison::{ItemComparison, Subject};
+pub use environment::{Environment, KeptEnvironment, OneItem, Variables, is_same};
 pub use run::Evaluation;
 pub use sequence::{MOST_ITEMS, Sequence};
 pub use value::{Value, value_of_part};

@@ -1,6 +1,6 @@
 //! Sequences of items (XQuery 1.0 and XPath 2.0 Data Model, section 2.1).
 
-ghost use Rattle.std.specs.Prelude.{◌≡◌, ◌≤◌, ◌<◌, ◌^◌, ◌+ℤ◌, pos, ℕ, ◌∷◌, [], ◌++◌, length, map, FitsSigned, Ok, Err, IfOk, IfErr};
+ghost use Rattle.std.specs.Prelude.{◌≡◌, ◌≤◌, ◌<◌, ◌^◌, ◌+ℤ◌, pos, ℕ, ◌∷◌, [], ◌++◌, length, map, FitsSigned, Ok, Err, IfOk, IfErr, OnOk, OnErr};
 ghost use Rattle.std.specs.Int.{w64};
 ghost use Rattle.std.specs.List.{range_with_len};
 ghost use Rattle.values.specs.declared.atom.Atom.TheVariants as atom;
@@ -9,13 +9,13 @@ ghost use Rattle.fault_codes.specs.declared.code.Code.{Code};
 ghost use Rattle.values.specs.declared.fault.ValueFault.{ValueFault};
 ghost use Rattle.query_meaning.specs.Operators.{nodes};
 ghost use Rattle.query_meaning.specs.Running.{most_items, within};
-ghost use Rattle.evaluation.specs.Gives.{Judged, Says};
+ghost use Rattle.evaluation.specs.Gives.{Fails, Judged, Says};
 ghost use Rattle.evaluation.specs.Held.{items_of};
 
 use fault_codes::Code;
 use std::alloc::{AllocError, Global};
 use std::marker::Model;
-use std::slice;
+use std::{mem, slice};
 use trees::NodeId;
 use values::{Atom, Item, ValueFault};
 
@@ -164,14 +164,36 @@ impl Sequence {
             alloc: _,
             items: last,
         } = other;
-        match last {
-            Held::Single(item) => items.push(item)?,
-            Held::Many(mut others) => items.append(&mut others)?,
-        }
+        put_last(&mut items, last)?;
         Ok(Sequence {
             alloc,
             items: Held::Many(items),
         })
+    }
+
+    /// Adds other items at the end. Faults: `Memory`; `Code` with PXQ0002 where they are more than 10,000. What is left after a fault is not said.
+    #[tactic(auto, unfolding(query_meaning::specs::Running::most_items))]
+    pub fn append(&mut self, other: Sequence) -> Result<(), ValueFault>
+        ensures joined { OnOk result (within (self.old ++ other) ≡ Ok self.new) }
+        ensures code { IfErr result (λ fault. Fails (within (self.old ++ other)) fault) }
+    {
+        let (count, others) = (self.as_slice().len(), other.as_slice().len());
+        if MOST_ITEMS - count < others {
+            return Err(ValueFault::Code(Code::PXQ0002));
+        }
+        let Sequence { alloc, items: last } = other;
+        if count == 0 {
+            self.items = last;
+            return Ok(());
+        }
+        if let Held::Many(items) = &mut self.items {
+            return put_last(items, last);
+        }
+        let before = mem::replace(&mut self.items, Held::Many(Vec::new(alloc)));
+        let mut items = listed(alloc, before)?;
+        put_last(&mut items, last)?;
+        self.items = Held::Many(items);
+        Ok(())
     }
 
     /// The items, and one more. Faults: `Memory`; `Code` with PXQ0002 where there are 10,000.
@@ -217,6 +239,19 @@ fn node_items(alloc: Global, ids: &[NodeId]) -> Result<Vec<Item>, AllocError>
         items.push(Item::Node(*id))?;
     }
     Ok(items)
+}
+
+/// Puts items at the end of a list. It fails where memory is refused, and then nothing changes.
+fn put_last(list: &mut Vec<Item>, items: Held) -> Result<(), ValueFault>
+    ensures put { OnOk result (list.new.items ≡ list.old.items ++ items_of items) }
+    ensures memory { IfErr result (λ fault. fault ≡ ValueFault.Memory) }
+    ensures refused { OnErr result (list.new.items ≡ list.old.items) }
+{
+    match items {
+        Held::Single(item) => list.push(item)?,
+        Held::Many(mut others) => list.append(&mut others)?,
+    }
+    Ok(())
 }
 
 /// The items in a list. It fails where memory is refused.

@@ -1,5 +1,5 @@
 -- Values of variables, and nodes among items.
-use Rattle.std.proofs.Common.{◌≡◌, ℕ, zero, suc, ◌+◌, pos, List, [], ◌∷◌, ◌++◌, Option, None, Some, Bool, sym, ap, Result, Ok, Err, ◌∙◌, arith, subst}
+use Rattle.std.proofs.Common.{◌≡◌, ℕ, zero, suc, ◌+◌, pos, List, [], ◌∷◌, ◌++◌, Option, None, Some, Bool, OnOk, IfErr, sym, ap, Result, Ok, Err, ◌∙◌, arith, subst}
 use Rattle.std.specs.List.{All}
 use Rattle.std.specs.Option.{ForSome}
 use Rattle.values.specs.Items.{IsThere}
@@ -9,12 +9,13 @@ use Rattle.values.specs.declared.atom.Item.{Item}
 use Rattle.values.specs.declared.fault.ValueFault.{ValueFault}
 use Rattle.query_meaning.specs.Environment.{Bound}
 use Rattle.query_meaning.specs.Running.{Run, come_to, counted, joined, trees_of, within}
-use Rattle.evaluation.specs.Gives.{Any, Gives, Grows, Says, Stand, GivesIn, IsReady, Turns}
+use Rattle.fault_codes.specs.declared.code.Code.{Code}
+use Rattle.evaluation.specs.Gives.{Any, Fails, Gives, Grows, Says, Stand, GivesIn, IsReady, Turns}
 use Rattle.query_meaning.specs.Sequences.{one, tested, variable}
 use Rattle.query_meaning.specs.Meaning.{mean}
 use Rattle.query_grammar.specs.declared.ast.Expr.{Expr}
 use Rattle.query_grammar.specs.declared.ast.Expr.TheVariants as e
-use Rattle.query_control.specs.Parts.{Rebinds, RebindsAt, and_position, with_variables}
+use Rattle.query_control.specs.Parts.{Rebinds, RebindsAt, and_position, leaving, with_variables}
 use Rattle.query_control.specs.Lasting.{there_on, ready_on}
 use Rattle.evaluation.proofs.Unfolded.{of_variable}
 use Rattle.query_meaning.specs.Environment.{Environment, with_variable}
@@ -67,6 +68,11 @@ pub ready_in_turn : (x : List ℕ) (at : Option (List ℕ)) (i : ℕ) (item : It
 ready_in_turn x at i item env bs old new u ready there turned is =
     let grown = grows_turned old new u turned in
     subst (λ bs. IsReady (with_variables bs env) new) (sym is) (ready_at_item x at i item env new (ready_on env old new grown ready) (there_on item old new grown there))
+
+-- what is left of items to which others were added
+pub says_left : (w : Result (List Item) Code) (r : Result (Unit {0}) ValueFault) (left : List Item) → OnOk r (w ≡ Ok left) → IfErr r (λ found. Fails w found) → Says w (leaving r left)
+says_left w (Ok u) left ok err = ok
+says_left w (Err found) left ok err = err
 
 -- items after others
 pub joined_gives : (given items : List Item) (run : Run) (r : Result (List Item) ValueFault)

@@ -12,9 +12,7 @@ use Rattle.query_grammar.specs.declared.ast.SortKey.{SortKey}
 use Rattle.query_meaning.specs.Running.{M, ◌>>=◌, come_to, joined, turn, each}
 use Rattle.query_meaning.specs.Environment.{Bound, Environment, with_variable}
 use Rattle.evaluation.specs.Bindings.{binding_of}
-use Rattle.evaluation.specs.Compared.{StandsFor}
 use Rattle.evaluation.specs.Rebound.{rebound}
-use Rattle.evaluation.specs.declared.item_comparison.Subject.{Subject}
 use Rattle.query_meaning.specs.Sequences.{Meaning, Tuple, one, satisfied, tuples, keys_in, key_in as key_in_order, and_tuple, kept_tuple, in_sorted_order}
 
 -- what the parts of a part mean
@@ -46,6 +44,10 @@ abbrev pub and_position : Option (List ℕ) → (index : ℕ) → List Bound →
 and_position None i bs = bs
 and_position (Some at) i bs = record { variable = at; items = one (atom.Integer (pos (i + 1))) } ∷ bs
 
+-- one variable more, with one item
+abbrev pub bound : (variable : List ℕ) → Item → List Bound → List Bound
+bound x item bs = record { variable = x; items = item ∷ [] } ∷ bs
+
 -- variables that, with other items for the one that was bound last, are that variable bound after those others
 abbrev pub Rebinds : (variable : List ℕ) → (others : List Bound) → List Bound → Type 0
 Rebinds x others bs = (items : List Item) → rebound items bs ≡ record { variable = x; items = items } ∷ others
@@ -66,10 +68,6 @@ for_each x at cs k env items s = each (λ i s item. for_one x at cs k env i s it
 -- one item of a binding of a quantified expression, before the other bindings
 abbrev pub satisfied_by : Quantifier → (variable : List ℕ) → List (Binding Meaning) → Meaning → Environment → Item → M Bool
 satisfied_by q x bs m env item = turn (satisfied q bs m (with_variable x (item ∷ []) env))
-
--- what stands for an item is that variable, wherever it was bound last to that item alone
-abbrev pub IsVariable : (variable : List ℕ) → Subject → Type 0
-IsVariable x s = (item : Item) (env : Environment) → StandsFor s item (with_variable x (item ∷ []) env)
 
 -- one key more
 abbrev pub and_key : Environment → List (Option Atom) → Meaning → M (List (Option Atom))

@@ -2,21 +2,23 @@
 
 ghost use Rattle.std.specs.Prelude.{◌≡◌, ◌<◌, ◌+◌, ◌∷◌, [], map, option_copied, option_map, pos, IfOk};
 ghost use Rattle.std.specs.Option.{ForSome};
+ghost use Rattle.values.specs.Items.{IsThere};
 ghost use Rattle.values.specs.declared.atom.Atom.TheVariants as atom;
 ghost use Rattle.query_meaning.specs.Meaning.{mean};
-ghost use Rattle.query_meaning.specs.Running.{most_items};
+ghost use Rattle.query_meaning.specs.Running.{most_items, trees_of};
 ghost use Rattle.query_meaning.specs.Sequences as meaning;
 ghost use Rattle.evaluation.specs.Evaluates.{Evaluates, EvaluatesEach};
 ghost use Rattle.query_control.specs.Evaluates.{EvaluatesFlwor};
 ghost use Rattle.evaluation.specs.Gives.{Any, Gives, GivesIn, IsReady, Stand};
 ghost use Rattle.sorted_tuples.specs.Keys.{sort_key_of};
 ghost use Rattle.query_control.specs.Parts as part;
+ghost use Rattle.query_control.specs.Functions.{IsFunctionOf};
 ghost use Rattle.query_control.specs.Lasting.{stand_on};
 
-use crate::condition::Condition;
 use crate::forms::Forms;
 use crate::walk::{AtTuple, Walk};
 use evaluation::{Environment, Evaluation, Sequence, Variables};
+use item_expressions::{Condition, ItemFunction};
 use query_grammar::{Clause, Expr, SortKey};
 use sqlite_items::{Boxed, Items};
 use std::alloc::AllocError;
@@ -44,7 +46,8 @@ impl<F: Fn(&mut Evaluation, &Expr, &Environment) -> Result<Sequence, ValueFault>
         let clauses = clauses.as_slice();
         let condition = Condition::of(clauses, condition)?;
         if keys.is_empty() {
-            return self.unordered(run, clauses, &condition, body, env);
+            let function = ItemFunction::after(clauses, body.get());
+            return self.unordered(run, clauses, &condition, body, &function, env);
         }
         self.ordered(run, clauses, &condition, keys.as_slice(), body, env)
     }
@@ -57,9 +60,11 @@ impl<F: Fn(&mut Evaluation, &Expr, &Environment) -> Result<Sequence, ValueFault>
         clauses: &[Clause<Expr>],
         condition: &Condition,
         body: &Boxed<Expr>,
+        function: &Option<ItemFunction>,
         env: &Environment,
     ) -> Result<Sequence, ValueFault>
         requires flwor { EvaluatesFlwor (F.pre self.now.value_of) (F.post self.now.value_of) clauses.now condition.now body.now }
+        requires function { IsFunctionOf body.now function.now }
         requires ready { IsReady env.now run.old }
         ensures { Gives (meaning.tuples (map (part.clause_of mean) clauses.now) (meaning.returned (option_map mean condition.now) (mean body.now)) env.now []) run.old result run.new }
     {
@@ -69,6 +74,7 @@ impl<F: Fn(&mut Evaluation, &Expr, &Environment) -> Result<Sequence, ValueFault>
             env,
             condition,
             body,
+            function,
         };
         let walk = Walk {
             at_tuple,
@@ -93,9 +99,6 @@ impl<F: Fn(&mut Evaluation, &Expr, &Environment) -> Result<Sequence, ValueFault>
         let Some(test) = condition.test() else {
             return Ok(true);
         };
-        if let Some(value) = condition.compared(run, env) {
-            return value;
-        }
         self.holds(run, test, env)
     }
 }
@@ -107,6 +110,8 @@ struct Returning<'w, 'f, F> {
     env: &'w Environment<'f, 'w>,
     condition: &'w Condition<'w, 'w>,
     body: &'w Boxed<Expr>,
+    /// The same as a function of the item that the last clause binds its variable to, where it is one.
+    function: &'w Option<ItemFunction<'w>>,
 }
 
 impl<'w, 'f, F: Fn(&mut Evaluation, &Expr, &Environment) -> Result<Sequence, ValueFault>> AtTuple
@@ -118,7 +123,7 @@ impl<'w, 'f, F: Fn(&mut Evaluation, &Expr, &Environment) -> Result<Sequence, Val
     ghost can_evaluate = { λ s x. Evaluates (F.pre s.forms.now.value_of) (F.post s.forms.now.value_of) (x ∷ []) };
 
     ghost can_take = { λ s. ForSome s.condition.now (λ x. Evaluates (F.pre s.forms.now.value_of) (F.post s.forms.now.value_of) (x ∷ []))
-        × Evaluates (F.pre s.forms.now.value_of) (F.post s.forms.now.value_of) (s.body.now ∷ []) };
+        × (Evaluates (F.pre s.forms.now.value_of) (F.post s.forms.now.value_of) (s.body.now ∷ []) × IsFunctionOf s.body.now s.function.now) };
 
     ghost fits = { λ s. Stand };
 
@@ -147,7 +152,67 @@ impl<'w, 'f, F: Fn(&mut Evaluation, &Expr, &Environment) -> Result<Sequence, Val
         }
     }
 
+    fn take_item(
+        &self,
+        run: &mut Evaluation,
+        variable: &Text,
+        item: &Item,
+        others: &Variables,
+        former: &mut Option<Variables>,
+        given: &mut Sequence,
+    ) -> Result<(), ValueFault> {
+        match self.condition.holds_of(run, variable, item, others) {
+            Some(Ok(true)) => self.and_item(run, variable, item, others, former, given),
+            Some(Ok(false)) => Ok(()),
+            Some(Err(fault)) => Err(fault),
+            None => {
+                let variables = and_item(run, variable, item, others, former.take())?;
+                let taken = self.take(run, &variables, given);
+                *former = Some(variables);
+                taken
+            }
+        }
+    }
+
     ghost lasts = { λ s items old new g h. stand_on items old new g h };
+}
+
+impl<'w, 'f, F: Fn(&mut Evaluation, &Expr, &Environment) -> Result<Sequence, ValueFault>> Returning<
+    'w,
+    'f,
+    F,
+> {
+    /// Adds the items of `return` where a variable is bound to an item.
+    fn and_item(
+        &self,
+        run: &mut Evaluation,
+        variable: &Text,
+        item: &Item,
+        others: &Variables,
+        former: &mut Option<Variables>,
+        given: &mut Sequence,
+    ) -> Result<(), ValueFault>
+        requires body { Evaluates (F.pre self.now.forms.now.value_of) (F.post self.now.forms.now.value_of) (self.now.body.now ∷ []) }
+        requires function { IsFunctionOf self.now.body.now self.now.function.now }
+        requires ready { IsReady (part.with_variables others.now self.now.env.now) run.old }
+        requires item { IsThere (trees_of run.old) item.now }
+        requires former { ForSome former.old (part.Rebinds variable.now others.now) }
+        requires stand { Stand given.old run.old }
+        ensures gives { GivesIn Stand (meaning.and_items (part.with_variables (part.bound variable.now item.now others.now) self.now.env.now) given.old (mean self.now.body.now)) run.old (part.leaving result given.new) run.new }
+        ensures former { ForSome former.new (part.Rebinds variable.now others.now) }
+    {
+        if let Some(function) = self.function {
+            if function.is_of(variable) {
+                let made = function.value(run, item)?;
+                return given.append(Sequence::one(run.alloc(), made)?);
+            }
+        }
+        let variables = and_item(run, variable, item, others, former.take())?;
+        let env = self.env.with(&variables);
+        let added = self.forms.and_items(run, given, self.body.get(), &env);
+        *former = Some(variables);
+        added
+    }
 }
 
 /// What the variables of a clause are bound to.

@@ -15,7 +15,6 @@ use evaluation::{Environment, Evaluation, Sequence};
 use fault_codes::Code;
 use query_grammar::{Expr, IntegerLiteral};
 use sqlite_items::{Boxed, Items};
-use std::mem;
 use values::{Atom, Item, Text, ValueFault, truth};
 
 /// The forms of expressions, over a function that evaluates their parts.
@@ -127,9 +126,7 @@ impl<F: Fn(&mut Evaluation, &Expr, &Environment) -> Result<Sequence, ValueFault>
         ensures { Gives (meaning.and_items env.now given.old (mean x.now)) run.old (leaving result given.new) run.new }
     {
         let items = self.value_of(run, x, env)?;
-        let before = mem::replace(given, Sequence::new(run.alloc()));
-        *given = before.joined(items)?;
-        Ok(())
+        given.append(items)
     }
 }
 

@@ -4,7 +4,6 @@
 #![tactic(auto)]
 
 mod chain;
-mod condition;
 mod flwor;
 mod forms;
 mod logic;

@@ -2,7 +2,6 @@
 
 ghost use Rattle.std.specs.Prelude.{◌≡◌, ◌+◌, ◌∷◌, [], length, map, option_map, IfOk};
 ghost use Rattle.std.specs.Option.{ForSome};
-ghost use Rattle.values.specs.Comparisons.{as_string};
 ghost use Rattle.evaluation.specs.Gives.{Any, Gives, GivesIn, IsReady, Says, Stand};
 ghost use Rattle.query_meaning.specs.Meaning.{mean};
 ghost use Rattle.query_meaning.specs.Sequences as meaning;
@@ -12,17 +11,16 @@ ghost use Rattle.sorted_tuples.specs.Keys.{AreKept, AreReady, sort_key_of};
 ghost use Rattle.query_control.specs.Parts as part;
 ghost use Rattle.query_control.specs.Lasting.{kept_grows};
 
-use crate::condition::Condition;
+use crate::flwor::and_item;
 use crate::forms::Forms;
 use crate::walk::{AtTuple, Walk};
 use evaluation::{Environment, Evaluation, Sequence, Variables};
-use fault_codes::Code;
+use item_expressions::Condition;
 use query_grammar::{Clause, Expr, SortKey};
-use sorted_tuples::{Keys, Tuple, Tuples};
+use sorted_tuples::{Keys, Place, Placed, Tuple, Tuples, key_of};
 use sqlite_items::Boxed;
-use std::alloc::AllocError;
 use std::mem;
-use values::{Atom, ValueFault};
+use values::{Item, Text, ValueFault};
 
 impl<F: Fn(&mut Evaluation, &Expr, &Environment) -> Result<Sequence, ValueFault>> Forms<F> {
     /// Clauses, `where`, `order by` and `return`: all tuples with their keys, then the sort, then `return` in sorted order. Codes: that of
@@ -109,26 +107,34 @@ impl<F: Fn(&mut Evaluation, &Expr, &Environment) -> Result<Sequence, ValueFault>
         requires stand { Stand given.old run.old }
         ensures { Gives (part.returned_at (mean body.now) given.old tuple.now) run.old (part.leaving result given.new) run.new }
     {
-        self.and_items(run, given, body.get(), &tuple.environment())
+        match tuple.place().get() {
+            Placed::Kept(env) => self.and_items(run, given, body.get(), &env.get()),
+            Placed::Bound(others, variable, item) => {
+                let others = others.get();
+                let variables = and_item(run, variable, item, others.variables(), None)?;
+                self.and_items(run, given, body.get(), &others.with(&variables))
+            }
+        }
     }
 
-    /// One tuple more.
+    /// One tuple more, whose environment is held as that place.
     fn and_tuple<'f>(
         &self,
         run: &mut Evaluation,
         keys: &[SortKey<Expr>],
-        env: &Environment<'f, '_>,
+        env: &Environment,
+        place: Place<'f>,
         given: &mut Tuples<'f>,
     ) -> Result<(), ValueFault>
+        requires place { place ≡ env.now }
         requires keys { EvaluatesEach (F.pre self.now.value_of) (F.post self.now.value_of) part.key_in keys.now }
         requires ready { IsReady env.now run.old }
         requires kept { AreKept (length keys.now) given.old run.old }
         ensures { GivesIn (AreKept (length keys.now)) (part.and_tuple_of (map (sort_key_of mean) keys.now) env.now given.old) run.old (part.leaving result given.new) run.new }
     {
         let keys = self.keys_in(run, keys, env)?;
-        let kept = env.keep()?;
         let before = mem::replace(given, Tuples::new(run.alloc()));
-        let more = before.and(kept, keys)?;
+        let more = before.and(place, keys)?;
         put(given, more);
         Ok(())
     }
@@ -214,13 +220,63 @@ impl<'w, 'f, F: Fn(&mut Evaluation, &Expr, &Environment) -> Result<Sequence, Val
     ) -> Result<(), ValueFault> {
         let env = self.env.with(variables);
         if self.forms.tested(run, self.condition, &env)? {
-            self.forms.and_tuple(run, self.keys, &env, given)
+            let place = Place::kept(env.keep()?);
+            self.forms.and_tuple(run, self.keys, &env, place, given)
         } else {
             Ok(())
         }
     }
 
+    fn take_item(
+        &self,
+        run: &mut Evaluation,
+        variable: &Text,
+        item: &Item,
+        others: &Variables,
+        former: &mut Option<Variables>,
+        given: &mut Tuples<'f>,
+    ) -> Result<(), ValueFault> {
+        let variables = and_item(run, variable, item, others, former.take())?;
+        let taken = self.take_bound(run, &variables, variable, item, others, given);
+        *former = Some(variables);
+        taken
+    }
+
     ghost lasts = { λ s tuples old new g h. kept_grows (length s.keys.now) tuples old new g h };
+}
+
+impl<'w, 'f, F: Fn(&mut Evaluation, &Expr, &Environment) -> Result<Sequence, ValueFault>> Keeping<
+    'w,
+    'f,
+    F,
+> {
+    /// One tuple more, where a variable is bound to an item after all others: both are kept beside these.
+    #[tactic(auto, using(crate::specs::Lasting::kept_grows))]
+    fn take_bound(
+        &self,
+        run: &mut Evaluation,
+        variables: &Variables,
+        variable: &Text,
+        item: &Item,
+        others: &Variables,
+        given: &mut Tuples<'f>,
+    ) -> Result<(), ValueFault>
+        requires condition { ForSome self.now.condition.now (λ x. Evaluates (F.pre self.now.forms.now.value_of) (F.post self.now.forms.now.value_of) (x ∷ [])) }
+        requires keys { EvaluatesEach (F.pre self.now.forms.now.value_of) (F.post self.now.forms.now.value_of) part.key_in self.now.keys.now }
+        requires bound { variables.now ≡ part.bound variable.now item.now others.now }
+        requires ready { IsReady (part.with_variables variables.now self.now.env.now) run.old }
+        requires kept { AreKept (length self.now.keys.now) given.old run.old }
+        ensures { GivesIn (AreKept (length self.now.keys.now)) (meaning.kept_tuple (option_map mean self.now.condition.now) (map (sort_key_of mean) self.now.keys.now) (part.with_variables variables.now self.now.env.now) given.old) run.old (part.leaving result given.new) run.new }
+    {
+        let env = self.env.with(variables);
+        if self.forms.tested(run, self.condition, &env)? {
+            let others = self.env.with(others).keep()?;
+            let place = Place::bound(others, variable.clone()?, item.clone()?);
+            self.forms.and_tuple(run, self.keys, &env, place, given)
+        } else {
+            Ok(())
+        }
+    }
 }
 
 /// Puts a value in the place of another. Over any type, as an assignment of tuples themselves through a reference has no proof.
@@ -228,26 +284,4 @@ fn put<A: Drop>(place: &mut A, value: A)
     ensures { place.new ≡ value }
 {
     *place = value;
-}
-
-/// A key: none, or one atomic value, untyped as a string (XQuery 1.0, section 3.8.3). Faults: `Memory`; `Code` with XPTY0004 where there
-/// are more values.
-fn key_of(values: &[Atom]) -> Result<Option<Atom>, ValueFault>
-    ensures { Says (meaning.key_of values.now) result }
-{
-    match values {
-        [] => Ok(None),
-        [value] => Ok(Some(as_string(value)?)),
-        _ => Err(ValueFault::Code(Code::XPTY0004)),
-    }
-}
-
-/// An atomic value, untyped as a string. It fails where memory is refused.
-fn as_string(value: &Atom) -> Result<Atom, AllocError>
-    ensures { IfOk result (λ a. a ≡ as_string value.now) }
-{
-    match value {
-        Atom::Untyped(text) => Ok(Atom::String(text.clone()?)),
-        _ => value.clone(),
-    }
 }

@@ -8,14 +8,15 @@ ghost use Rattle.query_meaning.specs.Meaning.{mean};
 ghost use Rattle.query_meaning.specs.Running.{trees_of, turn};
 ghost use Rattle.query_meaning.specs.Sequences as meaning;
 ghost use Rattle.query_control.specs.Evaluates.{EvaluatesQuantified};
-ghost use Rattle.evaluation.specs.Compared.{StandsFor};
+ghost use Rattle.item_expressions.specs.Subjects.{IsVariable, StandsFor};
 ghost use Rattle.evaluation.specs.Gives.{Any, Gives, GivesIn, IsReady, Stand};
 ghost use Rattle.evaluation.specs.Bindings.{binding_of};
 ghost use Rattle.query_control.specs.Parts as part;
 
 use crate::flwor::and_item;
 use crate::forms::Forms;
-use evaluation::{Environment, Evaluation, ItemComparison, Sequence, Subject, Variables};
+use evaluation::{Environment, Evaluation, Sequence, Variables};
+use item_expressions::{ItemComparison, Subject};
 use query_grammar::{Binding, Expr, Quantifier};
 use query_operators::boolean;
 use sqlite_items::{Boxed, Items};
@@ -147,7 +148,7 @@ fn compared_until_decided(
     items: &[Item],
 ) -> Result<bool, ValueFault>
     requires items { Stand items.now run.old }
-    ensures { (variable : List ℕ) (env : Environment) → part.IsVariable variable comparison.now.subject
+    ensures { (variable : List ℕ) (env : Environment) → IsVariable variable comparison.now.subject
         → GivesIn Any (meaning.until_decided quantifier (part.satisfied_by quantifier variable [] (mean comparison.now.expression) env) items.now) run.old result run.new }
 {
     for item in items {

@@ -60,6 +60,25 @@ pub(crate) trait AtTuple {
         requires fits { fits self.now given.old run.old }
         ensures { GivesIn (fits self.now) (means self.now (part.with_variables variables.now (env self.now)) given.old) run.old (part.leaving result given.new) run.new };
 
+    /// One tuple more, where a variable is bound to an item after all others. Codes: its own. What is left of what the tuples come to after a fault is
+    /// not said. The variables of the item before it serve again, and then its own are left for the next.
+    fn take_item(
+        &self,
+        run: &mut Evaluation,
+        variable: &Text,
+        item: &Item,
+        others: &Variables,
+        former: &mut Option<Variables>,
+        given: &mut Self::Given,
+    ) -> Result<(), ValueFault>
+        requires can { can_take self.now }
+        requires ready { IsReady (part.with_variables others.now (env self.now)) run.old }
+        requires item { IsThere (trees_of run.old) item.now }
+        requires former { ForSome former.old (part.Rebinds variable.now others.now) }
+        requires fits { fits self.now given.old run.old }
+        ensures gives { GivesIn (fits self.now) (means self.now (part.with_variables (part.bound variable.now item.now others.now) (env self.now)) given.old) run.old (part.leaving result given.new) run.new }
+        ensures former { ForSome former.new (part.Rebinds variable.now others.now) };
+
     /// It stands as long as no node is lost.
     ghost lasts: { (s : Self) (given : Self.Given) (old new : Run) → Grows old new → fits s given old → fits s given new };
 }
@@ -190,6 +209,11 @@ impl<'w, A: AtTuple> Walk<'w, A> {
         ensures former { ForSome former.new (part.RebindsAt variable.now (option_copied at.entry) self.now.variables.now) }
     {
         run.turn()?;
+        if let (None, []) = (at, self.clauses) {
+            return self
+                .at_tuple
+                .take_item(run, variable, item, self.variables, former, given);
+        }
         let variables = and_item_at(
             run,
             variable,

@@ -7,14 +7,15 @@ ghost use Rattle.query_meaning.specs.Environment.{with_focus};
 ghost use Rattle.query_meaning.specs.Meaning.{mean};
 ghost use Rattle.query_meaning.specs.Paths as meaning;
 ghost use Rattle.query_meaning.specs.Running.{trees_of};
-ghost use Rattle.evaluation.specs.declared.item_comparison.Subject.TheVariants as subject;
+ghost use Rattle.item_expressions.specs.declared.subject.Subject.TheVariants as subject;
 ghost use Rattle.evaluation.specs.Evaluates.{Evaluates};
 ghost use Rattle.evaluation.specs.Gives.{Any, Gives, GivesIn, IsReady, Says, Stand};
 ghost use Rattle.query_paths.specs.Predicates.{at_position, numbered, selected};
 
 use crate::kept::Kept;
-use evaluation::{Environment, Evaluation, ItemComparison, Sequence, Subject};
+use evaluation::{Environment, Evaluation, Sequence};
 use fault_codes::Code;
+use item_expressions::{ItemComparison, Subject};
 use query_grammar::{Expr, IntegerLiteral};
 use sqlite_items::{Boxed, Items};
 use values::{Atom, Item, ValueFault, truth};

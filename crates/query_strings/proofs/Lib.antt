@@ -1,3 +1,4 @@
+pub mod ItemTexts
 pub mod Holding
 pub mod Hyphens
 pub mod Pieces

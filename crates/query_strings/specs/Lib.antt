@@ -1,1 +1,2 @@
+pub mod ItemTexts
 pub mod Texts

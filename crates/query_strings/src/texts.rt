@@ -1,6 +1,6 @@
 //! Texts of atomic values, and texts that are made piece by piece.
 
-ghost use Rattle.std.specs.Prelude.{◌≡◌, ◌++◌, map, IfOk, IfErr, OnOk, Ok, Err, codes};
+ghost use Rattle.std.specs.Prelude.{◌≡◌, ◌++◌, map, length, chars, IfOk, IfErr, OnOk, Ok, Err, codes};
 ghost use Rattle.std.specs.List.{flat_map};
 ghost use Rattle.query_meaning.specs.Strings as meaning;
 ghost use Rattle.evaluation.specs.Gives.{Fails, Says};
@@ -33,6 +33,13 @@ pub fn text_in(value: &Atom) -> Result<&str, Code>
         Atom::String(text) | Atom::Untyped(text) => Ok(text.as_str()),
         Atom::Boolean(_) | Atom::Integer(_) => Err(Code::XPTY0004),
     }
+}
+
+/// How many characters a text has.
+pub fn characters(text: &str) -> usize
+    ensures { result ≡ length (chars text.now) }
+{
+    text.chars().count()
 }
 
 /// The text of just one value. Code: XPTY0004 where there is none or more than one, or an integer or a boolean.

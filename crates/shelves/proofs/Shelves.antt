@@ -33,7 +33,7 @@ use Rattle.trees.proofs.CallerLemmas.{find-append}
 use Rattle.trees.proofs.Copied.{grown-copy}
 use Rattle.data_model.proofs.Firsts.{before-seen, held-identities, seen-none, seen-a, seen-b, seen-first}
 use Rattle.data_model.proofs.Scans.{seen-append}
-use Rattle.trees.proofs.Lent.{find-lent, find-own, has-counts, has-not-counts, lent-apart, pick-lent, pick-own}
+use Rattle.trees.proofs.Lent.{find-lent, find-own, has-counts, has-not-counts, lent-apart}
 
 -- ---- what is known of both
 pub shelf-facts : (u v : ForestTerm) → IsForest u → IsForest v → ComesAfter u v → IsShelf (record { lent = u; own = v })
@@ -99,12 +99,6 @@ module _ (n i : ℕ) (ts us : Trees) (h : IsParted n ts us) where
 
   pub parted-own : n ≤ i → find i (append ts us) ≡ find i us
   parted-own l = find-own i ts us (⊎_elim (λ t. (let m = h.below i t.1 in absurd (omega (arith, l, m)))) (λ t. t.1) (any-tells (count i ts)))
-
-  pub parted-pick-lent : i < n → pick i ts ≡ pick i (append ts us)
-  parted-pick-lent l = sym (pick-lent i ts us (⊎_elim (λ t. (let m = h.above i t.1 in absurd (omega (arith, l, m)))) (λ t. t.1) (any-tells (count i us))))
-
-  pub parted-pick-own : n ≤ i → pick i us ≡ pick i (append ts us)
-  parted-pick-own l = sym (pick-own i ts us (⊎_elim (λ t. (let m = h.below i t.1 in absurd (omega (arith, l, m)))) (λ t. t.1) (any-tells (count i ts))))
 
 -- ---- document order
 listing-append : (ts us : Trees) → listing (append ts us) ≡ listing ts ++ listing us

@@ -1,14 +1,13 @@
 //! Nodes of a shelf that are looked up one after the other.
 
-ghost use Rattle.std.specs.Prelude.{◌≡◌, IfSome, IsSome};
+ghost use Rattle.std.specs.Prelude.{◌≡◌};
 ghost use Rattle.data_model.specs.Trees.{append, find};
 ghost use Rattle.data_model.specs.Views.{Views};
 ghost use Rattle.node_table.specs.Cursors.{Names};
-ghost use Rattle.node_table.specs.Plain.{IsPlainValue};
 ghost use Rattle.shelves.specs.Parted.{IsParted};
 
 use std::marker::Model;
-use trees::{NodeCursor, NodeId, NodeName, NodeView, PlainValue};
+use trees::{NodeCursor, NodeId, NodeName, NodeView};
 
 /// Looks nodes of both forests up one after the other; one that lies near the one before it is found sooner. Contracts see it as the trees.
 #[derive(Drop)]
@@ -61,17 +60,5 @@ impl<'s> ShelfCursor<'s> {
             return self.lent.node(id);
         }
         self.own.node(id)
-    }
-
-    /// What the typed value of a node is made of, where its string value stands in one text, as `Shelf::plain_value` gives it; `None` elsewhere.
-    pub fn plain_value(&mut self, id: NodeId) -> Option<PlainValue<'s>>
-        requires { IsSome (find id self.old) }
-        ensures plain { IfSome result (IsPlainValue self.old id) }
-        ensures same { self.new ≡ self.old }
-    {
-        if id.number() < self.first {
-            return self.lent.plain_value(id);
-        }
-        self.own.plain_value(id)
     }
 }

@@ -1,3 +1,4 @@
 pub mod Abbreviations
 pub mod Held
 pub mod Keys
+pub mod Places

@@ -2,6 +2,8 @@
 #![tactic(auto)]
 
 mod abbreviations;
+mod place;
 mod tuples;
 
-pub use tuples::{Keys, Tuple, Tuples};
+pub use place::{Place, Placed};
+pub use tuples::{Keys, Tuple, Tuples, key_of};

@@ -6,16 +6,17 @@ ghost use Rattle.std.specs.List.Sorted.{IsStableByKey};
 ghost use Rattle.std.specs.Option.{option_copied};
 ghost use Rattle.std.specs.Ordering.{nat_cmp};
 ghost use Rattle.evaluation.specs.Gives.{Judged, Says};
-ghost use Rattle.values.specs.Comparisons.{string_cmp};
+ghost use Rattle.values.specs.Comparisons.{as_string, string_cmp};
 ghost use Rattle.query_meaning.specs.Meaning.{mean};
-ghost use Rattle.query_meaning.specs.Sequences.{all_comparable, and_tuple, in_sorted_order};
+ghost use Rattle.query_meaning.specs.Sequences.{all_comparable, and_tuple, in_sorted_order, key_of};
 ghost use Rattle.sorted_tuples.specs.Abbreviations.{eighths, first_abbreviation, shared_bytes};
 ghost use Rattle.sorted_tuples.specs.Keys.{Each, IsWide, column, comes_first, has_order, in_run, inserted_each, is_of_one_type, key_at, rank, ranked, ranked_cmp, turned};
 ghost use Rattle.sorted_tuples.specs.Held.{keys_of};
 ghost use Rattle.sorted_tuples.specs.Keys.{sort_key_of};
 
 use crate::abbreviations;
-use evaluation::{Environment, KeptEnvironment, MOST_ITEMS};
+use crate::place::Place;
+use evaluation::MOST_ITEMS;
 use fault_codes::Code;
 use query_grammar::{Expr, SortKey};
 use std::alloc::{AllocError, Global};
@@ -133,7 +134,7 @@ fn with_key(alloc: Global, keys: Held, key: Option<Atom>) -> Result<Held, AllocE
 /// An environment and its keys.
 #[derive(Drop)]
 pub struct Tuple<'f> {
-    environment: KeptEnvironment<'f>,
+    place: Place<'f>,
     keys: Keys,
 }
 
@@ -145,15 +146,15 @@ impl<'f> Model for Tuple<'f> {
 
     ghost coded = { tuple_code };
 
-    ghost view = { λ t. record { environment = t.environment; keys = t.keys } };
+    ghost view = { λ t. record { environment = t.place; keys = t.keys } };
 }
 
 impl<'f> Tuple<'f> {
     /// The environment.
-    pub fn environment<'v>(&'v self) -> Environment<'f, 'v>
-        ensures { result ≡ self.now.environment }
+    pub fn place(&self) -> &Place<'f>
+        ensures { result.now ≡ self.now.environment }
     {
-        self.environment.get()
+        &self.place
     }
 
     /// The key at a position; `None` where it is empty.
@@ -202,15 +203,15 @@ impl<'f> Tuples<'f> {
 
     /// One tuple more. Faults: `Memory`; `Code` with PXQ0002 where there are 10,000.
     #[tactic(auto, unfolding(query_meaning::specs::Running::most_items))]
-    pub fn and(self, environment: KeptEnvironment<'f>, keys: Keys) -> Result<Tuples<'f>, ValueFault>
-        ensures added { Says (and_tuple environment.entry self.entry keys) result }
-        ensures judged { Judged (and_tuple environment.entry self.entry keys) result }
+    pub fn and(self, place: Place<'f>, keys: Keys) -> Result<Tuples<'f>, ValueFault>
+        ensures added { Says (and_tuple place.entry self.entry keys) result }
+        ensures judged { Judged (and_tuple place.entry self.entry keys) result }
     {
         let Tuples { mut tuples } = self;
         if tuples.len() >= MOST_ITEMS {
             return Err(ValueFault::Code(Code::PXQ0002));
         }
-        tuples.push(Tuple { environment, keys })?;
+        tuples.push(Tuple { place, keys })?;
         Ok(Tuples { tuples })
     }
 
@@ -435,5 +436,27 @@ fn rank(key: Option<&Atom>) -> u8
         Some(Atom::Integer(_)) => 2,
         Some(Atom::String(_)) => 3,
         Some(Atom::Untyped(_)) => 4,
+    }
+}
+
+/// A key: none, or one atomic value, untyped as a string (XQuery 1.0, section 3.8.3). Faults: `Memory`; `Code` with XPTY0004 where there
+/// are more values.
+pub fn key_of(values: &[Atom]) -> Result<Option<Atom>, ValueFault>
+    ensures { Says (key_of values.now) result }
+{
+    match values {
+        [] => Ok(None),
+        [value] => Ok(Some(as_string(value)?)),
+        _ => Err(ValueFault::Code(Code::XPTY0004)),
+    }
+}
+
+/// An atomic value, untyped as a string. It fails where memory is refused.
+fn as_string(value: &Atom) -> Result<Atom, AllocError>
+    ensures { IfOk result (λ a. a ≡ as_string value.now) }
+{
+    match value {
+        Atom::Untyped(text) => Ok(Atom::String(text.clone()?)),
+        _ => value.clone(),
     }
 }

@@ -4,6 +4,7 @@ pub mod Pairs
 pub mod Codes
 pub mod Atomized
 pub mod Escapes
+pub mod LentTexts
 pub mod Limits
 pub mod Parts
 pub mod Constructors

@@ -8,6 +8,7 @@ pub mod Limited
 pub mod Items
 pub mod Inside
 pub mod Paid
+pub mod LentTexts
 pub mod Operands
 pub mod Faults
 pub mod Examples

@@ -1,8 +1,7 @@
 -- Typed values for their work (our own measure): a unit for each node of a node's tree, and the work of the text.
-use Rattle.std.specs.Prelude.{◌≡◌, ℕ, ◌-◌, nat_le, if◌then◌else◌, Result, Ok, Err, refl}
-use Rattle.std.specs.Coded.{Coded, code_by, coded×, coded_ℕ}
+use Rattle.std.specs.Prelude.{ℕ, ◌-◌, nat_le, if◌then◌else◌, Result, Ok, Err}
 use Rattle.data_model.specs.Changes.{pick}
-use Rattle.data_model.specs.Trees.{Trees, coded_trees, size}
+use Rattle.data_model.specs.Trees.{Trees, size}
 use Rattle.fault_codes.specs.declared.code.Code.{Code}
 use Rattle.fault_codes.specs.declared.code.Code.TheVariants.{PXQ0002}
 use Rattle.values.specs.Atoms.{◌>>=◌, atom_of}
@@ -10,14 +9,6 @@ use Rattle.values.specs.Work.{text_of, text_work}
 use Rattle.values.specs.declared.atom.Atom.{Atom}
 use Rattle.values.specs.declared.atom.Item.{Item}
 use Rattle.values.specs.declared.atom.Item.TheVariants as item
-
--- the trees, and how much work is left
-pub record Purse : Type 0 where
-  pub trees : Trees
-  pub work : ℕ
-
-abbrev pub purse_code : Coded Purse
-purse_code = code_by (Trees × ℕ) (coded× coded_trees coded_ℕ) (λ p. (p.trees, p.work)) (λ p. record { trees = p.0; work = p.1 }) (λ _. refl)
 
 -- the nodes of the tree of a node
 abbrev pub nodes_in : Trees → Item → ℕ

@@ -77,7 +77,7 @@ fn typed_value(alloc: Global, shelf: &Shelf, id: NodeId) -> Result<Atom, ValueFa
 }
 
 /// The typed value of a node whose string value stands in one text. Faults: `Memory`; `Code` with PXQ0002 where it is longer than 65,536 bytes.
-pub fn plain_atom(plain: PlainValue) -> Result<Atom, ValueFault>
+pub(crate) fn plain_atom(plain: PlainValue) -> Result<Atom, ValueFault>
     ensures atom { IfOk result (λ a. bounded plain.entry.kind plain.entry.text.now ≡ Ok a) }
     ensures code { IfErr result (λ fault. (code : Code) → fault ≡ ValueFault.Code code → bounded plain.entry.kind plain.entry.text.now ≡ Err code) }
 {

@@ -55,6 +55,13 @@ fn compare_text(left: &str, right: &str) -> Ordering
     left.cmp(right)
 }
 
+/// Whether a comparison holds of two strings or untyped values, by their texts.
+pub fn compare_texts(op: Comparison, left: &str, right: &str) -> bool
+    ensures { result ≡ holds op (string_cmp left.now right.now) }
+{
+    op.holds(compare_text(left, right))
+}
+
 /// The order of two values of one type, where untyped is a string; `None` where they are of different types.
 fn compare_atoms(left: &Atom, right: &Atom) -> Option<Ordering>
     ensures { result ≡ same_type_cmp (as_string left.now) (as_string right.now) }

@@ -2,24 +2,26 @@
 #![tactic(auto)]
 
 mod atom;
-mod atomizer;
 mod compare;
 mod fault;
 mod laws;
+mod lent;
 mod limited_text;
 mod operand;
 mod operators;
+mod paid;
 mod print;
 mod readings;
 mod work;
 
-pub use atom::{Atom, Item, atomize, atomize_item, plain_atom, truth};
-pub use atomizer::{Atomizer, paid_atom};
-pub use compare::{Comparison, compare_general, compare_value};
+pub use atom::{Atom, Item, atomize, atomize_item, truth};
+pub use compare::{Comparison, compare_general, compare_texts, compare_value};
 pub use fault::ValueFault;
 pub use laws::examples;
+pub use lent::{LentText, lent_text};
 pub use limited_text::LimitedText;
 pub use operators::{Operator, arithmetic, integer_operands};
+pub use paid::paid_atom;
 pub use print::push_item;
 pub use readings::{read_boolean, read_integer};
 pub use shared_texts::Text;

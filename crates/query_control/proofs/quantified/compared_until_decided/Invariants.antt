@@ -2,7 +2,8 @@ use Rattle.std.proofs.Common.{ℕ, List, []}
 use Rattle.query_meaning.specs.Environment.{Environment}
 use Rattle.query_meaning.specs.Meaning.{mean}
 use Rattle.evaluation.specs.Gives.{Grows}
-use Rattle.query_control.specs.Parts.{IsVariable, satisfied_by}
+use Rattle.item_expressions.specs.Subjects.{IsVariable}
+use Rattle.query_control.specs.Parts.{satisfied_by}
 use Rattle.query_control.proofs.Deciding.{Seeks}
 use Rattle.query_control.proofs.quantified.compared_until_decided.Given as goal
 

@@ -1,15 +1,19 @@
-use Rattle.std.proofs.Common.{Ok}
+use Rattle.std.proofs.Common.{◌++◌}
 use Rattle.query_meaning.specs.Meaning.{mean}
-use Rattle.query_meaning.specs.Running.{joined}
+use Rattle.query_meaning.specs.Running.{joined, within}
 use Rattle.evaluation.specs.Gives.{Stand}
 use Rattle.evaluation.proofs.Each.{then_gives}
 use Rattle.query_control.specs.Lasting.{stand_on}
-use Rattle.query_control.proofs.Values.{joined_gives}
+use Rattle.query_control.specs.Parts.{leaving}
+use Rattle.query_control.proofs.Values.{joined_gives, says_left}
 use Rattle.query_control.proofs.forms.Forms.and_items.Goals as goal
 
 pub returns : goal.returns
 returns g c =
     let value = c.in_ok-items.ensures in
-    let stand = stand_on c.args.given.now c.args.run.now c.value_of.new.run value.1.0 c.requires.stand in
-    then_gives Stand Stand (mean c.args.x.now c.args.env.now) (joined c.args.given.now) c.args.run.now c.value_of.new.run c.value_of.new.run c.in_ok-items.items (Ok c.in_ok-given.field-0) value
-    (joined_gives c.args.given.now c.in_ok-items.items c.value_of.new.run (Ok c.in_ok-given.field-0) stand value.1.1 (rw c.replace-before.ensures.value at c.in_ok-given.ensures.joined))
+    let items = c.in_ok-items.items in
+    let given = c.args.given.now in
+    let left = leaving c.append.result c.append.new.self in
+    let stand = stand_on given c.args.run.now c.value_of.new.run value.1.0 c.requires.stand in
+    then_gives Stand Stand (mean c.args.x.now c.args.env.now) (joined given) c.args.run.now c.value_of.new.run c.value_of.new.run items left value
+    (joined_gives given items c.value_of.new.run left stand value.1.1 (says_left (within (given ++ items)) c.append.result c.append.new.self c.append.ensures.joined c.append.ensures.code))

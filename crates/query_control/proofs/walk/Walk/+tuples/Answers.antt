@@ -1,9 +1,9 @@
-use Rattle.std.proofs.Common.{None, Some, map, arith, rules}
+use Rattle.std.proofs.Common.{None, Some, ap, map, option_copied, arith, rules}
 use Rattle.query_meaning.specs.Meaning.{mean}
 use Rattle.query_control.specs.Parts.{clause_of, leaving, with_variables}
 use Rattle.query_control.proofs.Calls.{clauses_rest}
 use Rattle.query_control.proofs.Clauses.{tuples_for, one_gives}
-use Rattle.query_control.proofs.Values.{grows_turned, ready_in_turn}
+use Rattle.query_control.proofs.Values.{grows_turned, ready_in_turn, without_position}
 use Rattle.query_control.proofs.walk.Walk.+tuples.Goals as goal
 
 pub tuples-let_all-requires : goal.tuples-let_all-requires
@@ -37,6 +37,14 @@ for_one-tuples-found-requires g t c κs within =
     let fits = g.met.A.AtTuple.lasts c.args.self.now.at_tuple.now c.args.given.now c.args.run.now c.turn.new.self (grows_turned _ _ _ c.in_ok-turn.ensures) c.requires.fits in
     let ready = ready_in_turn _ _ _ _ (with_variables c.args.self.now.variables.now (g.A.AtTuple.env c.args.self.now.at_tuple.now)) _ _ _ _ c.requires.ready c.requires.item c.in_ok-turn.ensures c.in_ok-variables.ensures in
     (omega (arith, c.decreases), (search rules, (search rules, (search rules, (search rules, (ready, fits))))))
+
+pub for_one-take_item-requires-clause-former : goal.for_one-take_item-requires-clause-former
+for_one-take_item-requires-clause-former g t c =
+    without_position c.args.variable.now (option_copied c.args.at) c.args.self.now.variables.now c.args.former.now (ap option_copied c.in-None-empty.is-0) c.requires.former
+
+pub for_one-take_item-requires-clause-fits : goal.for_one-take_item-requires-clause-fits
+for_one-take_item-requires-clause-fits g t c =
+    g.met.A.AtTuple.lasts c.args.self.now.at_tuple.now c.args.given.now c.args.run.now c.turn.new.self (grows_turned _ _ _ c.in_ok-turn.ensures) c.requires.fits
 
 pub for_one-returns : goal.for_one-returns
 for_one-returns g t c =

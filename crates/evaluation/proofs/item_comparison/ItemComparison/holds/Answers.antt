@@ -1,8 +1,0 @@
-use Rattle.evaluation.proofs.Comparing.{as_meant}
-use Rattle.evaluation.proofs.item_comparison.ItemComparison.holds.Goals as goal
-
-pub returns : goal.returns
-returns c =
-    let inside = c.self.inside in
-    rw (← c.self.view_is)
-    (λ env stands. as_meant inside.operator inside.subject c.args.item.now inside.literal env c.args.run.now c.holds_of.new.run c.holds_of.result stands c.self.invariant c.holds_of.ensures)

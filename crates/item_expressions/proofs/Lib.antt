@@ -1,0 +1,5 @@
+pub mod Applying
+pub mod Comparing
+pub mod Joining
+pub mod Standing
+pub mod Tested

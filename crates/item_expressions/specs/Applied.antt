@@ -1,0 +1,59 @@
+-- Functions of an item, as expressions in which something stands for the item.
+use Rattle.std.specs.Prelude.{pos, chars, List, [], ◌∷◌, length, Some, Result, Ok, Err}
+use Rattle.values.specs.Items.{IsThere}
+use Rattle.values.specs.Work.{text_work}
+use Rattle.values.specs.declared.atom.Atom.TheVariants as atom
+use Rattle.values.specs.declared.atom.Item.{Item}
+use Rattle.values.specs.declared.atom.Item.TheVariants as item
+use Rattle.values.specs.declared.fault.ValueFault.{ValueFault}
+use Rattle.query_grammar.specs.declared.ast.Expr.{Expr}
+use Rattle.query_grammar.specs.declared.ast.Expr.TheVariants as e
+use Rattle.query_grammar.specs.declared.functions.Function.TheVariants as function
+use Rattle.query_meaning.specs.Running.{M, Run, ◌>>=◌, pure, trees_of, work}
+use Rattle.query_strings.specs.ItemTexts.{item_text, printed_item}
+use Rattle.item_expressions.specs.Subjects.{OfSubject, subject_expression, subject_work}
+use Rattle.item_expressions.specs.declared.subject.Subject.{Subject}
+use Rattle.item_expressions.specs.declared.item_function.Made.{Made}
+use Rattle.item_expressions.specs.declared.item_function.Made.TheVariants as made
+use Rattle.item_expressions.specs.declared.item_function.ItemFunction.TheInside.{Inside}
+
+abbrev pub function_expression : Subject → Made → Expr
+function_expression s made.Itself = subject_expression s
+function_expression s made.String = e.Call (Some function.String) (subject_expression s ∷ [])
+function_expression s made.Length = e.Call (Some function.StringLength) (subject_expression s ∷ [])
+
+abbrev pub function_of : Inside → OfSubject
+function_of f = record { subject = f.subject; expression = function_expression f.subject f.made }
+
+-- the item alone, or the fault
+abbrev pub given_one : Result Item ValueFault → Result (List Item) ValueFault
+given_one (Ok x) = Ok (x ∷ [])
+given_one (Err f) = Err f
+
+-- an item that stands in the trees
+abbrev pub IsIn : Item → Run → Type 0
+IsIn x run = IsThere (trees_of run) x
+
+-- the typed value as a string that is made, and the work of a value of one item
+abbrev pub printed_string : Item → M Item
+printed_string x = do
+  text ← printed_item x
+  _ ← work (text_work text)
+  _ ← work 2
+  pure (item.Atomic (atom.String text))
+
+-- the characters of its text
+abbrev pub length_at : Item → M Item
+length_at x = do
+  text ← item_text x
+  _ ← work 2
+  pure (item.Atomic (atom.Integer (pos (length (chars text)))))
+
+-- what is made of the item
+abbrev pub made_of : Made → Item → M Item
+made_of made.Itself x = pure x
+made_of made.String x = printed_string x
+made_of made.Length x = length_at x
+
+abbrev pub applied : Subject → Made → Item → M Item
+applied s m x = subject_work s >>= (λ _. made_of m x)

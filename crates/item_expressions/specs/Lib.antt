@@ -1,0 +1,4 @@
+pub mod Applied
+pub mod Compared
+pub mod Joined
+pub mod Subjects

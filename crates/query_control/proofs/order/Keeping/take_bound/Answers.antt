@@ -1,0 +1,10 @@
+use Rattle.std.proofs.Common.{length, map, option_map}
+use Rattle.query_meaning.specs.Meaning.{mean}
+use Rattle.sorted_tuples.specs.Keys.{sort_key_of}
+use Rattle.query_control.specs.Parts.{leaving, with_variables}
+use Rattle.query_control.proofs.Kept.{tested_kept}
+use Rattle.query_control.proofs.order.Keeping.take_bound.Goals as goal
+
+pub returns-in_ok-clone-2 : goal.returns-in_ok-clone-2
+returns-in_ok-clone-2 g c =
+    tested_kept (length c.args.self.now.keys.now) (option_map mean c.args.self.now.condition.now) (map (sort_key_of mean) c.args.self.now.keys.now) (with_variables c.args.variables.now c.args.self.now.env.now) c.with-env.result c.args.given.now c.args.run.now c.tested.new.run c.and_tuple.new.run c.in_ok-tested.field-0 (leaving c.and_tuple.result c.and_tuple.new.given) c.with-env.ensures c.if-branch.true c.in_ok-tested.ensures c.and_tuple.ensures
