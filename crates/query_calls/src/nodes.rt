@@ -1,9 +1,10 @@
 //! Functions of documents and nodes (Functions and Operators, sections 2.3, 14.1, 14.8 and 15.5.4).
 
-ghost use Rattle.std.specs.Prelude.{◌≡◌, IsSome};
+ghost use Rattle.std.specs.Prelude.{◌≡◌, ◌∷◌, [], IsSome};
 ghost use Rattle.data_model.specs.Trees.{find};
 ghost use Rattle.data_model.specs.Walks.{root_of};
 ghost use Rattle.shelves.specs.Shelf.{shelf_trees};
+ghost use Rattle.values.specs.Items.{IsThere};
 ghost use Rattle.query_meaning.specs.Functions as functions;
 ghost use Rattle.query_meaning.specs.Running.{trees_of};
 ghost use Rattle.evaluation.specs.Gives.{Gives, Stand};
@@ -12,7 +13,7 @@ ghost use Rattle.query_calls.specs.Parts.{name_of};
 use crate::sequences::string_of;
 use evaluation::{Evaluation, Sequence};
 use fault_codes::Code;
-use query_strings::{one_text, printed};
+use query_strings::{one_text, printed_item};
 use shelves::Shelf;
 use trees::NodeId;
 use values::{Atom, Item, Text, ValueFault};
@@ -108,22 +109,16 @@ pub fn string(run: &mut Evaluation, items: &Sequence) -> Result<Sequence, ValueF
 {
     match items.as_slice() {
         [] => string_of(run, Text::new(String::new(run.alloc()))),
-        [_] => {
-            let values = run.atoms(items)?;
-            first_printed(run, &values)
-        }
+        [item] => string_of_item(run, item),
         _ => Err(ValueFault::Code(Code::XPTY0004)),
     }
 }
 
-fn first_printed(run: &mut Evaluation, values: &[Atom]) -> Result<Sequence, ValueFault>
-    ensures { Gives (functions.string (functions.first_printed values.now)) run.old result run.new }
+#[tactic(auto, using(crate::proofs::Alone::string_gives, crate::proofs::Alone::string_fails))]
+fn string_of_item(run: &mut Evaluation, item: &Item) -> Result<Sequence, ValueFault>
+    requires there { IsThere (trees_of run.old) item.now }
+    ensures { Gives (functions.string_of (item.now ∷ [])) run.old result run.new }
 {
-    match values {
-        [] => string_of(run, Text::new(String::new(run.alloc()))),
-        [value, ..] => {
-            let text = printed(run.alloc(), value)?;
-            string_of(run, text)
-        }
-    }
+    let text = printed_item(run, item)?;
+    string_of(run, text)
 }

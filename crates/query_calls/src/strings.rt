@@ -1,12 +1,13 @@
 //! Functions of strings (Functions and Operators, sections 7.4 and 7.5).
 
-ghost use Rattle.std.specs.Prelude.{◌≡◌, ◌==◌, ◌++◌, map, length, chars, IfOk, IfErr, OnOk, Ok, Err};
+ghost use Rattle.std.specs.Prelude.{◌≡◌, ◌==◌, ◌++◌, ◌∷◌, [], pos, map, length, chars, IfOk, IfErr, OnOk, Ok, Err};
 ghost use Rattle.std.specs.List as list;
 ghost use Rattle.std.specs.List.{All, flat_map};
+ghost use Rattle.values.specs.Items.{IsThere};
 ghost use Rattle.query_meaning.specs.Environment.{no_environment};
 ghost use Rattle.query_meaning.specs.Functions as functions;
 ghost use Rattle.query_meaning.specs.Operators.{between_atoms};
-ghost use Rattle.query_meaning.specs.Running.{Run, atoms};
+ghost use Rattle.query_meaning.specs.Running.{Run, atoms, trees_of};
 ghost use Rattle.query_meaning.specs.Strings as meaning;
 ghost use Rattle.evaluation.specs.Gives.{Fails, Gives, Says, Stand};
 ghost use Rattle.query_calls.specs.Texts.{IsGathered, IsGatheredMore, concatenated_of, holds_by, length_of};
@@ -15,9 +16,9 @@ ghost use Rattle.query_strings.specs.Texts.{text_at};
 use crate::sequences::{boolean_of, integer_of, string_of};
 use evaluation::{Evaluation, Sequence};
 use fault_codes::Code;
-use query_strings::{all_printed, holds, one_text, separated, text_in};
+use query_strings::{all_printed, characters, holds, item_text, one_text, separated, text_in};
 use std::alloc::Global;
-use values::{Atom, ValueFault};
+use values::{Atom, Item, ValueFault};
 
 /// The text of a string argument, empty where there is no value. Code: XPTY0004 where there is more than one value, or an integer or a
 /// boolean.
@@ -119,26 +120,38 @@ pub fn string_length(run: &mut Evaluation, items: &Sequence) -> Result<Sequence,
     requires stand { Stand items.now run.old }
     ensures { Gives (functions.string_length items.now) run.old result run.new }
 {
+    if let [item] = items.as_slice() {
+        return length_of_item(run, item);
+    }
     let values = run.atoms(items)?;
     length_of(run, &values)
+}
+
+#[tactic(auto, using(crate::proofs::Alone::length_gives, crate::proofs::Alone::length_fails))]
+fn length_of_item(run: &mut Evaluation, item: &Item) -> Result<Sequence, ValueFault>
+    requires there { IsThere (trees_of run.old) item.now }
+    ensures { Gives (functions.string_length (item.now ∷ [])) run.old result run.new }
+{
+    let text = item_text(run, item)?;
+    counted_of(run, text.as_str())
 }
 
 fn length_of(run: &mut Evaluation, values: &[Atom]) -> Result<Sequence, ValueFault>
     ensures { Gives (length_of values.now) run.old result run.new }
 {
     let text = string_argument(values)?;
+    counted_of(run, text)
+}
+
+/// How many characters a text has, as an item.
+fn counted_of(run: &mut Evaluation, text: &str) -> Result<Sequence, ValueFault>
+    ensures { Gives (functions.integer (pos (length (chars text.now)))) run.old result run.new }
+{
     match i64::try_from(characters(text)) {
         Ok(count) => integer_of(run, count),
         // So long a text has no place in memory.
         Err(_) => Err(ValueFault::Memory),
     }
-}
-
-/// How many characters a text has.
-fn characters(text: &str) -> usize
-    ensures { result ≡ length (chars text.now) }
-{
-    text.chars().count()
 }
 
 /// `string-join`: the texts of values, with a separator between each two (Functions and Operators, section 7.4.2). It takes the work of the

@@ -27,3 +27,7 @@ pub atomic_stand : {A : Type 0} (f : A → Atom) (xs : List A) (run : Run) → S
 atomic_stand f [] run k d below = absurd (omega (arith, below))
 atomic_stand f (x ∷ xs) run zero d below = tt
 atomic_stand f (x ∷ xs) run (suc k) d below = atomic_stand f xs run k d (omega (arith, below))
+
+pub atomic_alone : (a : Atom) (run : Run) → Stand (item.Atomic a ∷ []) run
+atomic_alone a run zero d below = tt
+atomic_alone a run (suc k) d below = absurd (omega (arith, below))

@@ -1,7 +1,9 @@
 //! Operators between atomic values (XQuery 1.0, sections 3.4 and 3.5).
 
-ghost use Rattle.std.specs.Prelude.{◌≡◌, IfOk, Some};
+ghost use Rattle.std.specs.Prelude.{◌≡◌, ◌∷◌, [], IfOk, IfSome, Some};
+ghost use Rattle.values.specs.Items.{IsThere};
 ghost use Rattle.query_meaning.specs.Operators as meaning;
+ghost use Rattle.query_meaning.specs.Running.{trees_of};
 ghost use Rattle.evaluation.specs.Gives.{Gives, Stand};
 
 use evaluation::{Evaluation, Sequence};
@@ -89,9 +91,37 @@ pub fn compared_by_pairs(
     requires right { Stand right.now run.old }
     ensures { Gives (meaning.between_atoms (meaning.compared_by_pairs op) left.now right.now) run.old result run.new }
 {
+    if let (Some(item), Some(other)) = (alone(left), alone(right)) {
+        return compared_items(run, op, item, other);
+    }
     let xs = run.atoms(left)?;
     let ys = run.atoms(right)?;
     pairs_of(run, op, &xs, &ys)
+}
+
+/// The item of a sequence of one; `None` elsewhere.
+fn alone(items: &Sequence) -> Option<&Item>
+    ensures { IfSome result (λ item. items.now ≡ item.now ∷ []) }
+{
+    match items.as_slice() {
+        [item] => Some(item),
+        _ => None,
+    }
+}
+
+/// The same of one item on each side.
+fn compared_items(
+    run: &mut Evaluation,
+    op: Comparison,
+    item: &Item,
+    other: &Item,
+) -> Result<Sequence, ValueFault>
+    requires item { IsThere (trees_of run.old) item.now }
+    requires other { IsThere (trees_of run.old) other.now }
+    ensures { Gives (meaning.between_atoms (meaning.compared_by_pairs op) (item.now ∷ []) (other.now ∷ [])) run.old result run.new }
+{
+    let holds = run.compare_items(op, item, other)?;
+    Ok(boolean(run, holds)?)
 }
 
 fn pairs_of(
