@@ -43,6 +43,13 @@ one_there : (x : Item) (run : Run) → IsThere (trees_of run) x → Stand (x ∷
 one_there x run there zero d below = there
 one_there x run there (suc k) d below = absurd (omega (arith, below))
 
+-- without the last one, and its item
+pub ready_before : (x : List ℕ) (item : Item) (env : Environment) (run : Run) → IsReady (with_variable x (item ∷ []) env) run → IsReady env run
+ready_before x item env run ready = record { focus = ready.focus; variables = λ k d below. ready.variables (suc k) d (omega (arith, below)) }
+
+pub last_there : (x : List ℕ) (item : Item) (env : Environment) (run : Run) → IsReady (with_variable x (item ∷ []) env) run → IsThere (trees_of run) item
+last_there x item env run ready = ready.variables zero (record { variable = x; items = item ∷ [] }) (omega arith) zero item (omega arith)
+
 -- an atomic value stands anywhere
 pub one_stands : (a : Atom) (run : Run) → Stand (item.Atomic a ∷ []) run
 one_stands a run zero d below = tt

@@ -29,9 +29,9 @@ pub enum SetOperator {
 }
 
 impl<F: Fn(&mut Evaluation, &Expr, &Environment) -> Result<Sequence, ValueFault>> Forms<F> {
-    /// An expression, and operators with their right operands, from the left: `a + b - ..` (XQuery 1.0, sections 3.3 to 3.6). `set_of` is
-    /// called with the operators between sets of nodes, and the items on both sides. The work of each operator is counted. Codes: that of
-    /// the first operand or operator that has one; PXQ0002 where too little work is left.
+    /// An expression, and operators with their right operands, from the left: `a + b - ..` (XQuery 1.0, sections 3.3 to 3.6). `set_of` is called with the
+    /// operators between sets of nodes, and the items on both sides. The work of each operator is counted. Codes: that of the first operand or operator that
+    /// has one; PXQ0002 where too little work is left.
     pub fn chain<S>(
         &self,
         run: &mut Evaluation,

@@ -4,6 +4,7 @@ ghost use Rattle.std.specs.Prelude.{◌≡◌, ◌<◌, ◌+◌, ◌∷◌, [], 
 ghost use Rattle.std.specs.Option.{ForSome};
 ghost use Rattle.values.specs.Items.{IsThere};
 ghost use Rattle.values.specs.declared.atom.Atom.TheVariants as atom;
+ghost use Rattle.query_meaning.specs.Environment.{with_variable};
 ghost use Rattle.query_meaning.specs.Meaning.{mean};
 ghost use Rattle.query_meaning.specs.Running.{most_items, trees_of};
 ghost use Rattle.query_meaning.specs.Sequences as meaning;
@@ -25,10 +26,9 @@ use std::alloc::AllocError;
 use values::{Atom, Item, Text, ValueFault};
 
 impl<F: Fn(&mut Evaluation, &Expr, &Environment) -> Result<Sequence, ValueFault>> Forms<F> {
-    /// Clauses, `where`, `order by` and `return` (XQuery 1.0, section 3.8). Each item of a `for` clause takes a turn. Codes: that of the
-    /// first part that has one; FORG0006 where `where` has no truth value; PXQ0002 where no turn is left, at the tuple that brings the
-    /// 10,001st item, with `order by` at the 10,001st tuple, or where a key's string is too long; XPTY0004 where a key is more than one
-    /// value, or, before `return`, where two keys at one position are of different types.
+    /// Clauses, `where`, `order by` and `return` (XQuery 1.0, section 3.8). Each item of a `for` clause takes a turn. Codes: that of the first part that has
+    /// one; FORG0006 where `where` has no truth value; PXQ0002 where no turn is left, at the tuple that brings the 10,001st item, with `order by` at the
+    /// 10,001st tuple, or where a key's string is too long; XPTY0004 where a key is more than one value, or two at one position differ in type.
     pub fn flwor(
         &self,
         run: &mut Evaluation,
@@ -45,11 +45,19 @@ impl<F: Fn(&mut Evaluation, &Expr, &Environment) -> Result<Sequence, ValueFault>
     {
         let clauses = clauses.as_slice();
         let condition = Condition::of(clauses, condition)?;
+        let function = ItemFunction::after(clauses, body.get());
         if keys.is_empty() {
-            let function = ItemFunction::after(clauses, body.get());
             return self.unordered(run, clauses, &condition, body, &function, env);
         }
-        self.ordered(run, clauses, &condition, keys.as_slice(), body, env)
+        self.ordered(
+            run,
+            clauses,
+            &condition,
+            keys.as_slice(),
+            body,
+            &function,
+            env,
+        )
     }
 
     /// Clauses, `where` and `return`, tuple by tuple. Codes: those of `flwor`.
@@ -83,6 +91,39 @@ impl<F: Fn(&mut Evaluation, &Expr, &Environment) -> Result<Sequence, ValueFault>
         };
         walk.tuples(run, &mut given)?;
         Ok(given)
+    }
+
+    /// The same as `and_items` where a variable is bound to an item after those of an environment. The variables of the item before it may serve again.
+    pub(crate) fn and_bound(
+        &self,
+        run: &mut Evaluation,
+        given: &mut Sequence,
+        x: &Expr,
+        function: &Option<ItemFunction>,
+        variable: &Text,
+        item: &Item,
+        others: &Environment,
+        former: &mut Option<Variables>,
+    ) -> Result<(), ValueFault>
+        requires evaluates { Evaluates (F.pre self.now.value_of) (F.post self.now.value_of) (x.now ∷ []) }
+        requires function { IsFunctionOf x.now function.now }
+        requires ready { IsReady others.now run.old }
+        requires item { IsThere (trees_of run.old) item.now }
+        requires former { ForSome former.old (part.Rebinds variable.now others.now.variables) }
+        requires stand { Stand given.old run.old }
+        ensures gives { GivesIn Stand (meaning.and_items (with_variable variable.now (item.now ∷ []) others.now) given.old (mean x.now)) run.old (part.leaving result given.new) run.new }
+        ensures former { ForSome former.new (part.Rebinds variable.now others.now.variables) }
+    {
+        if let Some(function) = function {
+            if function.is_of(variable) {
+                let made = function.value(run, item)?;
+                return given.append(Sequence::one(run.alloc(), made)?);
+            }
+        }
+        let variables = and_item(run, variable, item, others.variables(), former.take())?;
+        let added = self.and_items(run, given, x, &others.with(&variables));
+        *former = Some(variables);
+        added
     }
 
     /// `where`: the effective boolean value of the test, and true where there is none. Codes: those of `holds`.
@@ -162,7 +203,20 @@ impl<'w, 'f, F: Fn(&mut Evaluation, &Expr, &Environment) -> Result<Sequence, Val
         given: &mut Sequence,
     ) -> Result<(), ValueFault> {
         match self.condition.holds_of(run, variable, item, others) {
-            Some(Ok(true)) => self.and_item(run, variable, item, others, former, given),
+            Some(Ok(true)) => {
+                let others = self.env.with(others);
+                let body = self.body.get();
+                self.forms.and_bound(
+                    run,
+                    given,
+                    body,
+                    self.function,
+                    variable,
+                    item,
+                    &others,
+                    former,
+                )
+            }
             Some(Ok(false)) => Ok(()),
             Some(Err(fault)) => Err(fault),
             None => {
@@ -175,44 +229,6 @@ impl<'w, 'f, F: Fn(&mut Evaluation, &Expr, &Environment) -> Result<Sequence, Val
     }
 
     ghost lasts = { λ s items old new g h. stand_on items old new g h };
-}
-
-impl<'w, 'f, F: Fn(&mut Evaluation, &Expr, &Environment) -> Result<Sequence, ValueFault>> Returning<
-    'w,
-    'f,
-    F,
-> {
-    /// Adds the items of `return` where a variable is bound to an item.
-    fn and_item(
-        &self,
-        run: &mut Evaluation,
-        variable: &Text,
-        item: &Item,
-        others: &Variables,
-        former: &mut Option<Variables>,
-        given: &mut Sequence,
-    ) -> Result<(), ValueFault>
-        requires body { Evaluates (F.pre self.now.forms.now.value_of) (F.post self.now.forms.now.value_of) (self.now.body.now ∷ []) }
-        requires function { IsFunctionOf self.now.body.now self.now.function.now }
-        requires ready { IsReady (part.with_variables others.now self.now.env.now) run.old }
-        requires item { IsThere (trees_of run.old) item.now }
-        requires former { ForSome former.old (part.Rebinds variable.now others.now) }
-        requires stand { Stand given.old run.old }
-        ensures gives { GivesIn Stand (meaning.and_items (part.with_variables (part.bound variable.now item.now others.now) self.now.env.now) given.old (mean self.now.body.now)) run.old (part.leaving result given.new) run.new }
-        ensures former { ForSome former.new (part.Rebinds variable.now others.now) }
-    {
-        if let Some(function) = self.function {
-            if function.is_of(variable) {
-                let made = function.value(run, item)?;
-                return given.append(Sequence::one(run.alloc(), made)?);
-            }
-        }
-        let variables = and_item(run, variable, item, others, former.take())?;
-        let env = self.env.with(&variables);
-        let added = self.forms.and_items(run, given, self.body.get(), &env);
-        *former = Some(variables);
-        added
-    }
 }
 
 /// What the variables of a clause are bound to.
@@ -236,8 +252,8 @@ fn position(run: &Evaluation, index: usize) -> Result<Sequence, AllocError>
     Sequence::one(run.alloc(), Item::Atomic(Atom::Integer(position)))
 }
 
-/// A variable more, with one item. What is no longer used of the same variables with another item serves again, where nobody shares it. It fails
-/// where memory is refused.
+/// A variable more, with one item. What is no longer used of the same variables with another item serves again, where nobody shares it. It fails where memory
+/// is refused.
 pub(crate) fn and_item(
     run: &Evaluation,
     variable: &Text,
@@ -255,8 +271,8 @@ pub(crate) fn and_item(
     }
 }
 
-/// The same, and one more with the position that follows an index, where a variable is there for it: then nothing serves again. It fails where
-/// memory is refused.
+/// The same, and one more with the position that follows an index, where a variable is there for it: then nothing serves again. It fails where memory is
+/// refused.
 pub(crate) fn and_item_at(
     run: &Evaluation,
     variable: &Text,

@@ -1,5 +1,4 @@
-//! Forms over a function that evaluates their parts, so that each is proved by itself: literals, variables, the context item, the comma
-//! and `if`.
+//! Forms over a function that evaluates their parts, so that each is proved by itself: literals, variables, the context item, the comma and `if`.
 
 ghost use Rattle.std.specs.Prelude.{◌≡◌, ◌∷◌, [], map, Some, None, Ok, IfOk, IfErr};
 ghost use Rattle.fault_codes.specs.declared.code.Code.TheVariants.{XPST0008};
@@ -39,8 +38,8 @@ impl<F: Fn(&mut Evaluation, &Expr, &Environment) -> Result<Sequence, ValueFault>
         (self.value_of)(run, x, env)
     }
 
-    /// The effective boolean value of a part (XQuery 1.0, section 2.4.3). The items of a variable are not copied. Codes: those of the part;
-    /// FORG0006 where the first of several items is an atomic value.
+    /// The effective boolean value of a part (XQuery 1.0, section 2.4.3). The items of a variable are not copied. Codes: those of the part; FORG0006 where
+    /// the first of several items is an atomic value.
     pub(crate) fn holds(
         &self,
         run: &mut Evaluation,
@@ -58,8 +57,8 @@ impl<F: Fn(&mut Evaluation, &Expr, &Environment) -> Result<Sequence, ValueFault>
         Ok(truth(items.as_slice())?)
     }
 
-    /// `if (a) then b else c` (XQuery 1.0, section 3.10). Codes: those of `a`; FORG0006 where the first of several items that it gives is
-    /// an atomic value; then those of the branch that is taken.
+    /// `if (a) then b else c` (XQuery 1.0, section 3.10). Codes: those of `a`; FORG0006 where the first of several items that it gives is an atomic value;
+    /// then those of the branch that is taken.
     pub fn conditional(
         &self,
         run: &mut Evaluation,
@@ -79,8 +78,7 @@ impl<F: Fn(&mut Evaluation, &Expr, &Environment) -> Result<Sequence, ValueFault>
         }
     }
 
-    /// `a, b, ..` (XQuery 1.0, section 3.3.1). Code: that of the first part that has one, or PXQ0002 at the part that brings the
-    /// 10,001st item.
+    /// `a, b, ..` (XQuery 1.0, section 3.3.1). Code: that of the first part that has one, or PXQ0002 at the part that brings the 10,001st item.
     pub fn sequence(
         &self,
         run: &mut Evaluation,
@@ -111,8 +109,8 @@ impl<F: Fn(&mut Evaluation, &Expr, &Environment) -> Result<Sequence, ValueFault>
         Ok(given)
     }
 
-    /// Adds the items of an expression to those before. Codes: those of the expression; PXQ0002 where there are more than 10,000 items.
-    /// What is left of those before after a fault is not said.
+    /// Adds the items of an expression to those before. Codes: those of the expression; PXQ0002 where there are more than 10,000 items. What is left of those
+    /// before after a fault is not said.
     pub(crate) fn and_items(
         &self,
         run: &mut Evaluation,
@@ -161,8 +159,8 @@ pub fn variable(
     Ok(run.lend(name, env)?.copy(run.alloc())?)
 }
 
-/// The effective boolean value of `$name`, whose work is counted. Codes: PXQ0002 where too little work is left; XPST0008 where no variable
-/// has that name; FORG0006 where the first of several items is an atomic value.
+/// The effective boolean value of `$name`, whose work is counted. Codes: PXQ0002 where too little work is left; XPST0008 where no variable has that name;
+/// FORG0006 where the first of several items is an atomic value.
 fn truth_of_variable(
     run: &mut Evaluation,
     name: &Text,

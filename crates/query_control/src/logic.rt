@@ -13,9 +13,9 @@ use query_operators::boolean;
 use values::{ValueFault, truth};
 
 impl<F: Fn(&mut Evaluation, &Expr, &Environment) -> Result<Sequence, ValueFault>> Forms<F> {
-    /// `and`, which `false` decides, and `or`, which `true` decides, after their left side (XQuery 1.0, section 3.6). The right side is
-    /// evaluated only where the left one doesn't decide. Codes: FORG0006 where the first of several items on the left is an atomic value;
-    /// then, where that side doesn't decide, those of the right one, and FORG0006 as on the left.
+    /// `and`, which `false` decides, and `or`, which `true` decides, after their left side (XQuery 1.0, section 3.6). The right side is evaluated only where
+    /// the left one doesn't decide. Codes: FORG0006 where the first of several items on the left is an atomic value; then, where that side doesn't decide,
+    /// those of the right one, and FORG0006 as on the left.
     pub fn either_side(
         &self,
         run: &mut Evaluation,

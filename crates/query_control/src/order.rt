@@ -9,13 +9,14 @@ ghost use Rattle.evaluation.specs.Evaluates.{Evaluates, EvaluatesEach};
 ghost use Rattle.query_control.specs.Evaluates.{EvaluatesFlwor};
 ghost use Rattle.sorted_tuples.specs.Keys.{AreKept, AreReady, sort_key_of};
 ghost use Rattle.query_control.specs.Parts as part;
+ghost use Rattle.query_control.specs.Functions.{IsFunctionOf};
 ghost use Rattle.query_control.specs.Lasting.{kept_grows};
 
 use crate::flwor::and_item;
 use crate::forms::Forms;
 use crate::walk::{AtTuple, Walk};
 use evaluation::{Environment, Evaluation, Sequence, Variables};
-use item_expressions::Condition;
+use item_expressions::{Condition, ItemFunction};
 use query_grammar::{Clause, Expr, SortKey};
 use sorted_tuples::{Keys, Place, Placed, Tuple, Tuples, key_of};
 use sqlite_items::Boxed;
@@ -23,10 +24,8 @@ use std::mem;
 use values::{Item, Text, ValueFault};
 
 impl<F: Fn(&mut Evaluation, &Expr, &Environment) -> Result<Sequence, ValueFault>> Forms<F> {
-    /// Clauses, `where`, `order by` and `return`: all tuples with their keys, then the sort, then `return` in sorted order. Codes: that of
-    /// the first part that has one; PXQ0002 where no turn is left, where the string value of a key is too long, at the 10,001st tuple, or
-    /// at the one that brings the 10,001st item; FORG0006 where what `where` tests has no effective boolean value; XPTY0004 where a key is
-    /// more than one value, or, before `return`, where two keys at one position are of different types.
+    /// Clauses, `where`, `order by` and `return`: all tuples with their keys, then the sort, then `return` in sorted order. Codes: those of `flwor`; FORG0006 where
+    /// what `where` tests has no effective boolean value. Two keys at one position that are of different types are judged before `return`.
     pub(crate) fn ordered(
         &self,
         run: &mut Evaluation,
@@ -34,15 +33,17 @@ impl<F: Fn(&mut Evaluation, &Expr, &Environment) -> Result<Sequence, ValueFault>
         condition: &Condition,
         keys: &[SortKey<Expr>],
         body: &Boxed<Expr>,
+        function: &Option<ItemFunction>,
         env: &Environment,
     ) -> Result<Sequence, ValueFault>
+        requires function { IsFunctionOf body.now function.now }
         requires flwor { EvaluatesFlwor (F.pre self.now.value_of) (F.post self.now.value_of) clauses.now condition.now body.now }
         requires keys { EvaluatesEach (F.pre self.now.value_of) (F.post self.now.value_of) part.key_in keys.now }
         requires ready { IsReady env.now run.old }
         ensures { Gives (meaning.ordered (map (part.clause_of mean) clauses.now) (option_map mean condition.now) (map (sort_key_of mean) keys.now) (mean body.now) env.now) run.old result run.new }
     {
         let tuples = self.in_order(run, clauses, condition, keys, env)?;
-        self.returned_in_order(run, tuples.as_slice(), body)
+        self.returned_in_order(run, tuples.as_slice(), body, function)
     }
 
     /// The tuples in their order.
@@ -82,14 +83,16 @@ impl<F: Fn(&mut Evaluation, &Expr, &Environment) -> Result<Sequence, ValueFault>
         run: &mut Evaluation,
         tuples: &[Tuple],
         body: &Boxed<Expr>,
+        function: &Option<ItemFunction>,
     ) -> Result<Sequence, ValueFault>
+        requires function { IsFunctionOf body.now function.now }
         requires body { Evaluates (F.pre self.now.value_of) (F.post self.now.value_of) (body.now ∷ []) }
         requires ready { AreReady tuples.now run.old }
         ensures { Gives (part.returned_in_order (mean body.now) tuples.now) run.old result run.new }
     {
         let mut given = Sequence::new(run.alloc());
         for tuple in tuples {
-            self.returned_at(run, &mut given, tuple, body)?;
+            self.returned_at(run, &mut given, tuple, body, function)?;
         }
         Ok(given)
     }
@@ -101,7 +104,9 @@ impl<F: Fn(&mut Evaluation, &Expr, &Environment) -> Result<Sequence, ValueFault>
         given: &mut Sequence,
         tuple: &Tuple,
         body: &Boxed<Expr>,
+        function: &Option<ItemFunction>,
     ) -> Result<(), ValueFault>
+        requires function { IsFunctionOf body.now function.now }
         requires body { Evaluates (F.pre self.now.value_of) (F.post self.now.value_of) (body.now ∷ []) }
         requires ready { IsReady tuple.now.environment run.old }
         requires stand { Stand given.old run.old }
@@ -110,9 +115,10 @@ impl<F: Fn(&mut Evaluation, &Expr, &Environment) -> Result<Sequence, ValueFault>
         match tuple.place().get() {
             Placed::Kept(env) => self.and_items(run, given, body.get(), &env.get()),
             Placed::Bound(others, variable, item) => {
-                let others = others.get();
-                let variables = and_item(run, variable, item, others.variables(), None)?;
-                self.and_items(run, given, body.get(), &others.with(&variables))
+                let (body, others) = (body.get(), others.get());
+                self.and_bound(
+                    run, given, body, function, variable, item, &others, &mut None,
+                )
             }
         }
     }
@@ -135,7 +141,7 @@ impl<F: Fn(&mut Evaluation, &Expr, &Environment) -> Result<Sequence, ValueFault>
         let keys = self.keys_in(run, keys, env)?;
         let before = mem::replace(given, Tuples::new(run.alloc()));
         let more = before.and(place, keys)?;
-        put(given, more);
+        mem::replace(given, more);
         Ok(())
     }
 
@@ -277,11 +283,4 @@ impl<'w, 'f, F: Fn(&mut Evaluation, &Expr, &Environment) -> Result<Sequence, Val
             Ok(())
         }
     }
-}
-
-/// Puts a value in the place of another. Over any type, as an assignment of tuples themselves through a reference has no proof.
-fn put<A: Drop>(place: &mut A, value: A)
-    ensures { place.new ≡ value }
-{
-    *place = value;
 }

@@ -23,8 +23,8 @@ use sqlite_items::{Boxed, Items};
 use values::{Item, Text, ValueFault};
 
 impl<F: Fn(&mut Evaluation, &Expr, &Environment) -> Result<Sequence, ValueFault>> Forms<F> {
-    /// `some` and `every` (XQuery 1.0, section 3.11). Each item that a variable is bound to takes a turn, until one decides. Codes: that
-    /// of the first part that has one; FORG0006 where what is to be satisfied has no truth value; PXQ0002 where no turn is left.
+    /// `some` and `every` (XQuery 1.0, section 3.11). Each item that a variable is bound to takes a turn, until one decides. Codes: that of the first part
+    /// that has one; FORG0006 where what is to be satisfied has no truth value; PXQ0002 where no turn is left.
     pub fn quantified(
         &self,
         run: &mut Evaluation,

@@ -15,9 +15,9 @@ use sqlite_items::{Boxed, Items};
 use values::{Atom, Item, ValueFault, integer_operands};
 
 impl<F: Fn(&mut Evaluation, &Expr, &Environment) -> Result<Sequence, ValueFault>> Forms<F> {
-    /// Signs before an expression, the outermost first (XQuery 1.0, section 3.4). Codes: that of the expression; PXQ0002 where a string
-    /// value is too long; XPTY0004 where there is more than one value, or a string or a boolean; FORG0001 where an untyped value
-    /// doesn't read as an integer; FOAR0002 where a negative is out of range.
+    /// Signs before an expression, the outermost first (XQuery 1.0, section 3.4). Codes: that of the expression; PXQ0002 where a string value is too long;
+    /// XPTY0004 where there is more than one value, or a string or a boolean; FORG0001 where an untyped value doesn't read as an integer; FOAR0002 where a
+    /// negative is out of range.
     pub fn signed(
         &self,
         run: &mut Evaluation,

@@ -60,8 +60,8 @@ pub(crate) trait AtTuple {
         requires fits { fits self.now given.old run.old }
         ensures { GivesIn (fits self.now) (means self.now (part.with_variables variables.now (env self.now)) given.old) run.old (part.leaving result given.new) run.new };
 
-    /// One tuple more, where a variable is bound to an item after all others. Codes: its own. What is left of what the tuples come to after a fault is
-    /// not said. The variables of the item before it serve again, and then its own are left for the next.
+    /// The same where a variable is bound to an item after all others. The variables of the item before it serve again, and then its own are left for
+    /// the next.
     fn take_item(
         &self,
         run: &mut Evaluation,
