@@ -1,5 +1,5 @@
 -- What functions give, by what their parts give.
-use Rattle.std.proofs.Common.{◌≡◌, ℕ, ℤ, zero, suc, pos, List, [], ◌∷◌, ◌≤◌, ◌<◌, length, map, refl, sym, ap, ◌∙◌, subst, arith, Option, Result, Ok, Err}
+use Rattle.std.proofs.Common.{◌≡◌, ℕ, ℤ, zero, suc, pos, List, [], ◌∷◌, ◌≤◌, length, map, refl, sym, ap, ◌∙◌, subst, arith, Option, Result, Ok, Err}
 use Rattle.fault_codes.specs.declared.code.Code.{Code}
 use Rattle.values.specs.declared.atom.Atom.{Atom}
 use Rattle.values.specs.declared.atom.Item.{Item}
@@ -8,7 +8,7 @@ use Rattle.values.specs.declared.fault.ValueFault.TheVariants as fault
 use Rattle.query_grammar.specs.declared.ast.Expr.{Expr}
 use Rattle.query_grammar.specs.declared.functions.Function.{Function}
 use Rattle.query_meaning.specs.Environment.{Environment, Focus}
-use Rattle.query_meaning.specs.Functions.{all_texts, and_addend, application, applied, arguments, call, first_printed, integer, items_of, string, string_join, string_of}
+use Rattle.query_meaning.specs.Functions.{all_texts, and_addend, application, applied, arguments, call, integer, items_of, string, string_join}
 use Rattle.query_meaning.specs.Meaning.{mean}
 use Rattle.query_meaning.specs.Running.{M, Run, and_then, pure, ◌>>=◌, come_to, each, atoms}
 use Rattle.query_meaning.specs.Strings.{limited, one_text, separated}
@@ -39,17 +39,6 @@ pub atoms_then : (f : List Atom → M (List Item)) (items : List Item) (values s
     → GivesIn Any (atoms items) old (Ok values) mid → seen ≡ values → Gives (f seen) mid r new → Gives (atoms items >>= f) old r new
 atoms_then f items values seen old mid new r are same g =
     then_gives Any Stand (atoms items) f old mid new values r are (subst (λ vs. Gives (f vs) mid r new) same g)
-
--- the string of one item
-pub string_of_one : (items lent : List Item) (run : Run) → lent ≡ items → 1 ≤ length lent → length lent < 2 → string_of items run ≡ (atoms items >>= (λ values. string (first_printed values))) run
-string_of_one [] lent run same some few = absurd (let none = ap length same in omega (arith, none, some))
-string_of_one (x ∷ []) lent run same some few = refl
-string_of_one (x ∷ y ∷ more) lent run same some few = absurd (let many = ap length same in omega (arith, many, few))
-
-pub string_stops : (items lent : List Item) (run : Run) (found : ValueFault) → lent ≡ items → 1 ≤ length lent → length lent < 2 → Fails (atoms items run) found → Fails (string_of items run) found
-string_stops items lent run fault.Memory same some few h = tt
-string_stops items lent run (fault.Code code) same some few h =
-    string_of_one items lent run same some few ∙ atoms_fail (λ values. string (first_printed values)) items run (fault.Code code) h
 
 -- atomic values stand anywhere
 stand_anywhere : (values : List Atom) (run : Run) → Stand (items_of values) run
