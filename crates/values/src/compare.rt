@@ -2,6 +2,7 @@
 
 ghost use Rattle.std.specs.Prelude.{◌≡◌, ◌-◌, ◌&&◌, ◌∷◌, [], nat_le, if◌then◌else◌, Ok, Err, IfOk, IfErr, OnOk, map, take};
 ghost use Rattle.std.specs.List.{sum};
+ghost use Rattle.std.specs.Ordering.{is_eq};
 ghost use Rattle.fault_codes.specs.declared.code.Code.{Code};
 ghost use Rattle.values.specs.declared.fault.ValueFault.{ValueFault};
 ghost use Rattle.fault_codes.specs.declared.code.Code.TheVariants.{PXQ0002};
@@ -55,11 +56,22 @@ fn compare_text(left: &str, right: &str) -> Ordering
     left.cmp(right)
 }
 
+/// Whether two texts have the same code points. Where they have not as many bytes, none of these is looked at.
+fn are_same(left: &str, right: &str) -> bool
+    ensures { result ≡ is_eq (string_cmp left.now right.now) }
+{
+    left == right
+}
+
 /// Whether a comparison holds of two strings or untyped values, by their texts.
 pub fn compare_texts(op: Comparison, left: &str, right: &str) -> bool
     ensures { result ≡ holds op (string_cmp left.now right.now) }
 {
-    op.holds(compare_text(left, right))
+    match op {
+        Comparison::Equal => are_same(left, right),
+        Comparison::NotEqual => !are_same(left, right),
+        _ => op.holds(compare_text(left, right)),
+    }
 }
 
 /// The order of two values of one type, where untyped is a string; `None` where they are of different types.
