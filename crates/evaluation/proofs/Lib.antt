@@ -4,5 +4,4 @@ pub mod Counted
 pub mod Each
 pub mod Limits
 pub mod Looking
-pub mod TextPairs
 pub mod Unfolded

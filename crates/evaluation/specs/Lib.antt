@@ -8,7 +8,5 @@ pub mod Held
 pub mod Kept
 pub mod Lent
 pub mod Linked
-pub mod Pairs
 pub mod Rebound
-pub mod Texts
 pub mod Within

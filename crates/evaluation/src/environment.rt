@@ -145,7 +145,7 @@ impl Variables {
             }),
             Link::More(binding) => {
                 let left = units.checked_sub(1)?;
-                if is_same(name, binding.name.as_str()) {
+                if is_same_name(name, binding.name.as_str()) {
                     Some(Sought {
                         value: Some(&binding.items),
                         left,
@@ -159,7 +159,7 @@ impl Variables {
 }
 
 /// Whether two names are the same. Most have a few bytes.
-pub fn is_same(name: &str, other: &str) -> bool
+pub fn is_same_name(name: &str, other: &str) -> bool
     ensures { result ≡ bytes_eq name.now other.now }
 {
     let (mut left, mut right) = (name.as_bytes(), other.as_bytes());

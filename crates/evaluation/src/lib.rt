@@ -7,11 +7,10 @@ mod atoms;
 mod environment;
 mod run;
 mod sequence;
-mod text_pair;
 mod value;
 
 pub use atoms::Atoms;
-pub use environment::{Environment, KeptEnvironment, OneItem, Variables, is_same};
+pub use environment::{Environment, KeptEnvironment, OneItem, Variables, is_same_name};
 pub use run::Evaluation;
 pub use sequence::{MOST_ITEMS, Sequence};
 pub use value::{Value, value_of_part};

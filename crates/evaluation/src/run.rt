@@ -17,26 +17,21 @@ ghost use Rattle.query_meaning.specs.Meaning.{start};
 ghost use Rattle.query_meaning.specs.Operators.{ordering};
 ghost use Rattle.query_meaning.specs.Sequences.{variable};
 ghost use Rattle.query_meaning.specs.Running.{Run, trees_of, adding, atom, atoms, copying, most_nodes, nodes_of, new_nodes, standing, turns, work};
-ghost use Rattle.evaluation.specs.Pairs.{items_compared, pair, texts_compared};
-ghost use Rattle.evaluation.specs.Texts.{GivesText, text_paid};
 ghost use Rattle.evaluation.specs.Copying.{standing_copy};
 ghost use Rattle.evaluation.specs.Gives.{Any, Fails, Gives, GivesIn, IsReady, Judged, Says, Stand, Turns};
 
 use crate::atoms::Atoms;
 use crate::environment::{Environment, Variables};
 use crate::sequence::Sequence;
-use crate::text_pair::TextPair;
 use data_model::limits::MOST_NODES;
 use fault_codes::Code;
 use pending::{ListFault, PendingList, Primitive};
 use shelves::Shelf;
 use std::alloc::{AllocError, Global};
 use std::marker::Model;
-use std::{mem, slice};
+use std::mem;
 use trees::{CopyLimits, Forest, Kind, NodeId, Tree};
-use values::{
-    Atom, Comparison, Item, Text, ValueFault, compare_general, lent_text, paid_atom, text_work,
-};
+use values::{Atom, Comparison, Item, Text, ValueFault, compare_general, paid_atom};
 
 /// The most turns in an evaluation (our own limit).
 const MOST_TURNS: u64 = 1_000_000;
@@ -278,29 +273,6 @@ impl<'a> Evaluation<'a> {
         atom
     }
 
-    /// The text of the typed value of an item, for the work of that value, where it is a string or untyped and its text lies somewhere; elsewhere `None`,
-    /// and nothing is taken. The text is shared. Faults: `Memory`; `Code` with PXQ0002 where less work is left.
-    #[tactic(auto, using(crate::proofs::TextPairs::text_gives, crate::proofs::TextPairs::text_fails))]
-    pub fn take_text(&mut self, item: &Item) -> Result<Option<Text>, ValueFault>
-        requires there { IsThere (trees_of self.old) item.now }
-        ensures { GivesText item.now self.old result self.new }
-    {
-        let Some(lent) = lent_text(&self.shelf, item) else {
-            return Ok(None);
-        };
-        let (nodes, text) = (lent.nodes, lent.text.clone()?);
-        self.pay_text(nodes, text_work(text.as_str()))?;
-        Ok(Some(text))
-    }
-
-    /// Takes the work of a value: so many nodes, and then its text. Code: PXQ0002 where there is less.
-    fn pay_text(&mut self, nodes: u64, units: u64) -> Result<(), ValueFault>
-        ensures { GivesIn Any (text_paid nodes units) self.old result self.new }
-    {
-        self.spend(nodes)?;
-        self.spend(units)
-    }
-
     /// Whether a general comparison holds of some pair; each pair that is tried takes a turn, and its work. Faults: `Memory`; `Code` with
     /// that of the first pair that has one, or with PXQ0002 where more turns or more work would be taken than there are.
     pub fn compare(
@@ -322,53 +294,6 @@ impl<'a> Evaluation<'a> {
         let holds = compare_general(self.alloc, op, left, right, &mut turns, &mut work)?;
         (self.turns, self.work) = (turns, work);
         Ok(holds)
-    }
-
-    /// The same of one item on each side, whose typed values are taken first, the left one before the right one.
-    #[tactic(auto, using(crate::proofs::TextPairs::as_items))]
-    pub fn compare_items(
-        &mut self,
-        op: Comparison,
-        left: &Item,
-        right: &Item,
-    ) -> Result<bool, ValueFault>
-        requires left { IsThere (trees_of self.old) left.now }
-        requires right { IsThere (trees_of self.old) right.now }
-        ensures { GivesIn Any (items_compared op left.now right.now) self.old result self.new }
-    {
-        match TextPair::of(&self.shelf, op, left, right) {
-            Some(pair) => self.compare_texts(pair),
-            None => {
-                let value = self.atom(left)?;
-                let other = self.atom(right)?;
-                self.compare_pair(op, &value, &other)
-            }
-        }
-    }
-
-    /// The same of two texts, once they are paid: each its nodes and its own work, then a turn, and the work of the shorter one.
-    fn compare_texts(&mut self, pair: TextPair) -> Result<bool, ValueFault>
-        ensures { GivesIn Any (texts_compared pair) self.old result self.new }
-    {
-        self.spend(pair.nodes)?;
-        self.spend(pair.units)?;
-        self.spend(pair.other_nodes)?;
-        self.spend(pair.other_units)?;
-        self.turn()?;
-        self.spend(pair.shorter)?;
-        Ok(pair.holds)
-    }
-
-    /// Whether a general comparison holds of one value on each side.
-    fn compare_pair(
-        &mut self,
-        op: Comparison,
-        left: &Atom,
-        right: &Atom,
-    ) -> Result<bool, ValueFault>
-        ensures { GivesIn Any (pair op left.now right.now) self.old result self.new }
-    {
-        self.compare(op, slice::from_ref(left), slice::from_ref(right))
     }
 
     /// Adds a primitive. Faults: `Memory`; `Code` with PXQ0002 where there are 10,000.

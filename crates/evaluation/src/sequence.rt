@@ -171,29 +171,76 @@ impl Sequence {
         })
     }
 
-    /// Adds other items at the end. Faults: `Memory`; `Code` with PXQ0002 where they are more than 10,000. What is left after a fault is not said.
+    /// Adds an item at the end. Faults: `Memory`; `Code` with PXQ0002 where there are 10,000. What is left after a fault is not said.
     #[tactic(auto, unfolding(query_meaning::specs::Running::most_items))]
-    pub fn append(&mut self, other: Sequence) -> Result<(), ValueFault>
-        ensures joined { OnOk result (within (self.old ++ other) ≡ Ok self.new) }
-        ensures code { IfErr result (λ fault. Fails (within (self.old ++ other)) fault) }
+    pub fn push(&mut self, item: Item) -> Result<(), ValueFault>
+        ensures added { OnOk result (within (self.old ++ item ∷ []) ≡ Ok self.new) }
+        ensures code { IfErr result (λ fault. Fails (within (self.old ++ item ∷ [])) fault) }
+        ensures judged { Judged (within (self.old ++ item ∷ [])) result }
     {
-        let (count, others) = (self.as_slice().len(), other.as_slice().len());
-        if MOST_ITEMS - count < others {
+        let count = self.as_slice().len();
+        if count >= MOST_ITEMS {
             return Err(ValueFault::Code(Code::PXQ0002));
         }
-        let Sequence { alloc, items: last } = other;
         if count == 0 {
-            self.items = last;
+            self.items = Held::Single(item);
             return Ok(());
         }
         if let Held::Many(items) = &mut self.items {
-            return put_last(items, last);
+            items.push(item)?;
+            return Ok(());
         }
-        let before = mem::replace(&mut self.items, Held::Many(Vec::new(alloc)));
-        let mut items = listed(alloc, before)?;
-        put_last(&mut items, last)?;
+        let mut items = self.taken()?;
+        items.push(item)?;
         self.items = Held::Many(items);
         Ok(())
+    }
+
+    /// Adds other items at the end. Faults: `Memory`; `Code` with PXQ0002 where they are more than 10,000. What is left after a fault is not said.
+    pub fn append(&mut self, other: Sequence) -> Result<(), ValueFault>
+        ensures joined { OnOk result (within (self.old ++ other) ≡ Ok self.new) }
+        ensures code { IfErr result (λ fault. Fails (within (self.old ++ other)) fault) }
+        ensures judged { Judged (within (self.old ++ other)) result }
+    {
+        let Sequence { alloc: _, items } = other;
+        match items {
+            Held::Single(item) => self.push(item),
+            Held::Many(items) => self.append_list(items),
+        }
+    }
+
+    /// Adds those of a list.
+    #[tactic(auto, unfolding(query_meaning::specs::Running::most_items))]
+    fn append_list(&mut self, mut others: Vec<Item>) -> Result<(), ValueFault>
+        ensures joined { OnOk result (within (self.old ++ others.items) ≡ Ok self.new) }
+        ensures code { IfErr result (λ fault. Fails (within (self.old ++ others.items)) fault) }
+        ensures judged { Judged (within (self.old ++ others.items)) result }
+    {
+        let count = self.as_slice().len();
+        if MOST_ITEMS - count < others.len() {
+            return Err(ValueFault::Code(Code::PXQ0002));
+        }
+        if count == 0 {
+            self.items = Held::Many(others);
+            return Ok(());
+        }
+        if let Held::Many(items) = &mut self.items {
+            items.append(&mut others)?;
+            return Ok(());
+        }
+        let mut items = self.taken()?;
+        items.append(&mut others)?;
+        self.items = Held::Many(items);
+        Ok(())
+    }
+
+    /// Takes the items out, and leaves none. It fails where memory is refused, and then what is left is not said.
+    fn taken(&mut self) -> Result<Vec<Item>, AllocError>
+        ensures { IfOk result (λ v. v.items ≡ self.old) }
+    {
+        let alloc = self.alloc;
+        let items = mem::replace(&mut self.items, Held::Many(Vec::new(alloc)));
+        listed(alloc, items)
     }
 
     /// The items, and one more. Faults: `Memory`; `Code` with PXQ0002 where there are 10,000.

@@ -22,11 +22,13 @@ use Rattle.query_meaning.specs.Strings.{printed, text_in}
 use Rattle.evaluation.specs.Gives.{Gives, GivesIn, Stand}
 use Rattle.evaluation.proofs.Alone.{item_atoms}
 use Rattle.evaluation.proofs.Unfolded.{by_form}
-use Rattle.item_expressions.specs.Applied.{IsIn, applied, function_expression, given_one, length_at, printed_string}
+use Rattle.item_expressions.specs.Applied.{IsIn, IsMade, applied, function_expression, given_one, length_at, printed_string}
+use Rattle.item_expressions.specs.Compared.{IsLiteral, literal_expression, literal_in}
 use Rattle.item_expressions.specs.Subjects.{StandsFor, subject_expression, subject_work}
 use Rattle.item_expressions.specs.declared.item_function.Made.{Made}
 use Rattle.item_expressions.specs.declared.item_function.Made.TheVariants as made
 use Rattle.item_expressions.specs.declared.subject.Subject.{Subject}
+use Rattle.item_expressions.proofs.Comparing.{literal_means}
 use Rattle.item_expressions.proofs.Standing.{and_count, subject_means}
 
 of_call : (f : Function) (x : Expr) → mean (e.Call (Some f) (x ∷ [])) ≡ (λ env. counted (call (Some f) (mean x ∷ []) env))
@@ -85,13 +87,13 @@ module _ (env : Environment) (x : Item) where
 
       text : (o : Result (List ℕ) Code) (run : Run)
           → and_then (and_then (come_to o run) (λ text. integer (pos (length (chars text))))) and_count
-          ≡ and_then (and_then (come_to o run) (λ text. work 2 >>= (λ _. pure (item.Atomic (atom.Integer (pos (length (chars text)))))))) alone
+          ≡ and_then (and_then (and_then (come_to o run) (λ text. pure (length (chars text)))) (λ count. work 2 >>= (λ _. pure (item.Atomic (atom.Integer (pos count)))))) alone
       text (Ok t) run = counted_too (item.Atomic (atom.Integer (pos (length (chars t))))) (work 2 run)
       text (Err code) run = refl
 
       over : (r : Result (Atom × Run) Code)
           → and_then (and_then (and_then r (λ a. pure (a ∷ []))) (λ values. come_to (string_argument values) >>= (λ text. integer (pos (length (chars text)))))) and_count
-          ≡ and_then (and_then (and_then r (λ a. come_to (text_in a))) (λ text. work 2 >>= (λ _. pure (item.Atomic (atom.Integer (pos (length (chars text)))))))) alone
+          ≡ and_then (and_then (and_then (and_then r (λ a. come_to (text_in a))) (λ text. pure (length (chars text)))) (λ count. work 2 >>= (λ _. pure (item.Atomic (atom.Integer (pos count)))))) alone
       over (Ok p) = text (text_in p.0) p.1
       over (Err code) = refl
 
@@ -100,18 +102,23 @@ after_work : {A : Type 0} (r : Result (Unit {0} × Run) Code) (f : M A) (g : M (
 after_work (Ok p) f g h same = same p.1
 after_work (Err code) f g h same = refl
 
-whole : (s : Subject) (m : Made) (x : Item) (env : Environment) (run : Run) → StandsFor s x env → mean (function_expression s m) env run ≡ and_then (applied s m x run) alone
-whole s made.Itself x env run stands = subject_means s x env run stands ∙ after_work (subject_work s run) (pure x) (alone x) alone (λ run. refl)
-whole s made.String x env run stands = call_means function.String env s x run stands ∙ after_work (subject_work s run) (printed_string x) (called function.String env (x ∷ []) >>= and_count) alone (string_means env x)
-whole s made.Length x env run stands = call_means function.StringLength env s x run stands ∙ after_work (subject_work s run) (length_at x) (called function.StringLength env (x ∷ []) >>= and_count) alone (length_means env x)
+literal_means_it : (s : Subject) (y x : Item) (env : Environment) (run : Run) → IsLiteral y → mean (literal_expression (literal_in y)) env run ≡ and_then (applied s (made.Literal y) x run) alone
+literal_means_it s (item.Atomic a) x env run is = literal_means a env run is ∙ after_work (work 2 run) (pure (item.Atomic a)) (alone (item.Atomic a)) alone (λ run. refl)
+literal_means_it s (item.Node i) x env run is = absurd is
+
+whole : (s : Subject) (m : Made) (x : Item) (env : Environment) (run : Run) → StandsFor s x env → IsMade m → mean (function_expression s m) env run ≡ and_then (applied s m x run) alone
+whole s made.Itself x env run stands is = subject_means s x env run stands ∙ after_work (subject_work s run) (pure x) (alone x) alone (λ run. refl)
+whole s made.String x env run stands is = call_means function.String env s x run stands ∙ after_work (subject_work s run) (printed_string x) (called function.String env (x ∷ []) >>= and_count) alone (string_means env x)
+whole s made.Length x env run stands is = call_means function.StringLength env s x run stands ∙ after_work (subject_work s run) (length_at x) (called function.StringLength env (x ∷ []) >>= and_count) alone (length_means env x)
+whole s (made.Literal y) x env run stands is = literal_means_it s y x env run is
 
 -- so what is made of the item is what the expression gives
-pub as_meant : (s : Subject) (m : Made) (x : Item) (env : Environment) (old new : Run) (r : Result Item ValueFault) → StandsFor s x env
+pub as_meant : (s : Subject) (m : Made) (x : Item) (env : Environment) (old new : Run) (r : Result Item ValueFault) → StandsFor s x env → IsMade m
     → GivesIn IsIn (applied s m x) old r new → Gives (mean (function_expression s m) env) old (given_one r) new
-as_meant s m x env old new (Ok y) stands given = (whole s m x env old stands ∙ ap (λ r. and_then r alone) given.0, (given.1.0, stands_alone))
+as_meant s m x env old new (Ok y) stands is given = (whole s m x env old stands is ∙ ap (λ r. and_then r alone) given.0, (given.1.0, stands_alone))
   where
     stands_alone : Stand (y ∷ []) new
     stands_alone zero d h = given.1.1
     stands_alone (suc k) d h = absurd (omega (arith, h))
-as_meant s m x env old new (Err fault.Memory) stands given = tt
-as_meant s m x env old new (Err (fault.Code code)) stands given = whole s m x env old stands ∙ ap (λ r. and_then r alone) given
+as_meant s m x env old new (Err fault.Memory) stands is given = tt
+as_meant s m x env old new (Err (fault.Code code)) stands is given = whole s m x env old stands is ∙ ap (λ r. and_then r alone) given

@@ -1,6 +1,8 @@
 -- A comparison of an item with a literal comes to what its expression means.
 use Rattle.std.proofs.Common.{◌≡◌, ◌∙◌, ℕ, zero, suc, unsigned_abs, Bool, List, [], ◌∷◌, Result, Ok, Err, refl, ap, rules, arith}
 use Rattle.fault_codes.specs.declared.code.Code.{Code}
+use Rattle.data_model.specs.Trees.{Trees}
+use Rattle.values.specs.Items.{IsThere}
 use Rattle.values.specs.Comparisons.{general_compared, pairs_compared, tried, tried_work}
 use Rattle.values.specs.declared.atom.Atom.{Atom}
 use Rattle.values.specs.declared.atom.Atom.TheVariants as atom
@@ -21,7 +23,7 @@ use Rattle.query_meaning.specs.Operators.{between_atoms, chain, compared_by_pair
 use Rattle.query_meaning.specs.Running.{M, Run, and_then, ◌>>=◌, atom as atom_at, atoms, come_to, counted, pure, turns, work}
 use Rattle.query_meaning.specs.Sequences.{number, one, string}
 use Rattle.evaluation.specs.Gives.{Any, Gives, GivesIn, Stand}
-use Rattle.evaluation.specs.Pairs.{items_compared, pair}
+use Rattle.read_items.specs.Pairs.{items_compared, pair}
 use Rattle.evaluation.proofs.Alone.{item_atoms}
 use Rattle.evaluation.proofs.Unfolded.{by_form}
 use Rattle.item_expressions.specs.Compared.{IsLiteral, IsLiteralValue, comparison_expression, item_holds, literal_expression, literal_in, said}
@@ -40,12 +42,16 @@ pub of_chain : (x y : Expr) (b : Binary) → mean (e.Chain x (record { operator 
 of_chain x y b = by_form (e.Chain x (record { operator = b; operand = y } ∷ [])) (Expr-F.Chain x (record { operator = b; operand = y } ∷ [])) (search (rules, the_lemmas))
 
 -- ---- the literal
-literal_means : (a : Atom) (env : Environment) (run : Run) → IsLiteralValue a → mean (literal_expression a) env run ≡ and_then (work 2 run) (λ _. pure (one a))
+pub literal_means : (a : Atom) (env : Environment) (run : Run) → IsLiteralValue a → mean (literal_expression a) env run ≡ and_then (work 2 run) (λ _. pure (one a))
 literal_means (atom.Integer z) env run is =
     ap (λ m. m env run) (of_number (unsigned_abs z)) ∙ ap (λ r. and_then (and_then (come_to r run) (λ y. pure (one (atom.Integer y)))) and_count) is
 literal_means (atom.String text) env run is = ap (λ m. m env run) (of_string text)
 literal_means (atom.Boolean b) env run is = absurd is
 literal_means (atom.Untyped text) env run is = absurd is
+
+pub literal_there : (ts : Trees) (y : Item) → IsLiteral y → IsThere ts y
+literal_there ts (item.Atomic a) is = tt
+literal_there ts (item.Node i) is = absurd is
 
 -- ---- the comparison
 module _ (op : Comparison) where

@@ -20,7 +20,7 @@ use Rattle.query_meaning.specs.Operators.{between_atoms, compared_by_pairs}
 use Rattle.query_meaning.specs.Running.{M, Run, and_then, ◌>>=◌, come_to, pure, trees_of, work}
 use Rattle.query_meaning.specs.Sequences.{one}
 use Rattle.evaluation.specs.Gives.{Any, Gives, GivesIn, Stand}
-use Rattle.evaluation.specs.Pairs.{items_compared}
+use Rattle.read_items.specs.Pairs.{items_compared}
 use Rattle.evaluation.proofs.Looking.{of_value}
 use Rattle.evaluation.proofs.Unfolded.{of_variable}
 use Rattle.item_expressions.specs.Compared.{said}

@@ -1,5 +1,5 @@
 -- Functions of an item, as expressions in which something stands for the item.
-use Rattle.std.specs.Prelude.{pos, chars, List, [], ◌∷◌, length, Some, Result, Ok, Err}
+use Rattle.std.specs.Prelude.{pos, List, [], ◌∷◌, Some, Result, Ok, Err}
 use Rattle.values.specs.Items.{IsThere}
 use Rattle.values.specs.Work.{text_work}
 use Rattle.values.specs.declared.atom.Atom.TheVariants as atom
@@ -10,7 +10,8 @@ use Rattle.query_grammar.specs.declared.ast.Expr.{Expr}
 use Rattle.query_grammar.specs.declared.ast.Expr.TheVariants as e
 use Rattle.query_grammar.specs.declared.functions.Function.TheVariants as function
 use Rattle.query_meaning.specs.Running.{M, Run, ◌>>=◌, pure, trees_of, work}
-use Rattle.query_strings.specs.ItemTexts.{item_text, printed_item}
+use Rattle.query_strings.specs.ItemTexts.{item_length, printed_item}
+use Rattle.item_expressions.specs.Compared.{IsLiteral, literal_expression, literal_in}
 use Rattle.item_expressions.specs.Subjects.{OfSubject, subject_expression, subject_work}
 use Rattle.item_expressions.specs.declared.subject.Subject.{Subject}
 use Rattle.item_expressions.specs.declared.item_function.Made.{Made}
@@ -21,6 +22,12 @@ abbrev pub function_expression : Subject → Made → Expr
 function_expression s made.Itself = subject_expression s
 function_expression s made.String = e.Call (Some function.String) (subject_expression s ∷ [])
 function_expression s made.Length = e.Call (Some function.StringLength) (subject_expression s ∷ [])
+function_expression s (made.Literal y) = literal_expression (literal_in y)
+
+-- a literal is one
+abbrev pub IsMade : Made → Type 0
+IsMade (made.Literal y) = IsLiteral y
+IsMade _ = Unit {0}
 
 abbrev pub function_of : Inside → OfSubject
 function_of f = record { subject = f.subject; expression = function_expression f.subject f.made }
@@ -45,15 +52,21 @@ printed_string x = do
 -- the characters of its text
 abbrev pub length_at : Item → M Item
 length_at x = do
-  text ← item_text x
+  count ← item_length x
   _ ← work 2
-  pure (item.Atomic (atom.Integer (pos (length (chars text)))))
+  pure (item.Atomic (atom.Integer (pos count)))
 
 -- what is made of the item
 abbrev pub made_of : Made → Item → M Item
 made_of made.Itself x = pure x
 made_of made.String x = printed_string x
 made_of made.Length x = length_at x
+made_of (made.Literal y) x = pure y
+
+-- to look for what stands for the item is work, and a literal takes that of a value of one item
+abbrev pub made_work : Subject → Made → M (Unit {0})
+made_work s (made.Literal y) = work 2
+made_work s _ = subject_work s
 
 abbrev pub applied : Subject → Made → Item → M Item
-applied s m x = subject_work s >>= (λ _. made_of m x)
+applied s m x = made_work s m >>= (λ _. made_of m x)

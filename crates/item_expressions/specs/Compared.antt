@@ -12,7 +12,7 @@ use Rattle.query_grammar.specs.declared.ast.Expr.TheVariants as e
 use Rattle.query_grammar.specs.declared.ast.Binary.TheVariants as binary
 use Rattle.query_meaning.specs.Running.{M, ◌>>=◌, pure, work}
 use Rattle.query_meaning.specs.Sequences.{one}
-use Rattle.evaluation.specs.Pairs.{items_compared}
+use Rattle.read_items.specs.Pairs.{items_compared}
 use Rattle.item_expressions.specs.Subjects.{OfSubject, subject_expression, subject_work}
 use Rattle.item_expressions.specs.declared.subject.Subject.{Subject}
 use Rattle.item_expressions.specs.declared.item_comparison.ItemComparison.TheInside.{Inside}

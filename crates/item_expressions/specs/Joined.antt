@@ -7,12 +7,13 @@ use Rattle.query_grammar.specs.declared.ast.Expr.{Expr}
 use Rattle.query_grammar.specs.declared.ast.Expr.TheVariants as e
 use Rattle.query_grammar.specs.declared.ast.Binary.TheVariants as binary
 use Rattle.query_meaning.specs.Running.{M, ◌>>=◌, pure, work}
-use Rattle.evaluation.specs.Pairs.{items_compared}
+use Rattle.read_items.specs.Pairs.{items_compared}
 use Rattle.item_expressions.specs.declared.variable_comparison.VariableComparison.TheInside.{Inside}
 
--- the variable that was bound last, and the whole expression
-pub record OfVariable : Type 0 where
+-- the variable that was bound last, the other one, and the whole expression
+pub record OfVariables : Type 0 where
   pub variable : List ℕ
+  pub other : List ℕ
   pub expression : Expr
 
 -- a comparison of two variables
@@ -24,8 +25,8 @@ abbrev pub joined_expression : Comparison → (variable other : List ℕ) → (i
 joined_expression op v o true = variables_expression op v o
 joined_expression op v o false = variables_expression op o v
 
-abbrev pub joined_of : Inside → OfVariable
-joined_of c = record { variable = c.variable.now; expression = joined_expression c.operator c.variable.now c.other.now c.is_left }
+abbrev pub joined_of : Inside → OfVariables
+joined_of c = record { variable = c.variable.now; other = c.other.now; expression = joined_expression c.operator c.variable.now c.other.now c.is_left }
 
 -- it is another one
 abbrev pub IsOther : (other variable : List ℕ) → Type 0

@@ -1,4 +1,7 @@
 pub mod Applied
 pub mod Compared
 pub mod Joined
+pub mod Lasting
+pub mod Looped
+pub mod Others
 pub mod Subjects

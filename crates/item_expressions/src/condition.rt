@@ -1,15 +1,13 @@
 //! What `where` tests, read once for all tuples (XQuery 1.0, section 3.8.2).
 
-ghost use Rattle.std.specs.Prelude.{◌≡◌, ◌∷◌, [], Some, option_copied, option_map, IfNone, IfOk, IfSome};
+ghost use Rattle.std.specs.Prelude.{◌≡◌, Some, option_copied, IfOk, IfSome};
 ghost use Rattle.std.specs.List.{All};
-ghost use Rattle.values.specs.Items.{IsThere};
-ghost use Rattle.query_meaning.specs.Environment.{Environment, with_variable};
-ghost use Rattle.query_meaning.specs.Meaning.{mean};
 ghost use Rattle.query_meaning.specs.Running.{trees_of};
-ghost use Rattle.query_meaning.specs.Sequences as meaning;
-ghost use Rattle.evaluation.specs.Gives.{Any, GivesIn, Stand};
+ghost use Rattle.evaluation.specs.Gives.{Stand};
+ghost use Rattle.item_expressions.specs.Others.{IsTest};
 
 use crate::item_comparison::ItemComparison;
+use crate::item_test::ItemTest;
 use crate::subject::Subject;
 use crate::variable_comparison::VariableComparison;
 use evaluation::{Evaluation, Variables};
@@ -17,7 +15,7 @@ use query_grammar::{Clause, Expr};
 use sqlite_items::Boxed;
 use std::alloc::AllocError;
 use std::marker::Model;
-use values::{Item, Text, ValueFault};
+use values::Text;
 
 /// The test of `where`, where there is one. Contracts see it as the expression.
 #[derive(Drop)]
@@ -70,35 +68,44 @@ impl<'t, 'v> Condition<'t, 'v> {
         }
     }
 
-    /// Whether the test holds where a variable is bound to an item after those others, as far as that can be told without binding it: where there is no
-    /// test, or it compares that variable with a literal, or with another one that has one item. Elsewhere `None`, and nothing changes. Codes: those of
-    /// the comparison.
-    #[tactic(auto, using(crate::proofs::Tested::none_holds))]
-    pub fn holds_of(
-        &self,
-        run: &mut Evaluation,
+    /// The same as a test of the item that a variable is bound to after those others, where it can be told without binding it: where there is no test, or it
+    /// compares that variable with a literal, or with another one that has one item. Elsewhere `None`. It fails where memory is refused.
+    pub fn item_test<'c, 'o>(
+        &'c self,
+        run: &Evaluation,
         variable: &Text,
-        item: &Item,
-        others: &Variables,
-    ) -> Option<Result<bool, ValueFault>>
-        requires item { IsThere (trees_of run.old) item.now }
-        requires others { All (λ b. Stand b.items run.old) others.now }
-        ensures holds { IfSome result (λ value. (env : Environment) → env.variables ≡ others.now
-            → GivesIn Any (meaning.tested (option_map mean self.now) (with_variable variable.now (item.now ∷ []) env)) run.old value run.new) }
-        ensures same { IfNone result (run.new ≡ run.old) }
+        others: &'o Variables,
+    ) -> Result<Option<ItemTest<'c, 'v, 't, 'o>>, AllocError>
+        requires others { All (λ b. Stand b.items run.now) others.now }
+        ensures { IfOk result (λ o. IfSome o (IsTest (trees_of run.now) self.now variable.now others.now)) }
     {
         let Some(_) = self.test else {
-            return Some(Ok(true));
+            return Ok(Some(ItemTest::Holds));
         };
         if let Some(comparison) = &self.comparison {
             if comparison.is_of(variable) {
-                return Some(comparison.holds(run, item));
+                return Ok(Some(ItemTest::Compared(comparison)));
             }
         }
         match &self.joining {
-            Some(joining) if joining.is_of(variable) => joining.holds(run, item, others),
-            _ => None,
+            Some(joining) if joining.is_of(variable) => joined_test(run, joining, others),
+            _ => Ok(None),
         }
+    }
+}
+
+/// The test that a comparison with another variable is, where that has one item. It fails where memory is refused.
+fn joined_test<'c, 'v, 'x, 'o>(
+    run: &Evaluation,
+    joining: &'c VariableComparison<'v, 'x>,
+    others: &'o Variables,
+) -> Result<Option<ItemTest<'c, 'v, 'x, 'o>>, AllocError>
+    requires others { All (λ b. Stand b.items run.now) others.now }
+    ensures { IfOk result (λ o. IfSome o (IsTest (trees_of run.now) (Some joining.now.expression) joining.now.variable others.now)) }
+{
+    match joining.other(run, others)? {
+        Some(other) => Ok(Some(ItemTest::Joined(joining, other))),
+        None => Ok(None),
     }
 }
 

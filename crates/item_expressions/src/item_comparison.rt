@@ -1,17 +1,18 @@
 //! General comparisons of items with a literal, read once for many items (XQuery 1.0, section 3.5.2).
 
-ghost use Rattle.std.specs.Prelude.{◌≡◌, IfOk, IfSome, IsTrue};
-ghost use Rattle.values.specs.Items.{IsThere};
+ghost use Rattle.std.specs.Prelude.{◌≡◌, IfOk, IfSome, IsTrue, OnOk};
 ghost use Rattle.query_meaning.specs.Environment.{Environment};
 ghost use Rattle.query_meaning.specs.Meaning.{mean};
 ghost use Rattle.query_meaning.specs.Running.{trees_of};
 ghost use Rattle.evaluation.specs.Gives.{Any, Gives, GivesIn};
+ghost use Rattle.read_items.specs.Read.{IsRead};
 ghost use Rattle.item_expressions.specs.Compared.{IsLiteral, item_holds, literal_expression, literal_in, said, sides};
 ghost use Rattle.item_expressions.specs.Subjects.{IsVariable, StandsFor};
 
 use crate::subject::Subject;
 use evaluation::Evaluation;
 use query_grammar::{Binary, Expr};
+use read_items::{ReadItem, compare_items};
 use std::alloc::AllocError;
 use std::marker::Model;
 use values::{Atom, Comparison, Item, Text, ValueFault};
@@ -87,9 +88,10 @@ impl<'x> ItemComparison<'x> {
     /// Whether the comparison holds of an item: what the expression gives in each environment in which its subject stands for that item, for the same
     /// turn and work. Faults: `Memory`; `Code` with PXQ0002 where the item's string value is too long, no turn is left, or too little work, with
     /// FORG0001 where an untyped value does not read as the literal's integer, or with XPTY0004 where the two are of different types.
-    pub fn holds(&self, run: &mut Evaluation, item: &Item) -> Result<bool, ValueFault>
-        requires there { IsThere (trees_of run.old) item.now }
-        ensures { (env : Environment) → StandsFor self.now.subject item.now env → Gives (mean self.now.expression env) run.old (said result) run.new }
+    pub fn holds(&self, run: &mut Evaluation, item: &ReadItem) -> Result<bool, ValueFault>
+        requires read { IsRead (trees_of run.old) item.now }
+        ensures holds { (env : Environment) → StandsFor self.now.subject item.now.item.now env → Gives (mean self.now.expression env) run.old (said result) run.new }
+        ensures same { OnOk result (run.new ≡ record run.old { turns = run.new.turns; work = run.new.work }) }
     {
         holds_of(run, self.subject, self.operator, item, &self.literal)
     }
@@ -100,15 +102,16 @@ fn holds_of(
     run: &mut Evaluation,
     subject: Subject<'_>,
     operator: Comparison,
-    item: &Item,
+    item: &ReadItem,
     literal: &Item,
 ) -> Result<bool, ValueFault>
-    requires there { IsThere (trees_of run.old) item.now }
+    requires read { IsRead (trees_of run.old) item.now }
     requires literal { IsLiteral literal.now }
-    ensures { GivesIn Any (item_holds subject.entry operator item.now literal.now) run.old result run.new }
+    ensures holds { GivesIn Any (item_holds subject.entry operator item.now.item.now literal.now) run.old result run.new }
+    ensures same { OnOk result (run.new ≡ record run.old { turns = run.new.turns; work = run.new.work }) }
 {
     pay_sides(run, subject)?;
-    let holds = run.compare_items(operator, item, literal)?;
+    let holds = compare_items(run, operator, item, &ReadItem::unread(literal))?;
     run.spend(2)?; // for what the operator gives
     run.spend(2)?; // for what the expression gives
     Ok(holds)
@@ -124,7 +127,7 @@ fn pay_sides(run: &mut Evaluation, subject: Subject<'_>) -> Result<(), ValueFaul
 }
 
 /// The value of a literal. It fails where memory is refused.
-fn literal_of(x: &Expr) -> Result<Option<Item>, AllocError>
+pub(crate) fn literal_of(x: &Expr) -> Result<Option<Item>, AllocError>
     ensures { IfOk result (λ found. IfSome found (λ y. (literal_expression (literal_in y) ≡ x.now) × IsLiteral y)) }
 {
     match x {

@@ -4,12 +4,16 @@
 #![tactic(auto)]
 
 mod condition;
+mod each;
 mod item_comparison;
 mod item_function;
+mod item_test;
 mod subject;
 mod variable_comparison;
 
 pub use condition::Condition;
+pub use each::{add_of_each, add_value, read_if};
 pub use item_comparison::ItemComparison;
 pub use item_function::ItemFunction;
+pub use item_test::ItemTest;
 pub use subject::Subject;

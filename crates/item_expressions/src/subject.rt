@@ -4,7 +4,7 @@ ghost use Rattle.std.specs.Prelude.{◌≡◌, true, IsTrue};
 ghost use Rattle.evaluation.specs.Gives.{Any, GivesIn};
 ghost use Rattle.item_expressions.specs.Subjects.{IsVariable, subject_expression, subject_work};
 
-use evaluation::{Evaluation, is_same};
+use evaluation::{Evaluation, is_same_name};
 use query_grammar::Expr;
 use values::{Text, ValueFault};
 
@@ -23,7 +23,7 @@ impl<'x> Subject<'x> {
         ensures { IsTrue result → IsVariable name.now self.entry }
     {
         match self {
-            Subject::Variable(variable) => is_same(name.as_str(), variable.as_str()),
+            Subject::Variable(variable) => is_same_name(name.as_str(), variable.as_str()),
             Subject::Context => false,
         }
     }
@@ -34,7 +34,7 @@ impl<'x> Subject<'x> {
     {
         match (x, self) {
             (Expr::Variable(name), Subject::Variable(variable)) => {
-                is_same(name.as_str(), variable.as_str())
+                is_same_name(name.as_str(), variable.as_str())
             }
             (Expr::Context, Subject::Context) => true,
             _ => false,

@@ -14,6 +14,7 @@ use crate::sequences::string_of;
 use evaluation::{Evaluation, Sequence};
 use fault_codes::Code;
 use query_strings::{one_text, printed_item};
+use read_items::ReadItem;
 use shelves::Shelf;
 use trees::NodeId;
 use values::{Atom, Item, Text, ValueFault};
@@ -119,6 +120,6 @@ fn string_of_item(run: &mut Evaluation, item: &Item) -> Result<Sequence, ValueFa
     requires there { IsThere (trees_of run.old) item.now }
     ensures { Gives (functions.string_of (item.now ∷ [])) run.old result run.new }
 {
-    let text = printed_item(run, item)?;
+    let text = printed_item(run, &ReadItem::unread(item))?;
     string_of(run, text)
 }

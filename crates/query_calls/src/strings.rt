@@ -17,6 +17,7 @@ use crate::sequences::{boolean_of, integer_of, string_of};
 use evaluation::{Evaluation, Sequence};
 use fault_codes::Code;
 use query_strings::{all_printed, characters, holds, item_text, one_text, separated, text_in};
+use read_items::ReadItem;
 use std::alloc::Global;
 use values::{Atom, Item, ValueFault};
 
@@ -132,7 +133,7 @@ fn length_of_item(run: &mut Evaluation, item: &Item) -> Result<Sequence, ValueFa
     requires there { IsThere (trees_of run.old) item.now }
     ensures { Gives (functions.string_length (item.now ∷ [])) run.old result run.new }
 {
-    let text = item_text(run, item)?;
+    let text = item_text(run, &ReadItem::unread(item))?;
     counted_of(run, text.as_str())
 }
 

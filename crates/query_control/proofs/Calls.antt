@@ -2,12 +2,10 @@
 use Rattle.std.proofs.Common.{◌≡◌, ℕ, zero, suc, ◌<◌, List, [], ◌∷◌, length, slice_index_or, sym, subst, arith}
 use Rattle.std.specs.List.{All}
 use Rattle.query_grammar.specs.declared.ast.Binding.{Binding}
-use Rattle.query_grammar.specs.declared.ast.Clause.{Clause}
 use Rattle.query_grammar.specs.declared.ast.Expr.{Expr}
 use Rattle.evaluation.specs.Evaluates.{Pre, Post, IsCallable, Evaluates, EvaluatesEach}
 use Rattle.query_control.specs.Evaluates.{EvaluatesQuantified}
 use Rattle.evaluation.specs.Bindings.{bound_source}
-use Rattle.query_control.specs.Parts.{source_of}
 
 -- the expression of one part
 pub evaluates_at : {A : Type 0} (pre : Pre) (post : Post) (of : A → Expr) (xs : List A) (k : ℕ) (x : A) → EvaluatesEach pre post of xs → k < length xs → x ≡ slice_index_or xs k x
@@ -32,10 +30,6 @@ each_alone pre post of xs each k d below = record { callable = all; means = each
     all : (j : ℕ) (e : Expr) → j < 1 → IsCallable pre (slice_index_or (of (slice_index_or xs k d) ∷ []) j e)
     all zero e h = each.callable k d below
     all (suc j) e h = absurd (omega (arith, h))
-
--- clauses without the first
-pub clauses_rest : (P : Expr → Type 0) (cs : List (Clause Expr)) (c : Clause Expr) (rest : List (Clause Expr)) → cs ≡ c ∷ rest → All (λ c. P (source_of c)) cs → All (λ c. P (source_of c)) rest
-clauses_rest P cs c rest is all = λ k d below. subst (λ cs. All (λ c. P (source_of c)) cs) is all (suc k) d (omega (arith, below))
 
 -- a quantified expression without its first binding
 pub quantified_rest : (pre : Pre) (post : Post) (bs : List (Binding Expr)) (b : Binding Expr) (rest : List (Binding Expr)) (x : Expr) → bs ≡ b ∷ rest

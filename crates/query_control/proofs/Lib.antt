@@ -3,6 +3,5 @@ pub mod Clauses
 pub mod Comparing
 pub mod Deciding
 pub mod Kept
-pub mod Returned
 pub mod Signing
 pub mod Values

@@ -16,7 +16,7 @@ use Rattle.query_meaning.specs.Running.{M, Run, and_then, ◌>>=◌, come_to, ea
 use Rattle.query_meaning.specs.Sequences.{one}
 use Rattle.evaluation.specs.Gives.{GivesIn, Stand}
 use Rattle.evaluation.proofs.Each.{grows_refl}
-use Rattle.query_control.proofs.Values.{one_stands}
+use Rattle.clause_walks.proofs.Values.{one_stands}
 
 -- no sign asks for its index
 pub any_index : (n m : ℕ) (signs : List Sign) (z : ℤ) (run : Run) → each with_sign n signs z run ≡ each with_sign m signs z run

@@ -6,7 +6,7 @@ use Rattle.query_grammar.specs.declared.ast.Clause.{Clause}
 use Rattle.query_grammar.specs.declared.ast.Expr.{Expr}
 use Rattle.evaluation.specs.Evaluates.{Pre, Post, Evaluates, EvaluatesEach}
 use Rattle.evaluation.specs.Bindings.{bound_source}
-use Rattle.query_control.specs.Parts.{source_of}
+use Rattle.clause_walks.specs.Walked.{source_of}
 
 -- the same of the expressions in a FLWOR expression
 pub record EvaluatesFlwor (pre : Pre) (post : Post) (cs : List (Clause Expr)) (o : Option Expr) (x : Expr) : Type 0 where

@@ -9,21 +9,23 @@ ghost use Rattle.query_meaning.specs.Meaning.{mean};
 ghost use Rattle.query_meaning.specs.Running.{most_items, trees_of};
 ghost use Rattle.query_meaning.specs.Sequences as meaning;
 ghost use Rattle.evaluation.specs.Evaluates.{Evaluates, EvaluatesEach};
+ghost use Rattle.clause_walks.specs.Walked as walked;
 ghost use Rattle.query_control.specs.Evaluates.{EvaluatesFlwor};
 ghost use Rattle.evaluation.specs.Gives.{Any, Gives, GivesIn, IsReady, Stand};
 ghost use Rattle.sorted_tuples.specs.Keys.{sort_key_of};
+ghost use Rattle.item_expressions.specs.Looped.{leaving};
 ghost use Rattle.query_control.specs.Parts as part;
 ghost use Rattle.query_control.specs.Functions.{IsFunctionOf};
-ghost use Rattle.query_control.specs.Lasting.{stand_on};
+ghost use Rattle.item_expressions.specs.Lasting.{stand_on};
 
 use crate::forms::Forms;
-use crate::walk::{AtTuple, Walk};
+use clause_walks::{AtTuple, Walk, and_item};
 use evaluation::{Environment, Evaluation, Sequence, Variables};
-use item_expressions::{Condition, ItemFunction};
+use item_expressions::{Condition, ItemFunction, add_of_each};
 use query_grammar::{Clause, Expr, SortKey};
+use read_items::ReadItem;
 use sqlite_items::{Boxed, Items};
-use std::alloc::AllocError;
-use values::{Atom, Item, Text, ValueFault};
+use values::{Item, Text, ValueFault};
 
 impl<F: Fn(&mut Evaluation, &Expr, &Environment) -> Result<Sequence, ValueFault>> Forms<F> {
     /// Clauses, `where`, `order by` and `return` (XQuery 1.0, section 3.8). Each item of a `for` clause takes a turn. Codes: that of the first part that has
@@ -41,11 +43,11 @@ impl<F: Fn(&mut Evaluation, &Expr, &Environment) -> Result<Sequence, ValueFault>
         requires flwor { EvaluatesFlwor (F.pre self.now.value_of) (F.post self.now.value_of) clauses.now condition.now body.now }
         requires keys { EvaluatesEach (F.pre self.now.value_of) (F.post self.now.value_of) part.key_in keys.now }
         requires ready { IsReady env.now run.old }
-        ensures { Gives (meaning.flwor (map (part.clause_of mean) clauses.now) (option_map mean condition.now) (map (sort_key_of mean) keys.now) (mean body.now) env.now) run.old result run.new }
+        ensures { Gives (meaning.flwor (map (walked.clause_of mean) clauses.now) (option_map mean condition.now) (map (sort_key_of mean) keys.now) (mean body.now) env.now) run.old result run.new }
     {
         let clauses = clauses.as_slice();
         let condition = Condition::of(clauses, condition)?;
-        let function = ItemFunction::after(clauses, body.get());
+        let function = ItemFunction::after(clauses, body.get())?;
         if keys.is_empty() {
             return self.unordered(run, clauses, &condition, body, &function, env);
         }
@@ -74,7 +76,7 @@ impl<F: Fn(&mut Evaluation, &Expr, &Environment) -> Result<Sequence, ValueFault>
         requires flwor { EvaluatesFlwor (F.pre self.now.value_of) (F.post self.now.value_of) clauses.now condition.now body.now }
         requires function { IsFunctionOf body.now function.now }
         requires ready { IsReady env.now run.old }
-        ensures { Gives (meaning.tuples (map (part.clause_of mean) clauses.now) (meaning.returned (option_map mean condition.now) (mean body.now)) env.now []) run.old result run.new }
+        ensures { Gives (meaning.tuples (map (walked.clause_of mean) clauses.now) (meaning.returned (option_map mean condition.now) (mean body.now)) env.now []) run.old result run.new }
     {
         let mut given = Sequence::new(run.alloc());
         let at_tuple = &Returning {
@@ -99,27 +101,19 @@ impl<F: Fn(&mut Evaluation, &Expr, &Environment) -> Result<Sequence, ValueFault>
         run: &mut Evaluation,
         given: &mut Sequence,
         x: &Expr,
-        function: &Option<ItemFunction>,
         variable: &Text,
         item: &Item,
         others: &Environment,
         former: &mut Option<Variables>,
     ) -> Result<(), ValueFault>
         requires evaluates { Evaluates (F.pre self.now.value_of) (F.post self.now.value_of) (x.now ∷ []) }
-        requires function { IsFunctionOf x.now function.now }
         requires ready { IsReady others.now run.old }
         requires item { IsThere (trees_of run.old) item.now }
-        requires former { ForSome former.old (part.Rebinds variable.now others.now.variables) }
+        requires former { ForSome former.old (walked.Rebinds variable.now others.now.variables) }
         requires stand { Stand given.old run.old }
-        ensures gives { GivesIn Stand (meaning.and_items (with_variable variable.now (item.now ∷ []) others.now) given.old (mean x.now)) run.old (part.leaving result given.new) run.new }
-        ensures former { ForSome former.new (part.Rebinds variable.now others.now.variables) }
+        ensures gives { GivesIn Stand (meaning.and_items (with_variable variable.now (item.now ∷ []) others.now) given.old (mean x.now)) run.old (leaving result given.new) run.new }
+        ensures former { ForSome former.new (walked.Rebinds variable.now others.now.variables) }
     {
-        if let Some(function) = function {
-            if function.is_of(variable) {
-                let made = function.value(run, item)?;
-                return given.append(Sequence::one(run.alloc(), made)?);
-            }
-        }
         let variables = and_item(run, variable, item, others.variables(), former.take())?;
         let added = self.and_items(run, given, x, &others.with(&variables));
         *former = Some(variables);
@@ -202,95 +196,40 @@ impl<'w, 'f, F: Fn(&mut Evaluation, &Expr, &Environment) -> Result<Sequence, Val
         former: &mut Option<Variables>,
         given: &mut Sequence,
     ) -> Result<(), ValueFault> {
-        match self.condition.holds_of(run, variable, item, others) {
-            Some(Ok(true)) => {
-                let others = self.env.with(others);
-                let body = self.body.get();
-                self.forms.and_bound(
-                    run,
-                    given,
-                    body,
-                    self.function,
-                    variable,
-                    item,
-                    &others,
-                    former,
-                )
+        let Some(test) = self.condition.item_test(run, variable, others)? else {
+            let variables = and_item(run, variable, item, others, former.take())?;
+            let taken = self.take(run, &variables, given);
+            *former = Some(variables);
+            return taken;
+        };
+        if test.holds(run, &ReadItem::unread(item))? {
+            let (body, others) = (self.body.get(), self.env.with(others));
+            self.forms
+                .and_bound(run, given, body, variable, item, &others, former)
+        } else {
+            Ok(())
+        }
+    }
+
+    fn take_each(
+        &self,
+        run: &mut Evaluation,
+        variable: &Text,
+        items: &[Item],
+        others: &Variables,
+        given: &mut Sequence,
+    ) -> Result<bool, ValueFault> {
+        let Some(function) = self.function else {
+            return Ok(false);
+        };
+        match self.condition.item_test(run, variable, others)? {
+            Some(test) if function.is_of(variable) => {
+                add_of_each(run, &test, function, items, given)?;
+                Ok(true)
             }
-            Some(Ok(false)) => Ok(()),
-            Some(Err(fault)) => Err(fault),
-            None => {
-                let variables = and_item(run, variable, item, others, former.take())?;
-                let taken = self.take(run, &variables, given);
-                *former = Some(variables);
-                taken
-            }
+            _ => Ok(false),
         }
     }
 
     ghost lasts = { λ s items old new g h. stand_on items old new g h };
-}
-
-/// What the variables of a clause are bound to.
-pub(crate) fn source_of(clause: &Clause<Expr>) -> &Expr
-    ensures { result.now ≡ part.source_of clause.now }
-{
-    match clause {
-        Clause::For(binding) => &binding.source,
-        Clause::ForAt(binding, _) => &binding.source,
-        Clause::Let(binding) => &binding.source,
-    }
-}
-
-/// The position that follows an index.
-#[tactic(auto, unfolding(query_meaning::specs::Running::most_items))]
-fn position(run: &Evaluation, index: usize) -> Result<Sequence, AllocError>
-    requires { index < most_items }
-    ensures { IfOk result (λ s. s ≡ meaning.one (atom.Integer (pos (index + 1)))) }
-{
-    let position = index as i64 + 1;
-    Sequence::one(run.alloc(), Item::Atomic(Atom::Integer(position)))
-}
-
-/// A variable more, with one item. What is no longer used of the same variables with another item serves again, where nobody shares it. It fails where memory
-/// is refused.
-pub(crate) fn and_item(
-    run: &Evaluation,
-    variable: &Text,
-    item: &Item,
-    others: &Variables,
-    former: Option<Variables>,
-) -> Result<Variables, AllocError>
-    requires former { ForSome former (part.Rebinds variable.now others.now) }
-    ensures { IfOk result (λ v. v ≡ record { variable = variable.now; items = item.now ∷ [] } ∷ others.now) }
-{
-    let items = Sequence::one(run.alloc(), item.clone()?)?;
-    match former {
-        Some(former) => former.rebound(run.alloc(), items),
-        None => Variables::and(run.alloc(), variable, items, others),
-    }
-}
-
-/// The same, and one more with the position that follows an index, where a variable is there for it: then nothing serves again. It fails where memory is
-/// refused.
-pub(crate) fn and_item_at(
-    run: &Evaluation,
-    variable: &Text,
-    at: Option<&Text>,
-    index: usize,
-    item: &Item,
-    others: &Variables,
-    former: Option<Variables>,
-) -> Result<Variables, AllocError>
-    requires most { index < most_items }
-    requires former { ForSome former (part.RebindsAt variable.now (option_copied at) others.now) }
-    ensures { IfOk result (λ v. v ≡ part.and_position (option_copied at.entry) index (record { variable = variable.now; items = item.now ∷ [] } ∷ others.now)) }
-{
-    match at {
-        None => and_item(run, variable, item, others, former),
-        Some(at) => {
-            let variables = and_item(run, variable, item, others, None)?;
-            Variables::and(run.alloc(), at, position(run, index)?, &variables)
-        }
-    }
 }

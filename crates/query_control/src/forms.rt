@@ -8,7 +8,7 @@ ghost use Rattle.query_meaning.specs.Meaning.{mean};
 ghost use Rattle.query_meaning.specs.Sequences as meaning;
 ghost use Rattle.evaluation.specs.Evaluates.{Evaluates};
 ghost use Rattle.evaluation.specs.Gives.{Any, Fails, Gives, GivesIn, IsReady, Stand};
-ghost use Rattle.query_control.specs.Parts.{leaving};
+ghost use Rattle.item_expressions.specs.Looped.{leaving};
 
 use evaluation::{Environment, Evaluation, Sequence};
 use fault_codes::Code;

@@ -10,7 +10,6 @@ mod logic;
 mod order;
 mod quantified;
 mod signs;
-mod walk;
 
 pub use chain::SetOperator;
 pub use forms::{Forms, context_item, number, string, variable};

@@ -6,21 +6,24 @@ ghost use Rattle.evaluation.specs.Gives.{Any, Gives, GivesIn, IsReady, Says, Sta
 ghost use Rattle.query_meaning.specs.Meaning.{mean};
 ghost use Rattle.query_meaning.specs.Sequences as meaning;
 ghost use Rattle.evaluation.specs.Evaluates.{Evaluates, EvaluatesEach};
+ghost use Rattle.clause_walks.specs.Walked as walked;
 ghost use Rattle.query_control.specs.Evaluates.{EvaluatesFlwor};
 ghost use Rattle.sorted_tuples.specs.Keys.{AreKept, AreReady, sort_key_of};
+ghost use Rattle.item_expressions.specs.Looped.{leaving};
 ghost use Rattle.query_control.specs.Parts as part;
 ghost use Rattle.query_control.specs.Functions.{IsFunctionOf};
-ghost use Rattle.query_control.specs.Lasting.{kept_grows};
+ghost use Rattle.keyed_items.specs.Keyed.{AreKeys, and_key, and_tuple_of};
+ghost use Rattle.keyed_items.specs.Lasting.{kept_grows};
 
-use crate::flwor::and_item;
 use crate::forms::Forms;
-use crate::walk::{AtTuple, Walk};
+use clause_walks::{AtTuple, Walk, and_item};
 use evaluation::{Environment, Evaluation, Sequence, Variables};
-use item_expressions::{Condition, ItemFunction};
+use item_expressions::{Condition, ItemFunction, add_value};
+use keyed_items::{are_of, keep_of_each, key_functions};
 use query_grammar::{Clause, Expr, SortKey};
+use read_items::ReadItem;
 use sorted_tuples::{Keys, Place, Placed, Tuple, Tuples, key_of};
 use sqlite_items::Boxed;
-use std::mem;
 use values::{Item, Text, ValueFault};
 
 impl<F: Fn(&mut Evaluation, &Expr, &Environment) -> Result<Sequence, ValueFault>> Forms<F> {
@@ -40,9 +43,10 @@ impl<F: Fn(&mut Evaluation, &Expr, &Environment) -> Result<Sequence, ValueFault>
         requires flwor { EvaluatesFlwor (F.pre self.now.value_of) (F.post self.now.value_of) clauses.now condition.now body.now }
         requires keys { EvaluatesEach (F.pre self.now.value_of) (F.post self.now.value_of) part.key_in keys.now }
         requires ready { IsReady env.now run.old }
-        ensures { Gives (meaning.ordered (map (part.clause_of mean) clauses.now) (option_map mean condition.now) (map (sort_key_of mean) keys.now) (mean body.now) env.now) run.old result run.new }
+        ensures { Gives (meaning.ordered (map (walked.clause_of mean) clauses.now) (option_map mean condition.now) (map (sort_key_of mean) keys.now) (mean body.now) env.now) run.old result run.new }
     {
-        let tuples = self.in_order(run, clauses, condition, keys, env)?;
+        let functions = key_functions(run.alloc(), clauses, keys)?;
+        let tuples = self.in_order(run, clauses, condition, keys, &functions, env)?;
         self.returned_in_order(run, tuples.as_slice(), body, function)
     }
 
@@ -54,19 +58,22 @@ impl<F: Fn(&mut Evaluation, &Expr, &Environment) -> Result<Sequence, ValueFault>
         clauses: &[Clause<Expr>],
         condition: &Condition,
         keys: &[SortKey<Expr>],
+        functions: &Option<Vec<ItemFunction>>,
         env: &Environment<'f, '_>,
     ) -> Result<Tuples<'f>, ValueFault>
-        requires clauses { EvaluatesEach (F.pre self.now.value_of) (F.post self.now.value_of) part.source_of clauses.now }
+        requires functions { ForSome functions.now (λ v. AreKeys keys.now v.items) }
+        requires clauses { EvaluatesEach (F.pre self.now.value_of) (F.post self.now.value_of) walked.source_of clauses.now }
         requires condition { ForSome condition.now (λ x. Evaluates (F.pre self.now.value_of) (F.post self.now.value_of) (x ∷ [])) }
         requires keys { EvaluatesEach (F.pre self.now.value_of) (F.post self.now.value_of) part.key_in keys.now }
         requires ready { IsReady env.now run.old }
-        ensures { GivesIn AreReady (part.in_order (map (part.clause_of mean) clauses.now) (option_map mean condition.now) (map (sort_key_of mean) keys.now) env.now) run.old result run.new }
+        ensures { GivesIn AreReady (part.in_order (map (walked.clause_of mean) clauses.now) (option_map mean condition.now) (map (sort_key_of mean) keys.now) env.now) run.old result run.new }
     {
         let at_tuple = &Keeping {
             forms: self,
             env,
             condition,
             keys,
+            functions,
         };
         let walk = Walk {
             at_tuple,
@@ -110,15 +117,18 @@ impl<F: Fn(&mut Evaluation, &Expr, &Environment) -> Result<Sequence, ValueFault>
         requires body { Evaluates (F.pre self.now.value_of) (F.post self.now.value_of) (body.now ∷ []) }
         requires ready { IsReady tuple.now.environment run.old }
         requires stand { Stand given.old run.old }
-        ensures { Gives (part.returned_at (mean body.now) given.old tuple.now) run.old (part.leaving result given.new) run.new }
+        ensures { Gives (part.returned_at (mean body.now) given.old tuple.now) run.old (leaving result given.new) run.new }
     {
         match tuple.place().get() {
             Placed::Kept(env) => self.and_items(run, given, body.get(), &env.get()),
             Placed::Bound(others, variable, item) => {
+                if let Some(function) = function {
+                    if function.is_of(variable) {
+                        return add_value(run, function, &ReadItem::unread(item), given);
+                    }
+                }
                 let (body, others) = (body.get(), others.get());
-                self.and_bound(
-                    run, given, body, function, variable, item, &others, &mut None,
-                )
+                self.and_bound(run, given, body, variable, item, &others, &mut None)
             }
         }
     }
@@ -136,13 +146,10 @@ impl<F: Fn(&mut Evaluation, &Expr, &Environment) -> Result<Sequence, ValueFault>
         requires keys { EvaluatesEach (F.pre self.now.value_of) (F.post self.now.value_of) part.key_in keys.now }
         requires ready { IsReady env.now run.old }
         requires kept { AreKept (length keys.now) given.old run.old }
-        ensures { GivesIn (AreKept (length keys.now)) (part.and_tuple_of (map (sort_key_of mean) keys.now) env.now given.old) run.old (part.leaving result given.new) run.new }
+        ensures { GivesIn (AreKept (length keys.now)) (and_tuple_of (map (sort_key_of mean) keys.now) env.now given.old) run.old (leaving result given.new) run.new }
     {
         let keys = self.keys_in(run, keys, env)?;
-        let before = mem::replace(given, Tuples::new(run.alloc()));
-        let more = before.and(place, keys)?;
-        mem::replace(given, more);
-        Ok(())
+        given.push(place, keys)
     }
 
     /// The keys of a tuple.
@@ -175,7 +182,7 @@ impl<F: Fn(&mut Evaluation, &Expr, &Environment) -> Result<Sequence, ValueFault>
     ) -> Result<Keys, ValueFault>
         requires evaluates { Evaluates (F.pre self.now.value_of) (F.post self.now.value_of) (key.now ∷ []) }
         requires ready { IsReady env.now run.old }
-        ensures key { GivesIn Any (part.and_key env.now given (mean key.now)) run.old result run.new }
+        ensures key { GivesIn Any (and_key env.now given (mean key.now)) run.old result run.new }
         ensures width { IfOk result (λ found. length found ≡ length given + 1) }
     {
         let items = self.value_of(run, key, env)?;
@@ -191,6 +198,8 @@ struct Keeping<'w, 'f, F> {
     env: &'w Environment<'f, 'w>,
     condition: &'w Condition<'w, 'w>,
     keys: &'w [SortKey<Expr>],
+    /// The same as functions of the item that the last clause binds its variable to, where all are.
+    functions: &'w Option<Vec<ItemFunction<'w>>>,
 }
 
 impl<'w, 'f, F: Fn(&mut Evaluation, &Expr, &Environment) -> Result<Sequence, ValueFault>> AtTuple
@@ -202,7 +211,7 @@ impl<'w, 'f, F: Fn(&mut Evaluation, &Expr, &Environment) -> Result<Sequence, Val
     ghost can_evaluate = { λ s x. Evaluates (F.pre s.forms.now.value_of) (F.post s.forms.now.value_of) (x ∷ []) };
 
     ghost can_take = { λ s. ForSome s.condition.now (λ x. Evaluates (F.pre s.forms.now.value_of) (F.post s.forms.now.value_of) (x ∷ []))
-        × EvaluatesEach (F.pre s.forms.now.value_of) (F.post s.forms.now.value_of) part.key_in s.keys.now };
+        × (EvaluatesEach (F.pre s.forms.now.value_of) (F.post s.forms.now.value_of) part.key_in s.keys.now × ForSome s.functions.now (λ v. AreKeys s.keys.now v.items)) };
 
     ghost fits = { λ s. AreKept (length s.keys.now) };
 
@@ -217,7 +226,7 @@ impl<'w, 'f, F: Fn(&mut Evaluation, &Expr, &Environment) -> Result<Sequence, Val
         self.forms.value_of(run, x, &self.env.with(variables))
     }
 
-    #[tactic(auto, using(crate::specs::Lasting::kept_grows))]
+    #[tactic(auto, using(keyed_items::specs::Lasting::kept_grows))]
     fn take(
         &self,
         run: &mut Evaluation,
@@ -248,6 +257,27 @@ impl<'w, 'f, F: Fn(&mut Evaluation, &Expr, &Environment) -> Result<Sequence, Val
         taken
     }
 
+    fn take_each(
+        &self,
+        run: &mut Evaluation,
+        variable: &Text,
+        items: &[Item],
+        others: &Variables,
+        given: &mut Tuples<'f>,
+    ) -> Result<bool, ValueFault> {
+        let Some(functions) = self.functions else {
+            return Ok(false);
+        };
+        match self.condition.item_test(run, variable, others)? {
+            Some(test) if are_of(functions, variable) => {
+                let others = self.env.with(others);
+                keep_of_each(run, &test, functions, items, variable, &others, given)?;
+                Ok(true)
+            }
+            _ => Ok(false),
+        }
+    }
+
     ghost lasts = { λ s tuples old new g h. kept_grows (length s.keys.now) tuples old new g h };
 }
 
@@ -257,7 +287,7 @@ impl<'w, 'f, F: Fn(&mut Evaluation, &Expr, &Environment) -> Result<Sequence, Val
     F,
 > {
     /// One tuple more, where a variable is bound to an item after all others: both are kept beside these.
-    #[tactic(auto, using(crate::specs::Lasting::kept_grows))]
+    #[tactic(auto, using(keyed_items::specs::Lasting::kept_grows))]
     fn take_bound(
         &self,
         run: &mut Evaluation,
@@ -269,10 +299,10 @@ impl<'w, 'f, F: Fn(&mut Evaluation, &Expr, &Environment) -> Result<Sequence, Val
     ) -> Result<(), ValueFault>
         requires condition { ForSome self.now.condition.now (λ x. Evaluates (F.pre self.now.forms.now.value_of) (F.post self.now.forms.now.value_of) (x ∷ [])) }
         requires keys { EvaluatesEach (F.pre self.now.forms.now.value_of) (F.post self.now.forms.now.value_of) part.key_in self.now.keys.now }
-        requires bound { variables.now ≡ part.bound variable.now item.now others.now }
-        requires ready { IsReady (part.with_variables variables.now self.now.env.now) run.old }
+        requires bound { variables.now ≡ walked.bound variable.now item.now others.now }
+        requires ready { IsReady (walked.with_variables variables.now self.now.env.now) run.old }
         requires kept { AreKept (length self.now.keys.now) given.old run.old }
-        ensures { GivesIn (AreKept (length self.now.keys.now)) (meaning.kept_tuple (option_map mean self.now.condition.now) (map (sort_key_of mean) self.now.keys.now) (part.with_variables variables.now self.now.env.now) given.old) run.old (part.leaving result given.new) run.new }
+        ensures { GivesIn (AreKept (length self.now.keys.now)) (meaning.kept_tuple (option_map mean self.now.condition.now) (map (sort_key_of mean) self.now.keys.now) (walked.with_variables variables.now self.now.env.now) given.old) run.old (leaving result given.new) run.new }
     {
         let env = self.env.with(variables);
         if self.forms.tested(run, self.condition, &env)? {

@@ -7,18 +7,20 @@ ghost use Rattle.query_meaning.specs.Environment.{with_variable};
 ghost use Rattle.query_meaning.specs.Meaning.{mean};
 ghost use Rattle.query_meaning.specs.Running.{trees_of, turn};
 ghost use Rattle.query_meaning.specs.Sequences as meaning;
+ghost use Rattle.clause_walks.specs.Walked as walked;
 ghost use Rattle.query_control.specs.Evaluates.{EvaluatesQuantified};
 ghost use Rattle.item_expressions.specs.Subjects.{IsVariable, StandsFor};
 ghost use Rattle.evaluation.specs.Gives.{Any, Gives, GivesIn, IsReady, Stand};
 ghost use Rattle.evaluation.specs.Bindings.{binding_of};
 ghost use Rattle.query_control.specs.Parts as part;
 
-use crate::flwor::and_item;
 use crate::forms::Forms;
+use clause_walks::and_item;
 use evaluation::{Environment, Evaluation, Sequence, Variables};
 use item_expressions::{ItemComparison, Subject};
 use query_grammar::{Binding, Expr, Quantifier};
 use query_operators::boolean;
+use read_items::ReadItem;
 use sqlite_items::{Boxed, Items};
 use values::{Item, Text, ValueFault};
 
@@ -42,7 +44,7 @@ impl<F: Fn(&mut Evaluation, &Expr, &Environment) -> Result<Sequence, ValueFault>
     }
 
     #[cycle(satisfied)]
-    #[tactic(auto, using(crate::proofs::Calls::quantified_rest, crate::proofs::Values::ready_with))]
+    #[tactic(auto, using(crate::proofs::Calls::quantified_rest, clause_walks::proofs::Values::ready_with))]
     fn satisfied(
         &self,
         run: &mut Evaluation,
@@ -71,7 +73,7 @@ impl<F: Fn(&mut Evaluation, &Expr, &Environment) -> Result<Sequence, ValueFault>
     }
 
     #[cycle(satisfied)]
-    #[tactic(auto, using(crate::proofs::Calls::quantified_rest, crate::proofs::Values::ready_with))]
+    #[tactic(auto, using(crate::proofs::Calls::quantified_rest, clause_walks::proofs::Values::ready_with))]
     fn until_decided(
         &self,
         run: &mut Evaluation,
@@ -113,7 +115,7 @@ impl<F: Fn(&mut Evaluation, &Expr, &Environment) -> Result<Sequence, ValueFault>
 
     /// One item. The variables of the item before it serve again; then its own are left for the next.
     #[cycle(satisfied)]
-    #[tactic(auto, using(crate::proofs::Calls::quantified_rest, crate::proofs::Values::ready_with))]
+    #[tactic(auto, using(crate::proofs::Calls::quantified_rest, clause_walks::proofs::Values::ready_with))]
     fn satisfied_by(
         &self,
         run: &mut Evaluation,
@@ -128,9 +130,9 @@ impl<F: Fn(&mut Evaluation, &Expr, &Environment) -> Result<Sequence, ValueFault>
         requires quantified { EvaluatesQuantified (F.pre self.now.value_of) (F.post self.now.value_of) bindings.now test.now }
         requires ready { IsReady env.now run.old }
         requires item { IsThere (trees_of run.old) item.now }
-        requires former { ForSome former.old (part.Rebinds variable.now env.now.variables) }
+        requires former { ForSome former.old (walked.Rebinds variable.now env.now.variables) }
         ensures gives { GivesIn Any (part.satisfied_by quantifier variable.now (map (binding_of mean) bindings.now) (mean test.now) env.now item.now) run.old result run.new }
-        ensures former { ForSome former.new (part.Rebinds variable.now env.now.variables) }
+        ensures former { ForSome former.new (walked.Rebinds variable.now env.now.variables) }
     {
         run.turn()?;
         let variables = and_item(run, variable, item, env.variables(), former.take())?;
@@ -171,7 +173,7 @@ fn compared_in_turn(
         → GivesIn Any (turn (meaning.tested (Some (mean comparison.now.expression)) env)) run.old result run.new }
 {
     run.turn()?;
-    comparison.holds(run, item)
+    comparison.holds(run, &ReadItem::unread(item))
 }
 
 /// Whether the value of one item decides.

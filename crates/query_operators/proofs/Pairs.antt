@@ -12,7 +12,7 @@ use Rattle.query_meaning.specs.Operators.{between_atoms, compared_by_pairs}
 use Rattle.query_meaning.specs.Running.{M, Run, and_then, ◌>>=◌, atom as atom_at, atoms, come_to, pure, turns, work}
 use Rattle.query_meaning.specs.Sequences.{one}
 use Rattle.evaluation.specs.Gives.{Any, Fails, Gives, GivesIn}
-use Rattle.evaluation.specs.Pairs.{items_compared, pair}
+use Rattle.read_items.specs.Pairs.{items_compared, pair}
 use Rattle.evaluation.proofs.Alone.{item_atoms}
 use Rattle.query_operators.proofs.Values.{atomic_alone}
 

@@ -7,6 +7,7 @@ ghost use Rattle.query_meaning.specs.Running.{trees_of};
 ghost use Rattle.evaluation.specs.Gives.{Gives, Stand};
 
 use evaluation::{Evaluation, Sequence};
+use read_items::{ReadItem, compare_items};
 use std::alloc::AllocError;
 use values::{Atom, Comparison, Item, Operator, ValueFault, arithmetic, compare_value};
 
@@ -120,7 +121,7 @@ fn compared_items(
     requires other { IsThere (trees_of run.old) other.now }
     ensures { Gives (meaning.between_atoms (meaning.compared_by_pairs op) (item.now ∷ []) (other.now ∷ [])) run.old result run.new }
 {
-    let holds = run.compare_items(op, item, other)?;
+    let holds = compare_items(run, op, &ReadItem::unread(item), &ReadItem::unread(other))?;
     Ok(boolean(run, holds)?)
 }
 

@@ -17,6 +17,7 @@ use evaluation::{Environment, Evaluation, Sequence};
 use fault_codes::Code;
 use item_expressions::{ItemComparison, Subject};
 use query_grammar::{Expr, IntegerLiteral};
+use read_items::ReadItem;
 use sqlite_items::{Boxed, Items};
 use values::{Atom, Item, ValueFault, truth};
 
@@ -238,7 +239,7 @@ fn and_compared(
     ensures few { IfOk result (λ kept. length kept ≤ length given + 1) }
 {
     run.turn()?;
-    let is_kept = comparison.holds(run, item)?;
+    let is_kept = comparison.holds(run, &ReadItem::unread(item))?;
     Ok(given.and_if(is_kept, item)?)
 }
 

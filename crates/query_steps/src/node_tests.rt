@@ -6,6 +6,7 @@ ghost use Rattle.shelves.specs.Shelf.{shelf_trees};
 ghost use Rattle.query_meaning.specs.Paths.{is_of_kind, is_principal, passes, passes_at};
 
 use crate::listing::Listing;
+use evaluation::is_same_name;
 use query_grammar::{KindTest, NodeTest};
 use shelves::{Shelf, ShelfCursor};
 use std::alloc::{AllocError, Global};
@@ -43,7 +44,7 @@ pub(crate) fn passes(axis: Axis, test: &NodeTest, kind: Kind, name: &str) -> boo
     ensures { (c : Content) → kind ≡ c.kind → name.now ≡ c.name → result ≡ passes axis test.now c }
 {
     match test {
-        NodeTest::Name(wanted) => is_principal(axis, kind) && wanted.as_str() == name,
+        NodeTest::Name(wanted) => is_principal(axis, kind) && is_same_name(wanted.as_str(), name),
         NodeTest::AnyName => is_principal(axis, kind),
         NodeTest::Kind(test) => is_of_kind(*test, kind),
     }

@@ -1,17 +1,21 @@
 -- Texts that lie somewhere are those of the typed values.
-use Rattle.std.proofs.Common.{◌≡◌, ◌∙◌, ℕ, List, Result, Ok, Err, ap}
+use Rattle.std.proofs.Common.{◌≡◌, ◌∙◌, ℕ, List, Result, Ok, Err, ap, chars, length, sym}
 use Rattle.fault_codes.specs.declared.code.Code.{Code}
 use Rattle.values.specs.Comparisons.{as_string}
+use Rattle.values.specs.LentTexts.{IsLentText}
+use Rattle.values.specs.Work.{text_work}
 use Rattle.values.specs.declared.atom.Atom.{Atom}
 use Rattle.values.specs.declared.atom.Atom.TheVariants.{String, Boolean, Untyped, Integer}
 use Rattle.values.specs.declared.atom.Item.{Item}
 use Rattle.values.specs.declared.fault.ValueFault.{ValueFault}
 use Rattle.values.specs.declared.fault.ValueFault.TheVariants as fault
-use Rattle.query_meaning.specs.Running.{Run, and_then, atom as atom_at, come_to, pure}
+use Rattle.values.specs.declared.lent.LentText.{LentText}
+use Rattle.query_meaning.specs.Running.{Run, and_then, atom as atom_at, come_to, pure, trees_of}
 use Rattle.query_meaning.specs.Strings.{printed, text_in}
 use Rattle.evaluation.specs.Gives.{Any, Fails, GivesIn}
-use Rattle.evaluation.specs.Texts.{string_at}
-use Rattle.query_strings.specs.ItemTexts.{printed_item, item_text}
+use Rattle.read_items.specs.Texts.{string_at, text_paid}
+use Rattle.read_items.proofs.TextPairs as pairs
+use Rattle.query_strings.specs.ItemTexts.{item_length, item_text, printed_item}
 
 abbrev beside : Atom → Run → Atom × Run
 beside a run = (a, run)
@@ -60,3 +64,25 @@ printed_fails x old (fault.Code code) g = ap (λ r. and_then r (λ a. pure (prin
 pub text_fails : (x : Item) (old : Run) (found : ValueFault) → Fails (atom_at x old) found → Fails (item_text x old) found
 text_fails x old fault.Memory g = tt
 text_fails x old (fault.Code code) g = ap (λ r. and_then r (λ a. come_to (text_in a))) g
+
+-- ---- how many characters a text has
+abbrev counted : List ℕ → Run → Result (ℕ × Run) Code
+counted text = pure (length (chars text))
+
+pub length_gives : (x : Item) (text : List ℕ) (count : ℕ) (old new : Run) → GivesIn Any (item_text x) old (Ok text) new → count ≡ length (chars text) → GivesIn Any (item_length x) old (Ok count) new
+length_gives x text count old new g is = (ap (λ r. and_then r counted) g.0 ∙ ap (λ n. Ok (n, new)) (sym is), (g.1.0, tt))
+
+pub length_fails : (x : Item) (old : Run) (found : ValueFault) → Fails (item_text x old) found → Fails (item_length x old) found
+length_fails x old fault.Memory g = tt
+length_fails x old (fault.Code code) g = ap (λ r. and_then r counted) g
+
+module _ (x : Item) (t : LentText) (nodes units : ℕ) (old : Run) (lent : IsLentText (trees_of old) x t) (same : nodes ≡ t.nodes) (work : units ≡ text_work t.text.now) where
+  pub lent_length : (count : ℕ) (new : Run) (u : Unit {0}) → GivesIn Any (text_paid nodes units) old (Ok u) new → count ≡ length (chars t.text.now) → GivesIn Any (item_length x) old (Ok count) new
+  lent_length count new u g is =
+      let paid : GivesIn Any (text_paid t.nodes (text_work t.text.now)) old (Ok u) new = rw (← same, ← work) g in
+      length_gives x t.text.now count old new (text_gives t.text.now new x old (pairs.text_gives x t old lent new u paid)) is
+
+  pub unpaid : (found : ValueFault) → Fails (text_paid nodes units old) found → Fails (item_length x old) found
+  unpaid found g =
+      let paid : Fails (text_paid t.nodes (text_work t.text.now) old) found = rw (← same, ← work) g in
+      length_fails x old found (text_fails x old found (pairs.text_fails x t old lent found paid))

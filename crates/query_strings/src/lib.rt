@@ -8,7 +8,7 @@ mod limited_string;
 mod tests;
 mod texts;
 
-pub use item_texts::{item_text, printed_item};
+pub use item_texts::{item_length, item_text, printed_item};
 pub use limited_string::LimitedString;
 pub use tests::{after_spaces, ends_in_hyphen, holds};
 pub use texts::{all_printed, characters, one_text, printed, separated, spaced, text_in};

@@ -1,11 +1,11 @@
 //! Tuples of a FLWOR expression with `order by`, with their keys (XQuery 1.0, section 3.8.3).
 
-ghost use Rattle.std.specs.Prelude.{◌≡◌, ℕ, ◌≤◌, ◌++◌, ◌∷◌, [], length, map, Some, None, IfOk, OnOk};
+ghost use Rattle.std.specs.Prelude.{◌≡◌, ℕ, ◌≤◌, ◌++◌, ◌∷◌, [], length, map, Some, None, Ok, IfErr, IfOk, OnOk};
 ghost use Rattle.std.specs.List.{IsAllAdjacentAnswer};
 ghost use Rattle.std.specs.List.Sorted.{IsStableByKey};
 ghost use Rattle.std.specs.Option.{option_copied};
 ghost use Rattle.std.specs.Ordering.{nat_cmp};
-ghost use Rattle.evaluation.specs.Gives.{Judged, Says};
+ghost use Rattle.evaluation.specs.Gives.{Fails, Judged, Says};
 ghost use Rattle.values.specs.Comparisons.{as_string, string_cmp};
 ghost use Rattle.query_meaning.specs.Meaning.{mean};
 ghost use Rattle.query_meaning.specs.Sequences.{all_comparable, and_tuple, in_sorted_order, key_of};
@@ -201,18 +201,18 @@ impl<'f> Tuples<'f> {
         &self.tuples
     }
 
-    /// One tuple more. Faults: `Memory`; `Code` with PXQ0002 where there are 10,000.
+    /// One tuple more. Faults: `Memory`; `Code` with PXQ0002 where there are 10,000. What is left after a fault is not said.
     #[tactic(auto, unfolding(query_meaning::specs::Running::most_items))]
-    pub fn and(self, place: Place<'f>, keys: Keys) -> Result<Tuples<'f>, ValueFault>
-        ensures added { Says (and_tuple place.entry self.entry keys) result }
-        ensures judged { Judged (and_tuple place.entry self.entry keys) result }
+    pub fn push(&mut self, place: Place<'f>, keys: Keys) -> Result<(), ValueFault>
+        ensures added { OnOk result (and_tuple place.entry self.old keys ≡ Ok self.new) }
+        ensures code { IfErr result (λ fault. Fails (and_tuple place.entry self.old keys) fault) }
+        ensures judged { Judged (and_tuple place.entry self.old keys) result }
     {
-        let Tuples { mut tuples } = self;
-        if tuples.len() >= MOST_ITEMS {
+        if self.tuples.len() >= MOST_ITEMS {
             return Err(ValueFault::Code(Code::PXQ0002));
         }
-        tuples.push(Tuple { place, keys })?;
-        Ok(Tuples { tuples })
+        self.tuples.push(Tuple { place, keys })?;
+        Ok(())
     }
 
     /// The tuples by their keys, equal ones in their order. Faults: `Memory`; `Code` with XPTY0004 where two keys at one position are of

@@ -2,7 +2,8 @@ use Rattle.std.proofs.Common.{◌+◌, ◌*◌, length, map}
 use Rattle.std.specs.Option.{ForSome}
 use Rattle.query_meaning.specs.Meaning.{mean}
 use Rattle.evaluation.specs.Bindings.{binding_of}
-use Rattle.query_control.specs.Parts.{Rebinds, satisfied_by}
+use Rattle.query_control.specs.Parts.{satisfied_by}
+use Rattle.clause_walks.specs.Walked.{Rebinds}
 use Rattle.query_control.proofs.Deciding.{Seeks}
 use Rattle.query_control.proofs.forms.Forms.+satisfied.Given as goal
 

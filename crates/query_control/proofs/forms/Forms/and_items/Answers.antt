@@ -3,9 +3,9 @@ use Rattle.query_meaning.specs.Meaning.{mean}
 use Rattle.query_meaning.specs.Running.{joined, within}
 use Rattle.evaluation.specs.Gives.{Stand}
 use Rattle.evaluation.proofs.Each.{then_gives}
-use Rattle.query_control.specs.Lasting.{stand_on}
-use Rattle.query_control.specs.Parts.{leaving}
-use Rattle.query_control.proofs.Values.{joined_gives, says_left}
+use Rattle.item_expressions.specs.Lasting.{stand_on}
+use Rattle.item_expressions.specs.Looped.{leaving}
+use Rattle.item_expressions.proofs.Returned.{joined_gives, says_left}
 use Rattle.query_control.proofs.forms.Forms.and_items.Goals as goal
 
 pub returns : goal.returns

@@ -1,6 +1,6 @@
 use Rattle.std.proofs.Common.{map, option_map}
 use Rattle.query_meaning.specs.Meaning.{mean}
-use Rattle.query_control.specs.Parts.{clause_of}
+use Rattle.clause_walks.specs.Walked.{clause_of}
 use Rattle.query_control.proofs.Kept.{without_keys, with_keys, not_both}
 use Rattle.query_control.proofs.forms.Forms.flwor.Goals as goal
 

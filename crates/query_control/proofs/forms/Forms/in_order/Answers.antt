@@ -2,7 +2,7 @@ use Rattle.std.proofs.Common.{length, map, option_map}
 use Rattle.std.proofs.lemmas.Result.{err_from_is_err_and}
 use Rattle.query_meaning.specs.Meaning.{mean}
 use Rattle.sorted_tuples.specs.Keys.{sort_key_of}
-use Rattle.query_control.specs.Parts.{clause_of}
+use Rattle.clause_walks.specs.Walked.{clause_of}
 use Rattle.query_control.proofs.Kept.{order_gives, order_fails}
 use Rattle.query_control.proofs.forms.Forms.in_order.Goals as goal
 

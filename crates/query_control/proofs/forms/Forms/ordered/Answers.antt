@@ -1,7 +1,7 @@
 use Rattle.std.proofs.Common.{map, option_map}
 use Rattle.query_meaning.specs.Meaning.{mean}
 use Rattle.sorted_tuples.specs.Keys.{sort_key_of}
-use Rattle.query_control.specs.Parts.{clause_of}
+use Rattle.clause_walks.specs.Walked.{clause_of}
 use Rattle.query_control.proofs.Kept.{ordered_gives}
 use Rattle.query_control.proofs.forms.Forms.ordered.Goals as goal
 

@@ -16,3 +16,9 @@ and_bound-requires-clause-item g c =
     let P : Environment → Type 0 = λ e. IsReady e c.args.run.now in
     let held : c.args.tuple.now.environment ≡ with_variable c.in-Bound.variable (c.in-Bound.item ∷ []) c.in-Bound.others = sym c.place.ensures ∙ sym c.get.ensures ∙ ap place_of c.in-Bound.is in
     last_there c.in-Bound.variable c.in-Bound.item c.in-Bound.others c.args.run.now (subst P held c.requires.ready)
+
+pub add_value-requires-clause-read : goal.add_value-requires-clause-read
+add_value-requires-clause-read g c =
+    let P : Environment → Type 0 = λ e. IsReady e c.args.run.now in
+    let held : c.args.tuple.now.environment ≡ with_variable c.in-Bound.variable (c.in-Bound.item ∷ []) c.in-Bound.others = sym c.place.ensures ∙ sym c.get.ensures ∙ ap place_of c.in-Bound.is in
+    c.unread.ensures.read _ (last_there c.in-Bound.variable c.in-Bound.item c.in-Bound.others c.args.run.now (subst P held c.requires.ready))

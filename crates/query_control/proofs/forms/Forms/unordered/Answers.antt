@@ -3,7 +3,7 @@ use Rattle.std.proofs.lemmas.Result.{err_from_is_err_and}
 use Rattle.query_meaning.specs.Meaning.{mean}
 use Rattle.query_meaning.specs.Sequences.{returned}
 use Rattle.evaluation.specs.Gives.{Stand}
-use Rattle.query_control.specs.Parts.{clause_of}
+use Rattle.clause_walks.specs.Walked.{clause_of}
 use Rattle.query_control.proofs.Kept.{starts}
 use Rattle.query_control.proofs.forms.Forms.unordered.Goals as goal
 

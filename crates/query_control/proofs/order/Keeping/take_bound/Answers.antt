@@ -1,8 +1,9 @@
 use Rattle.std.proofs.Common.{length, map, option_map}
 use Rattle.query_meaning.specs.Meaning.{mean}
 use Rattle.sorted_tuples.specs.Keys.{sort_key_of}
-use Rattle.query_control.specs.Parts.{leaving, with_variables}
-use Rattle.query_control.proofs.Kept.{tested_kept}
+use Rattle.clause_walks.specs.Walked.{with_variables}
+use Rattle.item_expressions.specs.Looped.{leaving}
+use Rattle.keyed_items.proofs.Kept.{tested_kept}
 use Rattle.query_control.proofs.order.Keeping.take_bound.Goals as goal
 
 pub returns-in_ok-clone-2 : goal.returns-in_ok-clone-2

@@ -1,0 +1,11 @@
+use Rattle.query_meaning.specs.Running.{trees_of}
+use Rattle.item_expressions.proofs.Tested.{compared, joined}
+use Rattle.item_expressions.proofs.item_test.ItemTest.holds.Goals as goal
+
+pub returns-in-Compared-clause-holds : goal.returns-in-Compared-clause-holds
+returns-in-Compared-clause-holds c = λ test variable others env is around.
+    compared (trees_of c.args.run.now) test variable others c.args.item.now.item.now c.args.run.now c.holds.new.run env around c.args.self.now c.in-Compared.comparison c.holds.result c.in-Compared.is c.holds.ensures.holds is
+
+pub returns-in-Joined-clause-holds : goal.returns-in-Joined-clause-holds
+returns-in-Joined-clause-holds c = λ test variable others env is around.
+    joined (trees_of c.args.run.now) test variable others c.args.item.now.item.now c.args.run.now c.holds-in-Joined.new.run env around c.args.self.now c.in-Joined.comparison c.in-Joined.other c.holds-in-Joined.result c.in-Joined.is c.holds-in-Joined.ensures.holds is
