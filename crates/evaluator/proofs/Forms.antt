@@ -35,7 +35,7 @@ use Rattle.query_constructors.specs.Names.{named_by}
 use Rattle.query_control.specs.Operations.{operation_of}
 use Rattle.sorted_tuples.specs.Keys.{sort_key_of}
 use Rattle.evaluation.specs.Bindings.{binding_of}
-use Rattle.query_control.specs.Parts.{clause_of}
+use Rattle.clause_walks.specs.Walked.{clause_of}
 use Rattle.evaluation.proofs.Counted.{counted_fails, counted_gives}
 use Rattle.evaluation.proofs.Unfolded.{by_form}
 use Rattle.evaluator.specs.Uncounted.{uncounted}
