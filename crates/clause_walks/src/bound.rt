@@ -13,7 +13,7 @@ use std::alloc::AllocError;
 use values::{Atom, Item, Text};
 
 /// What the variables of a clause are bound to.
-pub fn source_of(clause: &Clause<Expr>) -> &Expr
+pub(crate) fn source_of(clause: &Clause<Expr>) -> &Expr
     ensures { result.now ≡ walked.source_of clause.now }
 {
     match clause {
@@ -54,7 +54,7 @@ pub fn and_item(
 
 /// The same, and one more with the position that follows an index, where a variable is there for it: then nothing serves again. It fails where memory is
 /// refused.
-pub fn and_item_at(
+pub(crate) fn and_item_at(
     run: &Evaluation,
     variable: &Text,
     at: Option<&Text>,

@@ -7,4 +7,4 @@ mod bound;
 mod walk;
 
 pub use bound::and_item;
-pub use walk::{AtTuple, Walk, take_in_turn};
+pub use walk::{AtTuple, Walk};

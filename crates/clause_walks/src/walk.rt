@@ -249,7 +249,7 @@ impl<'w, A: AtTuple> Walk<'w, A> {
 }
 
 /// One tuple after the other, where a variable is bound to items after all others.
-pub fn take_in_turn<A: AtTuple>(
+fn take_in_turn<A: AtTuple>(
     at_tuple: &A,
     run: &mut Evaluation,
     variable: &Text,
