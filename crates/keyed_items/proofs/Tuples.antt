@@ -1,7 +1,6 @@
 -- One item, whose tuple is kept where it passes a test.
 use Rattle.std.proofs.Common.{◌≡◌, ◌∙◌, ℕ, Bool, true, false, List, [], ◌∷◌, length, map, option_map, Option, Result, Ok, Err, OnOk, IfErr, refl, ap, sym, subst}
 use Rattle.std.proofs.lemmas.List.{length-map}
-use Rattle.fault_codes.specs.declared.code.Code.{Code}
 use Rattle.values.specs.Items.{IsThere}
 use Rattle.values.specs.declared.atom.Atom.{Atom}
 use Rattle.values.specs.declared.atom.Item.{Item}
@@ -13,7 +12,7 @@ use Rattle.query_meaning.specs.Environment.{Bound, Environment, with_variable}
 use Rattle.query_meaning.specs.Meaning.{mean}
 use Rattle.query_meaning.specs.Running.{M, Run, and_then, ◌>>=◌, come_to, trees_of}
 use Rattle.query_meaning.specs.Sequences.{Meaning, Tuple, and_tuple, if_so, kept_tuple, keys_in, tested}
-use Rattle.evaluation.specs.Gives.{Any, Fails, GivesIn, Grows, IsReady, Says, Turns}
+use Rattle.evaluation.specs.Gives.{Any, Fails, GivesIn, Grows, IsReady, Turns}
 use Rattle.evaluation.proofs.Each.{grows_refl, grows_then, then_gives}
 use Rattle.sorted_tuples.specs.Keys.{AreKept, sort_key_of}
 use Rattle.item_expressions.specs.Lasting.{ready_on, there_on}
