@@ -1,12 +1,11 @@
 //! FLWOR expressions, over a function that evaluates their parts (XQuery 1.0, section 3.8).
 
-ghost use Rattle.std.specs.Prelude.{◌≡◌, ◌<◌, ◌+◌, ◌∷◌, [], map, option_copied, option_map, pos, IfOk};
+ghost use Rattle.std.specs.Prelude.{◌∷◌, [], map, option_map};
 ghost use Rattle.std.specs.Option.{ForSome};
 ghost use Rattle.values.specs.Items.{IsThere};
-ghost use Rattle.values.specs.declared.atom.Atom.TheVariants as atom;
 ghost use Rattle.query_meaning.specs.Environment.{with_variable};
 ghost use Rattle.query_meaning.specs.Meaning.{mean};
-ghost use Rattle.query_meaning.specs.Running.{most_items, trees_of};
+ghost use Rattle.query_meaning.specs.Running.{trees_of};
 ghost use Rattle.query_meaning.specs.Sequences as meaning;
 ghost use Rattle.evaluation.specs.Evaluates.{Evaluates, EvaluatesEach};
 ghost use Rattle.clause_walks.specs.Walked as walked;
