@@ -23,7 +23,7 @@ use Rattle.query_meaning.specs.Operators.{between_atoms, chain, compared_by_pair
 use Rattle.query_meaning.specs.Running.{M, Run, and_then, ◌>>=◌, atom as atom_at, atoms, come_to, counted, pure, turns, work}
 use Rattle.query_meaning.specs.Sequences.{number, one, string}
 use Rattle.evaluation.specs.Gives.{Any, Gives, GivesIn, Stand}
-use Rattle.read_items.specs.Pairs.{items_compared, pair}
+use Rattle.read_items.specs.Pairs.{compared, items_compared}
 use Rattle.evaluation.proofs.Alone.{item_atoms}
 use Rattle.evaluation.proofs.Unfolded.{by_form}
 use Rattle.item_expressions.specs.Compared.{IsLiteral, IsLiteralValue, comparison_expression, item_holds, literal_expression, literal_in, said}
@@ -77,7 +77,7 @@ module _ (op : Comparison) where
       first (Ok p) = second (work 2 p.1)
       first (Err code) = refl
 
-  pair_compared : (a b : Atom) (run : Run) → counted_twice (compared_by_pairs op (a ∷ []) (b ∷ []) run) ≡ then_counted (pair op a b run)
+  pair_compared : (a b : Atom) (run : Run) → counted_twice (compared_by_pairs op (a ∷ []) (b ∷ []) run) ≡ then_counted (compared op (a ∷ []) (b ∷ []) run)
   pair_compared a b run = over (general_compared op (a ∷ []) (b ∷ []) run.turns run.work)
     where
       last : (holds : Bool) (r : Result (Unit {0} × Run) Code) → counted_twice (and_then r (λ _. boolean holds)) ≡ then_counted (and_then r (λ _. pure holds))
@@ -99,12 +99,12 @@ module _ (op : Comparison) where
   pub item_compared : (x y : Item) (run : Run) → counted_twice (between_atoms (compared_by_pairs op) (x ∷ []) (y ∷ []) run) ≡ then_counted (items_compared op x y run)
   item_compared x y run = ap (λ r. counted_twice (and_then r (λ xs. atoms (y ∷ []) >>= compared_by_pairs op xs))) (item_atoms x run) ∙ over (atom_at x run)
     where
-      other : (v : Atom) (r : Result (Atom × Run) Code) → counted_twice (and_then (and_then r (λ w. pure (w ∷ []))) (compared_by_pairs op (v ∷ []))) ≡ then_counted (and_then r (λ w. pair op v w))
+      other : (v : Atom) (r : Result (Atom × Run) Code) → counted_twice (and_then (and_then r (λ w. pure (w ∷ []))) (compared_by_pairs op (v ∷ []))) ≡ then_counted (and_then r (λ w. compared op (v ∷ []) (w ∷ [])))
       other v (Ok p) = pair_compared v p.0 p.1
       other v (Err code) = refl
 
       over : (r : Result (Atom × Run) Code)
-          → counted_twice (and_then (and_then r (λ v. pure (v ∷ []))) (λ xs. atoms (y ∷ []) >>= compared_by_pairs op xs)) ≡ then_counted (and_then r (λ v. atom_at y >>= (λ w. pair op v w)))
+          → counted_twice (and_then (and_then r (λ v. pure (v ∷ []))) (λ xs. atoms (y ∷ []) >>= compared_by_pairs op xs)) ≡ then_counted (and_then r (λ v. atom_at y >>= (λ w. compared op (v ∷ []) (w ∷ []))))
       over (Ok p) = ap (λ r. counted_twice (and_then r (compared_by_pairs op (p.0 ∷ [])))) (item_atoms y p.1) ∙ other p.0 (atom_at y p.1)
       over (Err code) = refl
 

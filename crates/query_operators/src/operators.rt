@@ -5,9 +5,10 @@ ghost use Rattle.values.specs.Items.{IsThere};
 ghost use Rattle.query_meaning.specs.Operators as meaning;
 ghost use Rattle.query_meaning.specs.Running.{trees_of};
 ghost use Rattle.evaluation.specs.Gives.{Gives, Stand};
+ghost use Rattle.read_items.specs.Read.{IsRead};
 
 use evaluation::{Evaluation, Sequence};
-use read_items::{ReadItem, compare_items};
+use read_items::{ReadItem, compare_each, compare_items};
 use std::alloc::AllocError;
 use values::{Atom, Comparison, Item, Operator, ValueFault, arithmetic, compare_value};
 
@@ -92,8 +93,8 @@ pub fn compared_by_pairs(
     requires right { Stand right.now run.old }
     ensures { Gives (meaning.between_atoms (meaning.compared_by_pairs op) left.now right.now) run.old result run.new }
 {
-    if let (Some(item), Some(other)) = (alone(left), alone(right)) {
-        return compared_items(run, op, item, other);
+    if let Some(other) = alone(right) {
+        return compared_with(run, op, left, other);
     }
     let xs = run.atoms(left)?;
     let ys = run.atoms(right)?;
@@ -110,18 +111,51 @@ fn alone(items: &Sequence) -> Option<&Item>
     }
 }
 
+/// The same with one item on the right.
+fn compared_with(
+    run: &mut Evaluation,
+    op: Comparison,
+    left: &Sequence,
+    other: &Item,
+) -> Result<Sequence, ValueFault>
+    requires left { Stand left.now run.old }
+    requires other { IsThere (trees_of run.old) other.now }
+    ensures { Gives (meaning.between_atoms (meaning.compared_by_pairs op) left.now (other.now ∷ [])) run.old result run.new }
+{
+    let other = ReadItem::unread(other);
+    match alone(left) {
+        Some(item) => compared_items(run, op, item, &other),
+        None => compared_each(run, op, left, &other),
+    }
+}
+
 /// The same of one item on each side.
 fn compared_items(
     run: &mut Evaluation,
     op: Comparison,
     item: &Item,
-    other: &Item,
+    other: &ReadItem,
 ) -> Result<Sequence, ValueFault>
     requires item { IsThere (trees_of run.old) item.now }
-    requires other { IsThere (trees_of run.old) other.now }
-    ensures { Gives (meaning.between_atoms (meaning.compared_by_pairs op) (item.now ∷ []) (other.now ∷ [])) run.old result run.new }
+    requires other { IsRead (trees_of run.old) other.now }
+    ensures { Gives (meaning.between_atoms (meaning.compared_by_pairs op) (item.now ∷ []) (other.now.item.now ∷ [])) run.old result run.new }
 {
-    let holds = compare_items(run, op, &ReadItem::unread(item), &ReadItem::unread(other))?;
+    let holds = compare_items(run, op, &ReadItem::unread(item), other)?;
+    Ok(boolean(run, holds)?)
+}
+
+/// The same of many items on the left, whose values are not listed where all are texts.
+fn compared_each(
+    run: &mut Evaluation,
+    op: Comparison,
+    left: &Sequence,
+    other: &ReadItem,
+) -> Result<Sequence, ValueFault>
+    requires left { Stand left.now run.old }
+    requires other { IsRead (trees_of run.old) other.now }
+    ensures { Gives (meaning.between_atoms (meaning.compared_by_pairs op) left.now (other.now.item.now ∷ [])) run.old result run.new }
+{
+    let holds = compare_each(run, op, left, other)?;
     Ok(boolean(run, holds)?)
 }
 

@@ -3,7 +3,7 @@
 
 mod compared;
 mod read_item;
-mod text_pair;
+mod text_pairs;
 
-pub use compared::compare_items;
+pub use compared::{compare_each, compare_items};
 pub use read_item::{ReadItem, TakenText, pay_text};
