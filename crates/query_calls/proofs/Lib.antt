@@ -6,3 +6,5 @@ pub mod Giving
 pub mod Joining
 pub mod Keys
 pub mod Rows
+pub mod Totals
+pub mod JoinedTexts

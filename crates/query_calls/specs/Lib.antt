@@ -5,3 +5,5 @@ pub mod Keys
 pub mod Parts
 pub mod Table
 pub mod Texts
+pub mod Totals
+pub mod Joined

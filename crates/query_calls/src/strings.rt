@@ -1,24 +1,21 @@
 //! Functions of strings (Functions and Operators, sections 7.4 and 7.5).
 
-ghost use Rattle.std.specs.Prelude.{◌≡◌, ◌==◌, ◌++◌, ◌∷◌, [], pos, map, length, chars, IfOk, IfErr, OnOk, Ok, Err};
+ghost use Rattle.std.specs.Prelude.{◌≡◌, ◌==◌, ◌++◌, ◌∷◌, [], pos, length, chars, IfOk, IfErr, OnOk, Ok, Err};
 ghost use Rattle.std.specs.List as list;
 ghost use Rattle.std.specs.List.{All, flat_map};
 ghost use Rattle.values.specs.Items.{IsThere};
 ghost use Rattle.query_meaning.specs.Environment.{no_environment};
 ghost use Rattle.query_meaning.specs.Functions as functions;
 ghost use Rattle.query_meaning.specs.Operators.{between_atoms};
-ghost use Rattle.query_meaning.specs.Running.{Run, atoms, trees_of};
-ghost use Rattle.query_meaning.specs.Strings as meaning;
-ghost use Rattle.evaluation.specs.Gives.{Fails, Gives, Says, Stand};
+ghost use Rattle.query_meaning.specs.Running.{atoms, trees_of};
+ghost use Rattle.evaluation.specs.Gives.{Fails, Gives, Stand};
 ghost use Rattle.query_calls.specs.Texts.{IsGathered, IsGatheredMore, concatenated_of, holds_by, length_of};
-ghost use Rattle.query_strings.specs.Texts.{text_at};
 
 use crate::sequences::{boolean_of, integer_of, string_of};
 use evaluation::{Evaluation, Sequence};
 use fault_codes::Code;
-use query_strings::{all_printed, characters, holds, item_text, one_text, separated, text_in};
+use query_strings::{all_printed, characters, holds, item_text, one_text};
 use read_items::ReadItem;
-use std::alloc::Global;
 use values::{Atom, Item, ValueFault};
 
 /// The text of a string argument, empty where there is no value. Code: XPTY0004 where there is more than one value, or an integer or a
@@ -153,49 +150,6 @@ fn counted_of(run: &mut Evaluation, text: &str) -> Result<Sequence, ValueFault>
         // So long a text has no place in memory.
         Err(_) => Err(ValueFault::Memory),
     }
-}
-
-/// `string-join`: the texts of values, with a separator between each two (Functions and Operators, section 7.4.2). It takes the work of the
-/// typed values, and that of the result. Codes: PXQ0002 where a string value or the result is too long, or too little work is left;
-/// XPTY0004 where there is an integer or a boolean, or not just one separator.
-pub fn string_join(
-    run: &mut Evaluation,
-    items: &Sequence,
-    separator: &Sequence,
-) -> Result<Sequence, ValueFault>
-    requires items { Stand items.now run.old }
-    requires separator { Stand separator.now run.old }
-    ensures { Gives (between_atoms functions.string_join items.now separator.now) run.old result run.new }
-{
-    let values = run.atoms(items)?;
-    let separators = run.atoms(separator)?;
-    joined_of(run, &values, &separators)
-}
-
-fn joined_of(
-    run: &mut Evaluation,
-    values: &[Atom],
-    separators: &[Atom],
-) -> Result<Sequence, ValueFault>
-    ensures { Gives (functions.string_join values.now separators.now) run.old result run.new }
-{
-    let texts = all_texts(run.alloc(), values)?;
-    let separator = one_text(separators)?;
-    let text = separated(run.alloc(), separator, &texts)?;
-    let text = text.into_text(run.alloc())?;
-    string_of(run, text)
-}
-
-/// The texts of strings and untyped values. Faults: `Memory`; `Code` with XPTY0004 at an integer or a boolean.
-fn all_texts<'a>(alloc: Global, values: &'a [Atom]) -> Result<Vec<&'a str>, ValueFault>
-    ensures ok { IfOk result (λ v. (run : Run) → functions.all_texts values.now run ≡ Ok (map text_at v.items, run)) }
-    ensures code { IfErr result (λ fault. (run : Run) → Fails (functions.all_texts values.now run) fault) }
-{
-    let mut texts = Vec::with_capacity(alloc, values.len())?;
-    for value in values {
-        texts.push(text_in(value)?)?;
-    }
-    Ok(texts)
 }
 
 /// The atomic values of arguments, one after the other, and whether one of the arguments has several.

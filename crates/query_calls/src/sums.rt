@@ -1,15 +1,17 @@
 //! `sum` (Functions and Operators, section 15.4.5).
 
-ghost use Rattle.std.specs.Prelude.{◌≡◌, pos};
+ghost use Rattle.std.specs.Prelude.{◌≡◌, ◌+ℤ◌, pos, Ok, IfSome};
+ghost use Rattle.values.specs.Arithmetic.{in_range};
 ghost use Rattle.query_meaning.specs.Functions as functions;
 ghost use Rattle.query_meaning.specs.Running.{Run, come_to, each};
 ghost use Rattle.evaluation.specs.Gives.{Gives, Stand};
 ghost use Rattle.query_calls.specs.Parts.{sum_of};
+ghost use Rattle.query_calls.specs.Totals.{total_of};
 
 use crate::sequences::integer_of;
 use evaluation::{Evaluation, Sequence};
 use fault_codes::Code;
-use values::{Atom, ValueFault, read_integer};
+use values::{Atom, Item, ValueFault, read_integer};
 
 /// `sum`: the sum of integers from the left, 0 where there are none; an untyped value is read as one (Functions and Operators, section
 /// 15.4.5). Codes: PXQ0002 where a string value is too long or too little work is left; FORG0006 at a string or a boolean; FORG0001 where
@@ -18,8 +20,32 @@ pub fn sum(run: &mut Evaluation, items: &Sequence) -> Result<Sequence, ValueFaul
     requires stand { Stand items.now run.old }
     ensures { Gives (functions.sum items.now) run.old result run.new }
 {
+    if let Some(total) = total_of(items.as_slice()) {
+        return integer_of(run, total);
+    }
     let values = run.atoms(items)?;
     sum_of(run, &values)
+}
+
+/// The sum of items that all are integers, whose values take no work; `None` where one is none, or a sum on the way is out of range.
+fn total_of(items: &[Item]) -> Option<i64>
+    ensures { IfSome result (λ total. total_of items.now (pos 0) ≡ Ok total) }
+{
+    let mut total = 0;
+    for item in items {
+        let Item::Atomic(Atom::Integer(addend)) = item else {
+            return None;
+        };
+        total = added(total, *addend)?;
+    }
+    Some(total)
+}
+
+/// The sum of two integers; `None` where it is out of range.
+fn added(total: i64, addend: i64) -> Option<i64>
+    ensures { IfSome result (λ sum. in_range (total +ℤ addend) ≡ Ok sum) }
+{
+    total.checked_add(addend)
 }
 
 fn sum_of(run: &mut Evaluation, values: &[Atom]) -> Result<Sequence, ValueFault>

@@ -2,7 +2,7 @@ use Rattle.std.proofs.Common.{map}
 use Rattle.std.proofs.lemmas.Result.{err_from_is_err_and}
 use Rattle.query_strings.specs.Texts.{text_at}
 use Rattle.query_calls.proofs.Giving.{no_texts, no_separator, too_long, join_gives}
-use Rattle.query_calls.proofs.strings.joined_of.Goals as goal
+use Rattle.query_calls.proofs.joined.joined_of.Goals as goal
 
 pub returns-in_err-texts : goal.returns-in_err-texts
 returns-in_err-texts c =
