@@ -1,11 +1,11 @@
 //! The walk over the clauses of a FLWOR expression, whatever is done at each tuple (XQuery 1.0, section 3.8).
 
-ghost use Rattle.std.specs.Prelude.{◌<◌, ◌≤◌, ℕ, [], None, length, map, option_copied};
+ghost use Rattle.std.specs.Prelude.{◌<◌, ◌≤◌, ℕ, List, [], None, length, map, option_copied};
 ghost use Rattle.std.specs.Option.{ForSome};
 ghost use Rattle.std.specs.List.{All};
 ghost use Rattle.values.specs.Items.{IsThere};
 ghost use Rattle.query_grammar.specs.declared.ast.Expr.{Expr};
-ghost use Rattle.query_meaning.specs.Environment.{Environment, with_variable};
+ghost use Rattle.query_meaning.specs.Environment.{Bound, Environment, with_variable};
 ghost use Rattle.query_meaning.specs.Meaning.{mean};
 ghost use Rattle.query_meaning.specs.Running.{M, Run, trees_of, most_items};
 ghost use Rattle.query_meaning.specs.Sequences as meaning;
@@ -23,6 +23,9 @@ pub trait AtTuple {
     /// What tuples come to.
     type Given: Drop;
 
+    /// What the tuple of an item leaves for that of the next one.
+    type Left: Drop;
+
     /// What the whole expression is evaluated in.
     ghost env: { Self → Environment };
 
@@ -37,6 +40,9 @@ pub trait AtTuple {
 
     /// What one tuple more comes to.
     ghost means: { Self → Environment → Self.Given → M Self.Given };
+
+    /// What a tuple left serves where that variable is bound after those others.
+    ghost serves: { Self → (variable : List ℕ) → (others : List Bound) → Self.Left → Type 0 };
 
     /// The value of an expression of a clause. Codes: its own.
     fn value_of(
@@ -61,24 +67,28 @@ pub trait AtTuple {
         requires fits { fits self.now given.old run.old }
         ensures { GivesIn (fits self.now) (means self.now (walked.with_variables variables.now (env self.now)) given.old) run.old (leaving result given.new) run.new };
 
-    /// The same where a variable is bound to an item after all others. The variables of the item before it serve again, and then its own are left for
-    /// the next.
+    /// Nothing is left before the first item.
+    fn nothing_left(&self) -> Self::Left
+        ensures { (variable : List ℕ) (others : List Bound) → serves self.now variable others result };
+
+    /// The same as `take` where a variable is bound to an item after all others. What the tuple of the item before it left serves again, and is then left
+    /// for the next.
     fn take_item(
         &self,
         run: &mut Evaluation,
         variable: &Text,
         item: &Item,
         others: &Variables,
-        former: &mut Option<Variables>,
+        left: &mut Self::Left,
         given: &mut Self::Given,
     ) -> Result<(), ValueFault>
         requires can { can_take self.now }
         requires ready { IsReady (walked.with_variables others.now (env self.now)) run.old }
         requires item { IsThere (trees_of run.old) item.now }
-        requires former { ForSome former.old (walked.Rebinds variable.now others.now) }
+        requires serves { serves self.now variable.now others.now left.old }
         requires fits { fits self.now given.old run.old }
         ensures gives { GivesIn (fits self.now) (means self.now (walked.with_variables (walked.bound variable.now item.now others.now) (env self.now)) given.old) run.old (leaving result given.new) run.new }
-        ensures former { ForSome former.new (walked.Rebinds variable.now others.now) };
+        ensures serves { serves self.now variable.now others.now left.new };
 
     /// The same for each of some items in its turn, as far as that can be done for all at once: whether it was done. Where it was not, nothing changes. Codes:
     /// its own; PXQ0002 where no turn is left for an item. What is left of what the tuples come to after a fault is not said.
@@ -263,31 +273,31 @@ fn take_in_turn<A: AtTuple>(
     requires fits { A.fits at_tuple.now given.old run.old }
     ensures { GivesIn (A.fits at_tuple.now) (walked.for_each variable.now None [] (A.means at_tuple.now) (walked.with_variables others.now (A.env at_tuple.now)) items.now given.old) run.old (leaving result given.new) run.new }
 {
-    let mut former = None;
+    let mut left = at_tuple.nothing_left();
     for item in items {
-        take_in_its_turn(at_tuple, run, variable, item, others, &mut former, given)?;
+        take_in_its_turn(at_tuple, run, variable, item, others, &mut left, given)?;
     }
     Ok(())
 }
 
-/// One item. The variables of the item before it serve again; then its own are left for the next.
+/// One item. What the tuple of the item before it left serves again, and is then left for the next.
 fn take_in_its_turn<A: AtTuple>(
     at_tuple: &A,
     run: &mut Evaluation,
     variable: &Text,
     item: &Item,
     others: &Variables,
-    former: &mut Option<Variables>,
+    left: &mut A::Left,
     given: &mut A::Given,
 ) -> Result<(), ValueFault>
     requires can { A.can_take at_tuple.now }
     requires ready { IsReady (walked.with_variables others.now (A.env at_tuple.now)) run.old }
     requires item { IsThere (trees_of run.old) item.now }
-    requires former { ForSome former.old (walked.Rebinds variable.now others.now) }
+    requires serves { A.serves at_tuple.now variable.now others.now left.old }
     requires fits { A.fits at_tuple.now given.old run.old }
     ensures gives { (index : ℕ) → GivesIn (A.fits at_tuple.now) (walked.for_one variable.now None [] (A.means at_tuple.now) (walked.with_variables others.now (A.env at_tuple.now)) index given.old item.now) run.old (leaving result given.new) run.new }
-    ensures former { ForSome former.new (walked.Rebinds variable.now others.now) }
+    ensures serves { A.serves at_tuple.now variable.now others.now left.new }
 {
     run.turn()?;
-    at_tuple.take_item(run, variable, item, others, former, given)
+    at_tuple.take_item(run, variable, item, others, left, given)
 }

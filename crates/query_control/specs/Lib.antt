@@ -3,3 +3,4 @@ pub mod Functions
 pub mod Operations
 pub mod Parts
 pub mod Sets
+pub mod Shared

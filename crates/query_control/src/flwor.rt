@@ -152,6 +152,8 @@ impl<'w, 'f, F: Fn(&mut Evaluation, &Expr, &Environment) -> Result<Sequence, Val
     for Returning<'w, 'f, F> {
     type Given = Sequence;
 
+    type Left = Option<Variables>;
+
     ghost env = { λ s. s.env.now };
 
     ghost can_evaluate = { λ s x. Evaluates (F.pre s.forms.now.value_of) (F.post s.forms.now.value_of) (x ∷ []) };
@@ -162,6 +164,8 @@ impl<'w, 'f, F: Fn(&mut Evaluation, &Expr, &Environment) -> Result<Sequence, Val
     ghost fits = { λ s. Stand };
 
     ghost means = { λ s. meaning.returned (option_map mean s.condition.now) (mean s.body.now) };
+
+    ghost serves = { λ s variable others left. ForSome left (walked.Rebinds variable others) };
 
     fn value_of(
         &self,
@@ -186,25 +190,29 @@ impl<'w, 'f, F: Fn(&mut Evaluation, &Expr, &Environment) -> Result<Sequence, Val
         }
     }
 
+    fn nothing_left(&self) -> Option<Variables> {
+        None
+    }
+
     fn take_item(
         &self,
         run: &mut Evaluation,
         variable: &Text,
         item: &Item,
         others: &Variables,
-        former: &mut Option<Variables>,
+        left: &mut Option<Variables>,
         given: &mut Sequence,
     ) -> Result<(), ValueFault> {
         let Some(test) = self.condition.item_test(run, variable, others)? else {
-            let variables = and_item(run, variable, item, others, former.take())?;
+            let variables = and_item(run, variable, item, others, left.take())?;
             let taken = self.take(run, &variables, given);
-            *former = Some(variables);
+            *left = Some(variables);
             return taken;
         };
         if test.holds(run, &ReadItem::unread(item))? {
             let (body, others) = (self.body.get(), self.env.with(others));
             self.forms
-                .and_bound(run, given, body, variable, item, &others, former)
+                .and_bound(run, given, body, variable, item, &others, left)
         } else {
             Ok(())
         }

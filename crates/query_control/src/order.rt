@@ -11,6 +11,7 @@ ghost use Rattle.query_control.specs.Evaluates.{EvaluatesFlwor};
 ghost use Rattle.sorted_tuples.specs.Keys.{AreKept, AreReady, sort_key_of};
 ghost use Rattle.item_expressions.specs.Looped.{leaving};
 ghost use Rattle.query_control.specs.Parts as part;
+ghost use Rattle.query_control.specs.Shared.{Binds};
 ghost use Rattle.query_control.specs.Functions.{IsFunctionOf};
 ghost use Rattle.keyed_items.specs.Keyed.{AreKeys, and_key, and_tuple_of};
 ghost use Rattle.keyed_items.specs.Lasting.{kept_grows};
@@ -22,8 +23,10 @@ use item_expressions::{Condition, ItemFunction, add_value};
 use keyed_items::{are_of, keep_of_each, key_functions};
 use query_grammar::{Clause, Expr, SortKey};
 use read_items::ReadItem;
-use sorted_tuples::{Keys, Place, Placed, Tuple, Tuples, key_of};
+use sorted_tuples::{Binding, Keys, Place, Placed, Tuple, Tuples, key_of};
 use sqlite_items::Boxed;
+use std::alloc::AllocError;
+use std::rc::Rc;
 use values::{Item, Text, ValueFault};
 
 impl<F: Fn(&mut Evaluation, &Expr, &Environment) -> Result<Sequence, ValueFault>> Forms<F> {
@@ -121,14 +124,23 @@ impl<F: Fn(&mut Evaluation, &Expr, &Environment) -> Result<Sequence, ValueFault>
     {
         match tuple.place().get() {
             Placed::Kept(env) => self.and_items(run, given, body.get(), &env.get()),
-            Placed::Bound(others, variable, item) => {
+            Placed::Bound(binding, item) => {
+                let binding = binding.as_ref();
                 if let Some(function) = function {
-                    if function.is_of(variable) {
+                    if function.is_of(&binding.variable) {
                         return add_value(run, function, &ReadItem::unread(item), given);
                     }
                 }
-                let (body, others) = (body.get(), others.get());
-                self.and_bound(run, given, body, variable, item, &others, &mut None)
+                let (body, others) = (body.get(), binding.others.get());
+                self.and_bound(
+                    run,
+                    given,
+                    body,
+                    &binding.variable,
+                    item,
+                    &others,
+                    &mut None,
+                )
             }
         }
     }
@@ -206,6 +218,8 @@ impl<'w, 'f, F: Fn(&mut Evaluation, &Expr, &Environment) -> Result<Sequence, Val
     for Keeping<'w, 'f, F> {
     type Given = Tuples<'f>;
 
+    type Left = Left<'f>;
+
     ghost env = { λ s. s.env.now };
 
     ghost can_evaluate = { λ s x. Evaluates (F.pre s.forms.now.value_of) (F.post s.forms.now.value_of) (x ∷ []) };
@@ -216,6 +230,8 @@ impl<'w, 'f, F: Fn(&mut Evaluation, &Expr, &Environment) -> Result<Sequence, Val
     ghost fits = { λ s. AreKept (length s.keys.now) };
 
     ghost means = { λ s. meaning.kept_tuple (option_map mean s.condition.now) (map (sort_key_of mean) s.keys.now) };
+
+    ghost serves = { λ s variable others left. ForSome left.variables (walked.Rebinds variable others) × ForSome left.binding (λ b. Binds variable (walked.with_variables others s.env.now) b.value) };
 
     fn value_of(
         &self,
@@ -242,18 +258,26 @@ impl<'w, 'f, F: Fn(&mut Evaluation, &Expr, &Environment) -> Result<Sequence, Val
         }
     }
 
+    fn nothing_left(&self) -> Left<'f> {
+        Left {
+            variables: None,
+            binding: None,
+        }
+    }
+
     fn take_item(
         &self,
         run: &mut Evaluation,
         variable: &Text,
         item: &Item,
         others: &Variables,
-        former: &mut Option<Variables>,
+        left: &mut Left<'f>,
         given: &mut Tuples<'f>,
     ) -> Result<(), ValueFault> {
-        let variables = and_item(run, variable, item, others, former.take())?;
-        let taken = self.take_bound(run, &variables, variable, item, others, given);
-        *former = Some(variables);
+        let variables = and_item(run, variable, item, others, left.variables.take())?;
+        let binding = &mut left.binding;
+        let taken = self.take_bound(run, &variables, variable, item, others, binding, given);
+        left.variables = Some(variables);
         taken
     }
 
@@ -281,12 +305,21 @@ impl<'w, 'f, F: Fn(&mut Evaluation, &Expr, &Environment) -> Result<Sequence, Val
     ghost lasts = { λ s tuples old new g h. kept_grows (length s.keys.now) tuples old new g h };
 }
 
+/// What the tuple of an item leaves for that of the next one.
+#[derive(Drop)]
+struct Left<'f> {
+    /// Its variables, to be written over.
+    variables: Option<Variables>,
+    /// What it shares with other tuples.
+    binding: Option<Rc<Binding<'f>>>,
+}
+
 impl<'w, 'f, F: Fn(&mut Evaluation, &Expr, &Environment) -> Result<Sequence, ValueFault>> Keeping<
     'w,
     'f,
     F,
 > {
-    /// One tuple more, where a variable is bound to an item after all others: both are kept beside these.
+    /// One tuple more, where a variable is bound to an item after all others. It shares the others and the variable with the tuples before it.
     #[tactic(auto, using(keyed_items::specs::Lasting::kept_grows))]
     fn take_bound(
         &self,
@@ -295,22 +328,44 @@ impl<'w, 'f, F: Fn(&mut Evaluation, &Expr, &Environment) -> Result<Sequence, Val
         variable: &Text,
         item: &Item,
         others: &Variables,
+        binding: &mut Option<Rc<Binding<'f>>>,
         given: &mut Tuples<'f>,
     ) -> Result<(), ValueFault>
         requires condition { ForSome self.now.condition.now (λ x. Evaluates (F.pre self.now.forms.now.value_of) (F.post self.now.forms.now.value_of) (x ∷ [])) }
         requires keys { EvaluatesEach (F.pre self.now.forms.now.value_of) (F.post self.now.forms.now.value_of) part.key_in self.now.keys.now }
         requires bound { variables.now ≡ walked.bound variable.now item.now others.now }
         requires ready { IsReady (walked.with_variables variables.now self.now.env.now) run.old }
+        requires binding { ForSome binding.old (λ b. Binds variable.now (walked.with_variables others.now self.now.env.now) b.value) }
         requires kept { AreKept (length self.now.keys.now) given.old run.old }
-        ensures { GivesIn (AreKept (length self.now.keys.now)) (meaning.kept_tuple (option_map mean self.now.condition.now) (map (sort_key_of mean) self.now.keys.now) (walked.with_variables variables.now self.now.env.now) given.old) run.old (leaving result given.new) run.new }
+        ensures gives { GivesIn (AreKept (length self.now.keys.now)) (meaning.kept_tuple (option_map mean self.now.condition.now) (map (sort_key_of mean) self.now.keys.now) (walked.with_variables variables.now self.now.env.now) given.old) run.old (leaving result given.new) run.new }
+        ensures binding { ForSome binding.new (λ b. Binds variable.now (walked.with_variables others.now self.now.env.now) b.value) }
     {
         let env = self.env.with(variables);
         if self.forms.tested(run, self.condition, &env)? {
-            let others = self.env.with(others).keep()?;
-            let place = Place::bound(others, variable.clone()?, item.clone()?);
+            let others = self.env.with(others);
+            let place = Place::bound(shared(run, variable, &others, binding)?, item.clone()?);
             self.forms.and_tuple(run, self.keys, &env, place, given)
         } else {
             Ok(())
         }
     }
+}
+
+/// What tuples share where a variable is bound after others: what is shared already, or one more. It fails where memory is refused.
+fn shared<'f>(
+    run: &Evaluation,
+    variable: &Text,
+    others: &Environment<'f, '_>,
+    binding: &mut Option<Rc<Binding<'f>>>,
+) -> Result<Rc<Binding<'f>>, AllocError>
+    requires binding { ForSome binding.old (λ b. Binds variable.now others.now b.value) }
+    ensures shared { IfOk result (λ b. Binds variable.now others.now b.value) }
+    ensures binding { ForSome binding.new (λ b. Binds variable.now others.now b.value) }
+{
+    if let Some(binding) = binding {
+        return binding.clone();
+    }
+    let made = Binding::shared(run.alloc(), others.keep()?, variable.clone()?)?;
+    *binding = Some(made.clone()?);
+    Ok(made)
 }

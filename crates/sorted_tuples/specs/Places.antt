@@ -6,4 +6,4 @@ use Rattle.sorted_tuples.specs.declared.place.Placed.TheVariants.{Kept, Bound}
 
 abbrev pub place_of : Placed → Environment
 place_of (Kept env) = env
-place_of (Bound others variable item) = with_variable variable (item ∷ []) others
+place_of (Bound binding item) = with_variable binding.value.variable (item ∷ []) binding.value.others

@@ -5,5 +5,5 @@ mod abbreviations;
 mod place;
 mod tuples;
 
-pub use place::{Place, Placed};
+pub use place::{Binding, Place, Placed};
 pub use tuples::{Keys, Tuple, Tuples, key_of};

@@ -14,6 +14,6 @@ returns-in_err-take_in_its_turn g c =
 pub loop-item-preserved : goal.loop-item-preserved
 loop-item-preserved g c =
     let at = c.args.at_tuple.now in (
-      c.in_ok-take_in_its_turn.ensures.former,
+      c.in_ok-take_in_its_turn.ensures.serves,
       goes_on (g.A.AtTuple.fits at) (λ i s x. for_one c.args.variable.now None [] (g.A.AtTuple.means at) (with_variables c.args.others.now (g.A.AtTuple.env at)) i s x) _ _ _ _ _ _ _ _ c.item-item.result c.loop-item.invariant.1 c.loop-item-test.true c.item-item.is (c.in_ok-take_in_its_turn.ensures.gives c.loop-item.item-index),
     )

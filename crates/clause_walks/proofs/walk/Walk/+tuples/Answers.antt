@@ -12,19 +12,19 @@ pub tuples-let_all-requires : goal.tuples-let_all-requires
 tuples-let_all-requires g t c κs within =
     let fits = g.met.A.AtTuple.lasts c.args.self.now.at_tuple.now c.args.given.now c.args.run.now c.value_of.new.run c.in_ok-items.ensures.1.0 c.requires.fits in
     let rest = clauses_rest (g.A.AtTuple.can_evaluate c.args.self.now.at_tuple.now) _ _ _ c.in-Some.ensures.cases.0 c.requires.clauses in
-    (omega (arith, c.in-Some.ensures.cases.1, c.decreases), (search rules, (search rules, (rest, (search rules, (search rules, (search rules, fits)))))))
+    (omega (arith, c.in-Some.ensures.cases.1, c.decreases), (search rules, (search rules, (search rules, (rest, (search rules, (search rules, (search rules, fits))))))))
 
 pub tuples-for_each-requires : goal.tuples-for_each-requires
 tuples-for_each-requires g t c κs within =
     let fits = g.met.A.AtTuple.lasts c.args.self.now.at_tuple.now c.args.given.now c.args.run.now c.value_of.new.run c.in_ok-items.ensures.1.0 c.requires.fits in
     let rest = clauses_rest (g.A.AtTuple.can_evaluate c.args.self.now.at_tuple.now) _ _ _ c.in-Some.ensures.cases.0 c.requires.clauses in
-    (omega (arith, c.in-Some.ensures.cases.1, c.decreases), (search rules, (search rules, (rest, (search rules, (search rules, (search rules, (search rules, fits))))))))
+    (omega (arith, c.in-Some.ensures.cases.1, c.decreases), (search rules, (search rules, (search rules, (rest, (search rules, (search rules, (search rules, (search rules, fits)))))))))
 
 pub tuples-for_each-requires-in-ForAt : goal.tuples-for_each-requires-in-ForAt
 tuples-for_each-requires-in-ForAt g t c κs within =
     let fits = g.met.A.AtTuple.lasts c.args.self.now.at_tuple.now c.args.given.now c.args.run.now c.value_of.new.run c.in_ok-items.ensures.1.0 c.requires.fits in
     let rest = clauses_rest (g.A.AtTuple.can_evaluate c.args.self.now.at_tuple.now) _ _ _ c.in-Some.ensures.cases.0 c.requires.clauses in
-    (omega (arith, c.in-Some.ensures.cases.1, c.decreases), (search rules, (search rules, (rest, (search rules, (search rules, (search rules, (search rules, fits))))))))
+    (omega (arith, c.in-Some.ensures.cases.1, c.decreases), (search rules, (search rules, (search rules, (rest, (search rules, (search rules, (search rules, (search rules, fits)))))))))
 
 pub tuples-returns-in-For : goal.tuples-returns-in-For
 tuples-returns-in-For g t c =
@@ -38,7 +38,7 @@ pub for_one-tuples-found-requires : goal.for_one-tuples-found-requires
 for_one-tuples-found-requires g t c κs within =
     let fits = g.met.A.AtTuple.lasts c.args.self.now.at_tuple.now c.args.given.now c.args.run.now c.turn.new.self (grows_turned _ _ _ c.in_ok-turn.ensures) c.requires.fits in
     let ready = ready_in_turn _ _ _ _ (with_variables c.args.self.now.variables.now (g.A.AtTuple.env c.args.self.now.at_tuple.now)) _ _ _ _ c.requires.ready c.requires.item c.in_ok-turn.ensures c.in_ok-variables.ensures in
-    (omega (arith, c.decreases), (search rules, (search rules, (search rules, (search rules, (ready, fits))))))
+    (omega (arith, c.decreases), (search rules, (search rules, (search rules, (search rules, (search rules, (ready, fits)))))))
 
 pub for_one-returns : goal.for_one-returns
 for_one-returns g t c =
