@@ -118,7 +118,7 @@ fn holds_of(
 }
 
 /// Takes the work of both sides.
-fn pay_sides(run: &mut Evaluation, subject: Subject<'_>) -> Result<(), ValueFault>
+pub(crate) fn pay_sides(run: &mut Evaluation, subject: Subject<'_>) -> Result<(), ValueFault>
     ensures taken { GivesIn Any (sides subject.entry) run.old result run.new }
     ensures same { run.new ≡ record run.old { work = run.new.work } }
 {

@@ -9,18 +9,22 @@ ghost use Rattle.query_meaning.specs.Meaning.{mean};
 ghost use Rattle.query_meaning.specs.Running.{trees_of};
 ghost use Rattle.evaluation.specs.Gives.{Any, Gives, GivesIn};
 ghost use Rattle.read_items.specs.Read.{IsRead};
-ghost use Rattle.item_expressions.specs.Applied.{IsIn, IsMade, applied, given_one, length_at, printed_string};
+ghost use Rattle.item_expressions.specs.Applied.{IsIn, IsMade, applied, calculated_with, concatenated_with, given_one, joined, length_at, printed_string};
+ghost use Rattle.item_expressions.specs.Compared.{IsLiteral};
+ghost use Rattle.item_expressions.specs.Numbers.{number_of};
 ghost use Rattle.item_expressions.specs.Subjects.{IsVariable, StandsFor};
 
-use crate::item_comparison::literal_of;
+use crate::item_comparison::{literal_of, pay_sides};
 use crate::subject::Subject;
 use evaluation::Evaluation;
-use query_grammar::{Clause, Expr, Function};
-use query_strings::{item_length, printed_item};
+use fault_codes::Code;
+use query_grammar::{Binary, Clause, Expr, Function};
+use query_strings::{item_length, printed_item, separated};
 use read_items::ReadItem;
 use std::alloc::AllocError;
 use std::marker::Model;
-use values::{Atom, Item, Text, ValueFault, text_work};
+use std::slice;
+use values::{Atom, Item, Operator, Text, ValueFault, arithmetic, text_work};
 
 /// What is made of an item.
 #[derive(Drop)]
@@ -33,9 +37,14 @@ enum Made {
     Length,
     /// An atomic value, whatever the item.
     Literal(Item),
+    /// `concat`, with an atomic value after the item.
+    Concat(Item),
+    /// An arithmetic operator, with an atomic value on its right.
+    Calculated(Operator, Item),
 }
 
-/// What stands for an item, one of some functions of it, or a literal. Contracts see it as the expression that it was read from.
+/// What stands for an item, one of some functions of it and a literal at the most, or a literal. Contracts see it as the expression that it was
+/// read from.
 pub struct ItemFunction<'x> {
     subject: Subject<'x>,
     made: Made,
@@ -83,10 +92,16 @@ impl<'x> ItemFunction<'x> {
                 made: Made::Literal(value),
             }));
         }
-        Ok(ItemFunction::of_call(x, subject))
+        if let Some(function) = ItemFunction::of_call(x, subject) {
+            return Ok(Some(function));
+        }
+        if let Some(function) = ItemFunction::of_concat(x, subject)? {
+            return Ok(Some(function));
+        }
+        ItemFunction::of_calculation(x, subject)
     }
 
-    /// The same of an expression that is a call.
+    /// The same of an expression that is a call with one argument.
     fn of_call(x: &Expr, subject: Subject<'x>) -> Option<ItemFunction<'x>>
         ensures { IfSome result (λ f. (f.subject ≡ subject.entry) × (f.expression ≡ x.now)) }
     {
@@ -105,6 +120,56 @@ impl<'x> ItemFunction<'x> {
             _ => return None,
         };
         Some(ItemFunction { subject, made })
+    }
+
+    /// The same of `concat` with a literal.
+    fn of_concat(x: &Expr, subject: Subject<'x>) -> Result<Option<ItemFunction<'x>>, AllocError>
+        ensures { IfOk result (λ found. IfSome found (λ f. (f.subject ≡ subject.entry) × (f.expression ≡ x.now))) }
+    {
+        let Expr::Call(Some(Function::Concat), arguments) = x else {
+            return Ok(None);
+        };
+        let [first, second] = arguments.as_slice() else {
+            return Ok(None);
+        };
+        if !subject.is_expression(first) {
+            return Ok(None);
+        }
+        match literal_of(second)? {
+            Some(literal) => Ok(Some(ItemFunction {
+                subject,
+                made: Made::Concat(literal),
+            })),
+            None => Ok(None),
+        }
+    }
+
+    /// The same of an arithmetic operator with a literal.
+    fn of_calculation(
+        x: &Expr,
+        subject: Subject<'x>,
+    ) -> Result<Option<ItemFunction<'x>>, AllocError>
+        ensures { IfOk result (λ found. IfSome found (λ f. (f.subject ≡ subject.entry) × (f.expression ≡ x.now))) }
+    {
+        let Expr::Chain(first, operations) = x else {
+            return Ok(None);
+        };
+        let [operation] = operations.as_slice() else {
+            return Ok(None);
+        };
+        let Binary::Arithmetic(operator) = operation.operator else {
+            return Ok(None);
+        };
+        if !subject.is_expression(first.get()) {
+            return Ok(None);
+        }
+        match literal_of(&operation.operand)? {
+            Some(literal) => Ok(Some(ItemFunction {
+                subject,
+                made: Made::Calculated(operator, literal),
+            })),
+            None => Ok(None),
+        }
     }
 
     /// The same of what follows some clauses, where the variable of the last one stands for an item. It fails where memory is refused.
@@ -131,7 +196,7 @@ impl<'x> ItemFunction<'x> {
 
     /// What is made of an item: what the expression gives in each environment in which its subject stands for that item, for the same work. Faults:
     /// `Memory`; `Code` with PXQ0002 where the item's string value is too long, or too little work is left, or with XPTY0004 where the length of an
-    /// integer or a boolean is asked for.
+    /// integer or a boolean is asked for; those of the typed values, of a text that gets too long, and of arithmetic.
     pub fn value(&self, run: &mut Evaluation, item: &ReadItem) -> Result<Item, ValueFault>
         requires read { IsRead (trees_of run.old) item.now }
         ensures value { (env : Environment) → StandsFor self.now.subject item.now.item.now env → Gives (mean self.now.expression env) run.old (given_one result) run.new }
@@ -144,8 +209,8 @@ impl<'x> ItemFunction<'x> {
     /// Whether it looks at the item's text.
     pub fn reads_text(&self) -> bool {
         match &self.made {
-            Made::Itself | Made::Literal(_) => false,
-            Made::String | Made::Length => true,
+            Made::Itself | Made::Literal(_) | Made::Calculated(_, _) => false,
+            Made::String | Made::Length | Made::Concat(_) => true,
         }
     }
 }
@@ -179,6 +244,14 @@ fn applied(
             run.spend(2)?; // for what it gives
             Ok(value.clone()?)
         }
+        Made::Concat(literal) => {
+            pay_sides(run, subject)?;
+            concatenated(run, item, literal)
+        }
+        Made::Calculated(operator, literal) => {
+            pay_sides(run, subject)?;
+            calculated(run, *operator, item.item, literal)
+        }
     }
 }
 
@@ -206,6 +279,61 @@ fn length(run: &mut Evaluation, item: &ReadItem) -> Result<Item, ValueFault>
         Ok(count) => Ok(integer(count)),
         // So long a text has no place in memory.
         Err(_) => Err(ValueFault::Memory),
+    }
+}
+
+/// Its text with that of a literal after it, and the work of what the call gives.
+fn concatenated(run: &mut Evaluation, item: &ReadItem, literal: &Item) -> Result<Item, ValueFault>
+    requires read { IsRead (trees_of run.old) item.now }
+    requires literal { IsLiteral literal.now }
+    ensures value { GivesIn IsIn (concatenated_with literal.now item.now.item.now) run.old result run.new }
+    ensures same { OnOk result (run.new ≡ record run.old { work = run.new.work }) }
+{
+    let first = printed_item(run, item)?;
+    let second = printed_item(run, &ReadItem::unread(literal))?;
+    joined(run, first.as_str(), second.as_str())
+}
+
+/// A text with another one after it, as an item that is made, and the work of what the call gives.
+fn joined(run: &mut Evaluation, first: &str, second: &str) -> Result<Item, ValueFault>
+    ensures value { GivesIn IsIn (joined first.now second.now) run.old result run.new }
+    ensures same { OnOk result (run.new ≡ record run.old { work = run.new.work }) }
+{
+    let joined = separated(run.alloc(), "", &[first, second])?;
+    let text = joined.into_text(run.alloc())?;
+    run.spend(text_work(text.as_str()))?;
+    run.spend(2)?;
+    Ok(Item::Atomic(Atom::String(text)))
+}
+
+/// What an arithmetic operator makes of its typed value and a literal, and the work of what the operator and the expression give.
+fn calculated(
+    run: &mut Evaluation,
+    operator: Operator,
+    item: &Item,
+    literal: &Item,
+) -> Result<Item, ValueFault>
+    requires there { IsThere (trees_of run.old) item.now }
+    requires literal { IsLiteral literal.now }
+    ensures value { GivesIn IsIn (calculated_with operator literal.now item.now) run.old result run.new }
+    ensures same { OnOk result (run.new ≡ record run.old { work = run.new.work }) }
+{
+    let left = run.atom(item)?;
+    let right = run.atom(literal)?;
+    let value = number_of(operator, &left, &right)?;
+    run.spend(2)?;
+    run.spend(2)?;
+    Ok(integer(value))
+}
+
+/// What an arithmetic operator makes of one value on each side. Codes: those of the operands and of the result.
+fn number_of(operator: Operator, left: &Atom, right: &Atom) -> Result<i64, Code>
+    ensures { result ≡ number_of operator left.now right.now }
+{
+    match arithmetic(operator, slice::from_ref(left), slice::from_ref(right)) {
+        Ok(Some(value)) => Ok(value),
+        Ok(None) => unreachable!(), // neither side is empty
+        Err(code) => Err(code),
     }
 }
 
