@@ -28,7 +28,7 @@ use Rattle.item_expressions.specs.Subjects.{StandsFor, subject_expression, subje
 use Rattle.item_expressions.specs.declared.item_function.Made.{Made}
 use Rattle.item_expressions.specs.declared.item_function.Made.TheVariants as made
 use Rattle.item_expressions.specs.declared.subject.Subject.{Subject}
-use Rattle.item_expressions.proofs.Calculating.{calculated_means_it, concat_means_it}
+use Rattle.item_expressions.proofs.Calculating.{calculated_means_it, concat_means_it, tested_means_it}
 use Rattle.item_expressions.proofs.Comparing.{literal_means}
 use Rattle.item_expressions.proofs.Standing.{and_count, subject_means}
 
@@ -113,6 +113,7 @@ whole s made.String x env run stands is = call_means function.String env s x run
 whole s made.Length x env run stands is = call_means function.StringLength env s x run stands ∙ after_work (subject_work s run) (length_at x) (called function.StringLength env (x ∷ []) >>= and_count) alone (length_means env x)
 whole s (made.Literal y) x env run stands is = literal_means_it s y x env run is
 whole s (made.Concat y) x env run stands is = concat_means_it s y x env run stands is
+whole s (made.Tested t y) x env run stands is = tested_means_it t s y x env run stands is
 whole s (made.Calculated op y) x env run stands is = calculated_means_it op s y x env run stands is
 
 -- so what is made of the item is what the expression gives

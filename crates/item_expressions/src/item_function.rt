@@ -9,7 +9,7 @@ ghost use Rattle.query_meaning.specs.Meaning.{mean};
 ghost use Rattle.query_meaning.specs.Running.{trees_of};
 ghost use Rattle.evaluation.specs.Gives.{Any, Gives, GivesIn};
 ghost use Rattle.read_items.specs.Read.{IsRead};
-ghost use Rattle.item_expressions.specs.Applied.{IsIn, IsMade, applied, calculated_with, concatenated_with, given_one, joined, length_at, printed_string};
+ghost use Rattle.item_expressions.specs.Applied.{IsIn, IsMade, applied, calculated_with, concatenated_with, given_one, joined, length_at, printed_string, tested_with};
 ghost use Rattle.item_expressions.specs.Compared.{IsLiteral};
 ghost use Rattle.item_expressions.specs.Numbers.{number_of};
 ghost use Rattle.item_expressions.specs.Subjects.{IsVariable, StandsFor};
@@ -19,7 +19,7 @@ use crate::subject::Subject;
 use evaluation::Evaluation;
 use fault_codes::Code;
 use query_grammar::{Binary, Clause, Expr, Function};
-use query_strings::{item_length, printed_item, separated};
+use query_strings::{TextTest, item_length, printed_item, separated, text_in};
 use read_items::ReadItem;
 use std::alloc::AllocError;
 use std::marker::Model;
@@ -39,6 +39,8 @@ enum Made {
     Literal(Item),
     /// `concat`, with an atomic value after the item.
     Concat(Item),
+    /// What is asked of its text and that of an atomic value.
+    Tested(TextTest, Item),
     /// An arithmetic operator, with an atomic value on its right.
     Calculated(Operator, Item),
 }
@@ -95,7 +97,7 @@ impl<'x> ItemFunction<'x> {
         if let Some(function) = ItemFunction::of_call(x, subject) {
             return Ok(Some(function));
         }
-        if let Some(function) = ItemFunction::of_concat(x, subject)? {
+        if let Some(function) = ItemFunction::of_call_with(x, subject)? {
             return Ok(Some(function));
         }
         ItemFunction::of_calculation(x, subject)
@@ -122,11 +124,11 @@ impl<'x> ItemFunction<'x> {
         Some(ItemFunction { subject, made })
     }
 
-    /// The same of `concat` with a literal.
-    fn of_concat(x: &Expr, subject: Subject<'x>) -> Result<Option<ItemFunction<'x>>, AllocError>
+    /// The same of a call with a literal as its second argument.
+    fn of_call_with(x: &Expr, subject: Subject<'x>) -> Result<Option<ItemFunction<'x>>, AllocError>
         ensures { IfOk result (λ found. IfSome found (λ f. (f.subject ≡ subject.entry) × (f.expression ≡ x.now))) }
     {
-        let Expr::Call(Some(Function::Concat), arguments) = x else {
+        let Expr::Call(Some(function), arguments) = x else {
             return Ok(None);
         };
         let [first, second] = arguments.as_slice() else {
@@ -135,13 +137,17 @@ impl<'x> ItemFunction<'x> {
         if !subject.is_expression(first) {
             return Ok(None);
         }
-        match literal_of(second)? {
-            Some(literal) => Ok(Some(ItemFunction {
-                subject,
-                made: Made::Concat(literal),
-            })),
-            None => Ok(None),
-        }
+        let Some(literal) = literal_of(second)? else {
+            return Ok(None);
+        };
+        let made = match function {
+            Function::Concat => Made::Concat(literal),
+            Function::Contains => Made::Tested(TextTest::Contains, literal),
+            Function::StartsWith => Made::Tested(TextTest::StartsWith, literal),
+            Function::EndsWith => Made::Tested(TextTest::EndsWith, literal),
+            _ => return Ok(None),
+        };
+        Ok(Some(ItemFunction { subject, made }))
     }
 
     /// The same of an arithmetic operator with a literal.
@@ -209,7 +215,8 @@ impl<'x> ItemFunction<'x> {
     /// Whether it looks at the item's text.
     pub fn reads_text(&self) -> bool {
         match &self.made {
-            Made::Itself | Made::Literal(_) | Made::Calculated(_, _) => false,
+            Made::Itself | Made::Literal(_) => false,
+            Made::Tested(_, _) | Made::Calculated(_, _) => false, // they look at the typed value
             Made::String | Made::Length | Made::Concat(_) => true,
         }
     }
@@ -247,6 +254,10 @@ fn applied(
         Made::Concat(literal) => {
             pay_sides(run, subject)?;
             concatenated(run, item, literal)
+        }
+        Made::Tested(test, literal) => {
+            pay_sides(run, subject)?;
+            tested(run, *test, item.item, literal)
         }
         Made::Calculated(operator, literal) => {
             pay_sides(run, subject)?;
@@ -304,6 +315,26 @@ fn joined(run: &mut Evaluation, first: &str, second: &str) -> Result<Item, Value
     run.spend(text_work(text.as_str()))?;
     run.spend(2)?;
     Ok(Item::Atomic(Atom::String(text)))
+}
+
+/// What is asked of its text and that of a literal, and the work of what the call gives. Codes: those of the typed values, and XPTY0004 where one is
+/// an integer or a boolean.
+fn tested(
+    run: &mut Evaluation,
+    test: TextTest,
+    item: &Item,
+    literal: &Item,
+) -> Result<Item, ValueFault>
+    requires there { IsThere (trees_of run.old) item.now }
+    requires literal { IsLiteral literal.now }
+    ensures value { GivesIn IsIn (tested_with test literal.now item.now) run.old result run.new }
+    ensures same { OnOk result (run.new ≡ record run.old { work = run.new.work }) }
+{
+    let text = run.atom(item)?;
+    let part = run.atom(literal)?;
+    let holds = test.holds(text_in(&text)?, text_in(&part)?);
+    run.spend(2)?;
+    Ok(Item::Atomic(Atom::Boolean(holds)))
 }
 
 /// What an arithmetic operator makes of its typed value and a literal, and the work of what the operator and the expression give.

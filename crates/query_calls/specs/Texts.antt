@@ -1,22 +1,14 @@
 -- What the code asks of texts, and of the values of several arguments.
-use Rattle.std.specs.Prelude.{◌≡◌, ℕ, nat_lt, Bool, true, false, ◌||◌, ◌==◌, pos, List, ◌++◌, length, chars, Ok}
-use Rattle.std.specs.List.{flat_map, list_any, starts_with, ends_with}
+use Rattle.std.specs.Prelude.{◌≡◌, ℕ, nat_lt, Bool, true, false, ◌||◌, pos, List, ◌++◌, length, chars, Ok}
+use Rattle.std.specs.List.{flat_map, list_any}
 use Rattle.fault_codes.specs.declared.code.Code.TheVariants.{XPTY0004}
 use Rattle.values.specs.declared.atom.Atom.{Atom}
 use Rattle.values.specs.declared.atom.Item.{Item}
-use Rattle.query_meaning.specs.Functions.{all_atoms, contains, integer, string, string_argument}
+use Rattle.query_meaning.specs.Functions.{all_atoms, integer, string, string_argument}
 use Rattle.query_meaning.specs.Running.{M, Run, fault, ◌>>=◌, come_to, atoms}
 use Rattle.query_meaning.specs.Strings.{limited, printed}
 use Rattle.evaluation.specs.Gives.{Any, GivesIn}
 use Rattle.query_calls.specs.declared.strings.ArgumentValues.{ArgumentValues}
-use Rattle.query_calls.specs.declared.strings.Test.{Test}
-use Rattle.query_calls.specs.declared.strings.Test.TheVariants.{Contains, StartsWith, EndsWith}
-
--- what is asked of two texts
-abbrev pub holds_by : Test → List ℕ → List ℕ → Bool
-holds_by Contains s t = contains s t
-holds_by StartsWith s t = starts_with ◌==◌ s t
-holds_by EndsWith s t = ends_with ◌==◌ s t
 
 -- how many characters there are in a string argument of those values
 abbrev pub length_of : List Atom → M (List Item)

@@ -9,12 +9,13 @@ ghost use Rattle.query_meaning.specs.Functions as functions;
 ghost use Rattle.query_meaning.specs.Operators.{between_atoms};
 ghost use Rattle.query_meaning.specs.Running.{atoms, trees_of};
 ghost use Rattle.evaluation.specs.Gives.{Fails, Gives, Stand};
-ghost use Rattle.query_calls.specs.Texts.{IsGathered, IsGatheredMore, concatenated_of, holds_by, length_of};
+ghost use Rattle.query_strings.specs.Tests.{holds_by};
+ghost use Rattle.query_calls.specs.Texts.{IsGathered, IsGatheredMore, concatenated_of, length_of};
 
 use crate::sequences::{boolean_of, integer_of, string_of};
 use evaluation::{Evaluation, Sequence};
 use fault_codes::Code;
-use query_strings::{all_printed, characters, holds, item_text, one_text};
+use query_strings::{TextTest, all_printed, characters, item_text, one_text};
 use read_items::ReadItem;
 use values::{Atom, Item, ValueFault};
 
@@ -30,32 +31,9 @@ fn string_argument(values: &[Atom]) -> Result<&str, Code>
     }
 }
 
-/// What is asked of two texts.
-#[derive(Clone, Copy)]
-enum Test {
-    /// The first holds the second somewhere.
-    Contains,
-    /// The first begins with the second.
-    StartsWith,
-    /// The first ends with the second.
-    EndsWith,
-}
-
-impl Test {
-    fn holds(self, text: &str, part: &str) -> bool
-        ensures { result ≡ holds_by self text.now part.now }
-    {
-        match self {
-            Test::Contains => holds(text, part),
-            Test::StartsWith => text.starts_with(part),
-            Test::EndsWith => text.ends_with(part),
-        }
-    }
-}
-
 fn tested(
     run: &mut Evaluation,
-    test: Test,
+    test: TextTest,
     texts: &[Atom],
     parts: &[Atom],
 ) -> Result<Sequence, ValueFault>
@@ -79,7 +57,7 @@ pub fn contains(
 {
     let texts = run.atoms(text)?;
     let parts = run.atoms(part)?;
-    tested(run, Test::Contains, &texts, &parts)
+    tested(run, TextTest::Contains, &texts, &parts)
 }
 
 /// `starts-with`: whether the first text begins with the second (Functions and Operators, section 7.5.2). Codes: as those of `contains`.
@@ -94,7 +72,7 @@ pub fn starts_with(
 {
     let texts = run.atoms(text)?;
     let parts = run.atoms(part)?;
-    tested(run, Test::StartsWith, &texts, &parts)
+    tested(run, TextTest::StartsWith, &texts, &parts)
 }
 
 /// `ends-with`: whether the first text ends with the second (Functions and Operators, section 7.5.3). Codes: as those of `contains`.
@@ -109,7 +87,7 @@ pub fn ends_with(
 {
     let texts = run.atoms(text)?;
     let parts = run.atoms(part)?;
-    tested(run, Test::EndsWith, &texts, &parts)
+    tested(run, TextTest::EndsWith, &texts, &parts)
 }
 
 /// `string-length`: how many characters a text has (Functions and Operators, section 7.4.4). Codes: PXQ0002 where a string value is too

@@ -1,2 +1,3 @@
 pub mod ItemTexts
+pub mod Tests
 pub mod Texts

@@ -10,5 +10,5 @@ mod texts;
 
 pub use item_texts::{item_length, item_text, printed_item};
 pub use limited_string::LimitedString;
-pub use tests::{after_spaces, ends_in_hyphen, holds};
+pub use tests::{TextTest, after_spaces, ends_in_hyphen, holds};
 pub use texts::{all_printed, characters, one_text, printed, separated, spaced, text_in};

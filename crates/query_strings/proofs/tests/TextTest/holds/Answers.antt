@@ -1,5 +1,5 @@
 use Rattle.std.proofs.lemmas.Str.Pattern.{starts_text, ends_text}
-use Rattle.query_calls.proofs.strings.Test.holds.Goals as goal
+use Rattle.query_strings.proofs.tests.TextTest.holds.Goals as goal
 
 pub returns-in-Contains : goal.returns-in-Contains
 returns-in-Contains c = rw c.in-Contains.is c.holds.ensures
