@@ -1,6 +1,6 @@
 //! Predicates, and the filter expressions that have them (XQuery 1.0, sections 3.2.2 and 3.3.2).
 
-ghost use Rattle.std.specs.Prelude.{◌≡◌, ℕ, ◌≤◌, ◌<◌, ◌+◌, ◌∷◌, [], length, map, pos, option_copied, IfOk, Ok};
+ghost use Rattle.std.specs.Prelude.{◌≡◌, ℕ, ◌≤◌, ◌<◌, ◌+◌, ◌^◌, ◌∷◌, [], length, map, pos, option_copied, IfOk, Ok};
 ghost use Rattle.values.specs.Items.{IsThere};
 ghost use Rattle.values.specs.Arithmetic.{in_range};
 ghost use Rattle.query_meaning.specs.Environment.{with_focus};
@@ -15,10 +15,11 @@ ghost use Rattle.query_paths.specs.Predicates.{at_position, numbered, selected};
 use crate::kept::Kept;
 use evaluation::{Environment, Evaluation, Sequence};
 use fault_codes::Code;
-use item_expressions::{ItemComparison, Subject};
+use item_expressions::{ItemComparison, ItemFunction, Subject};
 use query_grammar::{Expr, IntegerLiteral};
 use read_items::ReadItem;
 use sqlite_items::{Boxed, Items};
+use std::slice;
 use values::{Atom, Item, ValueFault, truth};
 
 /// Steps, filters and paths, over a function that evaluates their parts.
@@ -155,6 +156,9 @@ impl<F: Fn(&mut Evaluation, &Expr, &Environment) -> Result<Sequence, ValueFault>
         if let Some(comparison) = ItemComparison::of(predicate, Subject::Context)? {
             return compared(run, items, &comparison);
         }
+        if let Some(function) = ItemFunction::of(predicate, Subject::Context)? {
+            return told(run, items, &function);
+        }
         let mut kept = Kept::new(run.alloc());
         let mut index = 0;
         for item in items {
@@ -240,6 +244,44 @@ fn and_compared(
 {
     run.turn()?;
     let is_kept = comparison.holds(run, &ReadItem::unread(item))?;
+    Ok(given.and_if(is_kept, item)?)
+}
+
+/// The items that a function of the context item selects, whatever else the environment has; each takes a turn. The function was read once, for all of
+/// them. Codes: those of the function; PXQ0002 where no turn is left; FORG0006 where its value has no effective boolean value.
+fn told(run: &mut Evaluation, items: &[Item], function: &ItemFunction) -> Result<Kept, ValueFault>
+    requires subject { function.now.subject ≡ subject.Context }
+    requires stand { Stand items.now run.old }
+    ensures kept { (env : Environment) → Gives (meaning.filtered env items.now (mean function.now.expression)) run.old result run.new }
+    ensures few { IfOk result (λ kept. length kept ≤ length items.now) }
+{
+    let mut kept = Kept::new(run.alloc());
+    let mut index = 0;
+    for item in items {
+        kept = and_told(run, kept, item, index, function)?;
+        index += 1;
+    }
+    Ok(kept)
+}
+
+/// One item more, if the function selects it at that place. It takes a turn.
+fn and_told(
+    run: &mut Evaluation,
+    given: Kept,
+    item: &Item,
+    index: usize,
+    function: &ItemFunction,
+) -> Result<Kept, ValueFault>
+    requires subject { function.now.subject ≡ subject.Context }
+    requires index { index + 1 < 2 ^ 64 }
+    requires item { IsThere (trees_of run.old) item.now }
+    requires stand { Stand given run.old }
+    ensures kept { (env : Environment) (size : ℕ) → Gives (meaning.kept (mean function.now.expression) env size index given item.now) run.old result run.new }
+    ensures few { IfOk result (λ kept. length kept ≤ length given + 1) }
+{
+    run.turn()?;
+    let value = function.value(run, &ReadItem::unread(item))?;
+    let is_kept = selects(index + 1, slice::from_ref(&value))?;
     Ok(given.and_if(is_kept, item)?)
 }
 
