@@ -76,6 +76,13 @@ module _ (ts : Trees) (test : Option Expr) (variable : List ℕ) (others : List 
       let k : IsTest ts test variable others (of.Joined m o) = subst (IsTest ts test variable others) is h in
       joined_as test variable item others old new r m.now.variable m.now.expression k.0 k.1.0 (λ e same. given others e k.1.1.found k.1.1.looked same) env around
 
+  pub told : (t : ItemTest) (f : Bor OfSubject) (r : Result Bool ValueFault) → t ≡ of.Told f → ((e : Environment) → StandsFor f.now.subject item e → GivesIn Any (tested (Some (mean f.now.expression)) e) old r new)
+      → IsTest ts test variable others t → Holds new r
+  told t f r is given h =
+      let k : IsTest ts test variable others (of.Told f) = subst (IsTest ts test variable others) is h in
+      let P : Option Expr → Type 0 = λ o. GivesIn Any (tested (option_map mean o) (with_variable variable (item ∷ []) env)) old r new in
+      subst P k.0 (given (with_variable variable (item ∷ []) env) (k.1 item env))
+
 -- a test of another name is that of this one
 pub joined_test : (ts : Trees) (test : Option Expr) (variable : List ℕ) (others : List Bound) (x : Expr) (last : List ℕ) (t : ItemTest) → Some x ≡ test → last ≡ variable
     → IsTest ts (Some x) last others t → IsTest ts test variable others t
@@ -87,4 +94,5 @@ joined_test ts test variable others x last t is same h =
 pub can_test : (ts : Trees) (test : Option Expr) (variable : List ℕ) (others : List Bound) (t : ItemTest) → IsTest ts test variable others t → CanTest ts t
 can_test ts test variable others of.Holds h = tt
 can_test ts test variable others (of.Compared m) h = tt
+can_test ts test variable others (of.Told f) h = tt
 can_test ts test variable others (of.Joined m o) h = (h.1.1.read, h.1.1.few)

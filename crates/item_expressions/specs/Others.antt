@@ -1,4 +1,4 @@
--- The item of a variable that many are compared with, and tests of `where` that compare with it.
+-- The item of a variable that many are compared with, and tests of `where`.
 use Rattle.std.specs.Prelude.{◌≡◌, ℕ, ◌+◌, ◌<◌, ◌^◌, List, [], ◌∷◌, Option, None, Some}
 use Rattle.data_model.specs.Trees.{Trees}
 use Rattle.query_grammar.specs.declared.ast.Expr.{Expr}
@@ -21,9 +21,11 @@ abbrev pub IsTest : Trees → Option Expr → (variable : List ℕ) → (others 
 IsTest ts test v others of.Holds = test ≡ None
 IsTest ts test v others (of.Compared m) = (Some m.now.expression ≡ test) × IsVariable v m.now.subject
 IsTest ts test v others (of.Joined m o) = (Some m.now.expression ≡ test) × ((m.now.variable ≡ v) × IsOtherItem ts m.now.other others o)
+IsTest ts test v others (of.Told f) = (Some f.now.expression ≡ test) × IsVariable v f.now.subject
 
 -- what it compares with stands in the trees
 abbrev pub CanTest : Trees → ItemTest → Type 0
 CanTest ts of.Holds = Unit {0}
 CanTest ts (of.Compared m) = Unit {0}
+CanTest ts (of.Told f) = Unit {0}
 CanTest ts (of.Joined m o) = IsRead ts o.item × (o.looked + 1 < 2 ^ 64)

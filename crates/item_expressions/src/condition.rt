@@ -7,6 +7,7 @@ ghost use Rattle.evaluation.specs.Gives.{Stand};
 ghost use Rattle.item_expressions.specs.Others.{IsTest};
 
 use crate::item_comparison::ItemComparison;
+use crate::item_function::ItemFunction;
 use crate::item_test::ItemTest;
 use crate::subject::Subject;
 use crate::variable_comparison::VariableComparison;
@@ -25,6 +26,8 @@ pub struct Condition<'t, 'v> {
     comparison: Option<ItemComparison<'v>>,
     /// The same as a comparison of that variable with another one, where it is one.
     joining: Option<VariableComparison<'v, 't>>,
+    /// The same as a function of that item, where it is one.
+    function: Option<ItemFunction<'v>>,
 }
 
 impl<'t, 'v> Model for Condition<'t, 'v> {
@@ -40,7 +43,8 @@ impl<'t, 'v> Model for Condition<'t, 'v> {
 
     ghost view = { λ c. c.test.now };
 
-    ghost invariant = { λ c. ForSome c.comparison (λ m. Some m.expression ≡ c.test.now) × ForSome c.joining (λ m. Some m.expression ≡ c.test.now) };
+    ghost invariant = { λ c. ForSome c.comparison (λ m. Some m.expression ≡ c.test.now)
+        × (ForSome c.joining (λ m. Some m.expression ≡ c.test.now) × ForSome c.function (λ f. Some f.expression ≡ c.test.now)) };
 }
 
 impl<'t, 'v> Condition<'t, 'v> {
@@ -55,6 +59,7 @@ impl<'t, 'v> Condition<'t, 'v> {
             test,
             comparison: comparison_of(clauses, test)?,
             joining: joining_of(clauses, test),
+            function: function_of(clauses, test)?,
         })
     }
 
@@ -69,7 +74,8 @@ impl<'t, 'v> Condition<'t, 'v> {
     }
 
     /// The same as a test of the item that a variable is bound to after those others, where it can be told without binding it: where there is no test, or it
-    /// compares that variable with a literal, or with another one that has one item. Elsewhere `None`. It fails where memory is refused.
+    /// compares that variable with a literal, or with another one that has one item, or is a function of it. Elsewhere `None`. It fails where memory is
+    /// refused.
     pub fn item_test<'c, 'o>(
         &'c self,
         run: &Evaluation,
@@ -87,8 +93,13 @@ impl<'t, 'v> Condition<'t, 'v> {
                 return Ok(Some(ItemTest::Compared(comparison)));
             }
         }
-        match &self.joining {
-            Some(joining) if joining.is_of(variable) => joined_test(run, joining, others),
+        if let Some(joining) = &self.joining {
+            if joining.is_of(variable) {
+                return joined_test(run, joining, others);
+            }
+        }
+        match &self.function {
+            Some(function) if function.is_of(variable) => Ok(Some(ItemTest::Told(function))),
             _ => Ok(None),
         }
     }
@@ -136,5 +147,18 @@ fn joining_of<'t, 'v>(
             VariableComparison::of(test.get(), &binding.variable)
         }
         _ => None,
+    }
+}
+
+/// The test as a function of the item that the last clause binds its variable to, where it is one. It fails where memory is refused.
+fn function_of<'v>(
+    clauses: &'v [Clause<Expr>],
+    test: &Option<Boxed<Expr>>,
+) -> Result<Option<ItemFunction<'v>>, AllocError>
+    ensures { IfOk result (λ found. IfSome found (λ f. Some f.expression ≡ test.now)) }
+{
+    match test {
+        Some(test) => ItemFunction::after(clauses, test.get()),
+        None => Ok(None),
     }
 }
