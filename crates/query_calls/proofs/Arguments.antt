@@ -9,11 +9,13 @@ use Rattle.fault_codes.specs.declared.code.Code.TheVariants.{XPTY0004}
 use Rattle.values.specs.declared.atom.Atom.{Atom}
 use Rattle.values.specs.declared.atom.Item.{Item}
 use Rattle.values.specs.declared.fault.ValueFault.{ValueFault}
+use Rattle.values.specs.declared.fault.ValueFault.TheVariants as fault
 use Rattle.query_meaning.specs.Environment.{Environment}
 use Rattle.query_meaning.specs.Functions.{all_atoms, at_most_one, at_most_one_each, concatenated, first_printed, string}
-use Rattle.query_meaning.specs.Running.{M, Run, and_then, pure, ◌>>=◌, come_to, each, atoms}
+use Rattle.query_meaning.specs.Running.{M, Run, and_then, pure, ◌>>=◌, atom as atom_at, come_to, each, atoms}
 use Rattle.query_meaning.specs.Strings.{limited, printed}
-use Rattle.evaluation.specs.Gives.{Any, Fails, Gives, Stand}
+use Rattle.evaluation.specs.Gives.{Any, Fails, Gives, GivesIn, Stand}
+use Rattle.evaluation.proofs.Alone.{item_atoms}
 use Rattle.evaluation.proofs.Counted.{grows_spent, stand_spent}
 use Rattle.evaluation.proofs.Each.{Goes, begins, goes_on, stops, ends, then_gives}
 use Rattle.query_calls.specs.declared.strings.ArgumentValues.{ArgumentValues}
@@ -65,6 +67,24 @@ gathers_not arguments old now k before x f h below here e = stops Any and_values
 
 pub gathered_all : (arguments : List (List Item)) (old now : Run) (k : ℕ) (g : ArgumentValues) → IsGathering arguments old k g now → length arguments ≤ k → IsGathered arguments old now g
 gathered_all arguments old now k g h past = record { values = h.values; are = ends Any and_values arguments [] old k h.values now h.goes past; all = h.all; several = h.several }
+
+-- an argument of one item
+pub alone_gathered : (x : Item) (old new : Run) (a : Atom) (before after : ArgumentValues) → GivesIn Any (atom_at x) old (Ok a) new → new ≡ record old { work = new.work }
+    → after.values.items ≡ before.values.items ++ a ∷ [] → after.has_several ≡ before.has_several → IsGatheredMore (x ∷ []) old new before after
+alone_gathered x old new a before after given same all several = record {
+  values = a ∷ [];
+  are = item_atoms x old ∙ ap (λ r. and_then r (λ b. pure (b ∷ []))) given.0;
+  same = same;
+  all = all;
+  several = several ∙ sym (ap (λ b. before.has_several || b) not_several ∙ or_false before.has_several);
+}
+  where
+    not_several : is_several (a ∷ []) ≡ false
+    not_several = grind (arith, nat_tests)
+
+pub alone_fails : (x : Item) (old : Run) (found : ValueFault) → Fails (atom_at x old) found → Fails (atoms (x ∷ []) old) found
+alone_fails x old fault.Memory e = tt
+alone_fails x old (fault.Code code) e = item_atoms x old ∙ ap (λ r. and_then r (λ b. pure (b ∷ []))) e
 
 -- the text of one argument more
 abbrev and_text : ℕ → List (List ℕ) → List Atom → M (List (List ℕ))

@@ -24,11 +24,13 @@ impl Drop for Values {
     }
 }
 
-/// Values as they are held. That of the only argument takes no piece of memory, and most calls have one.
+/// Values as they are held. One or two take no piece of memory, and most calls have no more.
 #[derive(Drop)]
 enum Held {
     /// One value.
     Single(Sequence),
+    /// Two values.
+    Pair([Sequence; 2]),
     /// As many as there are.
     Many(Vec<Sequence>),
 }
@@ -49,11 +51,11 @@ impl Model for Values {
 }
 
 impl Values {
-    /// None, with room for so many. It fails where memory is refused, which no value or one does not ask for.
+    /// None, with room for so many. It fails where memory is refused, which two at the most do not ask for.
     pub(crate) fn with_capacity(alloc: Global, count: usize) -> Result<Values, AllocError>
         ensures { IfOk result (λ values. values ≡ []) }
     {
-        let values = if count > 1 {
+        let values = if count > 2 {
             Vec::with_capacity(alloc, count)?
         } else {
             Vec::new(alloc)
@@ -79,19 +81,22 @@ impl Values {
     {
         match &self.values {
             Held::Single(value) => slice::from_ref(value),
+            Held::Pair(values) => values.as_slice(),
             Held::Many(values) => values.as_slice(),
         }
     }
 }
 
-/// Values, and one more. Where there was no room for more, the first is held alone.
+/// Values, and one more. Where there was no room for more, the first two are held without a list.
 fn with_value(alloc: Global, values: Held, value: Sequence) -> Result<Held, AllocError>
     ensures { IfOk result (λ held. values_of held ≡ values_of values ++ value ∷ []) }
 {
     match values {
-        Held::Single(first) => {
-            let mut values = Vec::with_capacity(alloc, 2)?;
+        Held::Single(first) => Ok(Held::Pair([first, value])),
+        Held::Pair([first, second]) => {
+            let mut values = Vec::with_capacity(alloc, 3)?;
             values.push(first)?;
+            values.push(second)?;
             values.push(value)?;
             Ok(Held::Many(values))
         }

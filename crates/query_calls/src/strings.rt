@@ -154,7 +154,7 @@ fn gathered(run: &mut Evaluation, arguments: &[Sequence]) -> Result<ArgumentValu
     ensures code { IfErr result (λ fault. Fails (functions.all_atoms arguments.now run.old) fault) }
 {
     let mut gathered = ArgumentValues {
-        values: Vec::new(run.alloc()),
+        values: Vec::with_capacity(run.alloc(), arguments.len())?,
         has_several: false,
     };
     for argument in arguments {
@@ -173,6 +173,9 @@ fn and_argument(
     ensures ok { IfOk result (λ g. IsGatheredMore argument.now run.old run.new gathered g) }
     ensures code { IfErr result (λ fault. Fails (atoms argument.now run.old) fault) }
 {
+    if let [item] = argument.as_slice() {
+        return and_alone(run, gathered, item);
+    }
     let ArgumentValues {
         mut values,
         has_several,
@@ -180,6 +183,28 @@ fn and_argument(
     let mut more = run.atom_list(argument)?;
     let has_several = has_several || more.len() > 1;
     values.append(&mut more)?;
+    Ok(ArgumentValues {
+        values,
+        has_several,
+    })
+}
+
+/// The same of an argument that is one item, whose value is not listed first.
+#[tactic(auto, using(crate::proofs::Arguments::alone_gathered, crate::proofs::Arguments::alone_fails))]
+fn and_alone(
+    run: &mut Evaluation,
+    gathered: ArgumentValues,
+    item: &Item,
+) -> Result<ArgumentValues, ValueFault>
+    requires there { IsThere (trees_of run.old) item.now }
+    ensures ok { IfOk result (λ g. IsGatheredMore (item.now ∷ []) run.old run.new gathered g) }
+    ensures code { IfErr result (λ fault. Fails (atoms (item.now ∷ []) run.old) fault) }
+{
+    let ArgumentValues {
+        mut values,
+        has_several,
+    } = gathered;
+    values.push(run.atom(item)?)?;
     Ok(ArgumentValues {
         values,
         has_several,

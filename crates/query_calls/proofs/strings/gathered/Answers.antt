@@ -10,5 +10,5 @@ loop-argument-preserved c = gathers_on _ _ _ _ _ _ _ _ c.loop-argument.invariant
 
 pub returns-in_err-gathered-clause-code : goal.returns-in_err-gathered-clause-code
 returns-in_err-gathered-clause-code c =
-    let p = err_from_is_err_and c.from_residual.result c.from_residual.ensures.1 in
+    let p = err_from_is_err_and c.from_residual-in_err-gathered.result c.from_residual-in_err-gathered.ensures.1 in
     rw (p.1, p.2) (gathers_not _ _ _ _ _ _ _ c.loop-argument.invariant c.loop-argument-test.true c.argument-item.is c.in_err-gathered.ensures.code)
