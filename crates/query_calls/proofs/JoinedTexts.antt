@@ -14,21 +14,19 @@ use Rattle.values.specs.declared.atom.Item.{Item}
 use Rattle.values.specs.declared.fault.ValueFault.{ValueFault}
 use Rattle.values.specs.declared.fault.ValueFault.TheVariants as fault
 use Rattle.values.specs.declared.lent.LentText.{LentText}
-use Rattle.query_meaning.specs.Functions.{all_texts, string, string_join}
+use Rattle.query_meaning.specs.Functions.{string, string_join}
 use Rattle.query_meaning.specs.Operators.{between_atoms}
-use Rattle.query_meaning.specs.Running.{M, Run, and_then, ◌>>=◌, atom, atoms, come_to, each, pure, trees_of, work}
+use Rattle.query_meaning.specs.Running.{Run, and_then, ◌>>=◌, atom, atoms, come_to, each, pure, trees_of, work}
 use Rattle.query_meaning.specs.Strings.{limited, one_text, separated, text_in}
-use Rattle.evaluation.specs.Gives.{Fails, Gives}
+use Rattle.evaluation.specs.Gives.{Gives}
 use Rattle.evaluation.proofs.Alone.{item_atoms}
 use Rattle.read_items.specs.Pairs.{text}
 use Rattle.read_items.proofs.Taking as taking
-use Rattle.read_items.proofs.Taking.{atom_taken, its_text, no_work, text_is, then_same, then_same_after, together, works}
+use Rattle.read_items.proofs.Taking.{atom_taken, its_text, text_is, then_same, then_same_after, together, works}
 use Rattle.query_calls.specs.Joined.{IsJoined, joined_paid, texts_of}
 use Rattle.query_calls.specs.declared.joined.Joined.{Joined}
 use Rattle.query_calls.proofs.Joining.{and_text_in}
-
-abbrev and_value : ℕ → List Atom → Item → M (List Atom)
-and_value _ given x = atom x >>= (λ a. pure (given ++ a ∷ []))
+use Rattle.query_calls.proofs.Taken.{Taken, more_taken, none_taken}
 
 its_string : (a : Atom) (t : List ℕ) → as_string a ≡ String t → text_in a ≡ Ok t
 its_string (String s) t h = let p : s ≡ t = cc in ap Ok p
@@ -43,7 +41,7 @@ record Texts (ts : Trees) (xs : List Item) (before : List (List ℕ)) (paid : �
   pub more : ℕ
   pub all : after ≡ before ++ texts
   pub sum : total ≡ paid + more
-  pub given : (n : ℕ) (before : List Atom) (run : Run) → trees_of run ≡ ts → each and_value n xs before run ≡ and_then (work more run) (λ _. pure (before ++ values))
+  pub given : Taken ts xs values more
   pub told : (n : ℕ) (before : List (List ℕ)) (run : Run) → each and_text_in n values before run ≡ Ok (before ++ texts, run)
 
 none : (ts : Trees) (before after : List (List ℕ)) (paid total : ℕ) → before ≡ after → paid ≡ total → Texts ts [] before paid after total
@@ -53,7 +51,7 @@ none ts before after paid total same e = record {
   more = 0;
   all = sym same ∙ sym (append-nil before);
   sum = omega (arith, e);
-  given = λ n before run here. sym (ap (λ r. and_then r (λ _. pure (before ++ []))) (no_work run) ∙ ap (λ xs. Ok (xs, run)) (append-nil before));
+  given = none_taken ts;
   told = λ n before run. ap (λ xs. Ok (xs, run)) (sym (append-nil before));
 }
 
@@ -62,18 +60,6 @@ module _ (ts : Trees) (x : Item) (xs : List Item) (t : List ℕ) (a : Atom) (fou
   here = nodes_in ts x + text_work t
 
   module _ (before after : List (List ℕ)) (paid total : ℕ) (rest : Texts ts xs (before ++ t ∷ []) (paid + here) after total) where
-    given_more : (n : ℕ) (before : List Atom) (run : Run) → trees_of run ≡ ts → each and_value n (x ∷ xs) before run ≡ and_then (work (here + rest.more) run) (λ _. pure (before ++ a ∷ rest.values))
-    given_more n before run same =
-        ap (λ r. and_then (and_then r (λ a. pure (before ++ a ∷ []))) (each and_value (suc n) xs))
-        (atom_taken x a (nodes_in ts x) (text_work t) run (ap (λ ts. atom_of ts x) same ∙ found) (ap text_work (taking.text_in a t has)) (ap (λ ts. nodes_in ts x) (sym same)))
-        ∙ ap (λ r. and_then r (each and_value (suc n) xs)) (together (work here run) (λ _. pure a) (λ a. pure (before ++ a ∷ [])))
-        ∙ together (work here run) (λ _. pure (before ++ a ∷ [])) (each and_value (suc n) xs)
-        ∙ then_same_after here (each and_value (suc n) xs (before ++ a ∷ [])) (work rest.more >>= (λ _. pure (before ++ a ∷ rest.values))) run
-        (λ left.
-        rest.given (suc n) (before ++ a ∷ []) (record run { work = left }) same
-        ∙ ap (λ ys. and_then (work rest.more (record run { work = left })) (λ _. pure ys)) (append_assoc before (a ∷ []) rest.values))
-        ∙ sym (together (work here run) (λ _. work rest.more) (λ _. pure (before ++ a ∷ rest.values))) ∙ ap (λ r. and_then r (λ _. pure (before ++ a ∷ rest.values))) (works here rest.more run)
-
     more : Texts ts (x ∷ xs) before paid after total
     more = record {
       values = a ∷ rest.values;
@@ -81,7 +67,7 @@ module _ (ts : Trees) (x : Item) (xs : List Item) (t : List ℕ) (a : Atom) (fou
       more = here + rest.more;
       all = rest.all ∙ append_assoc before (t ∷ []) rest.texts;
       sum = let e : total ≡ paid + here + rest.more = rest.sum in omega (arith, e);
-      given = given_more;
+      given = more_taken ts x xs a (text_work t) rest.values rest.more found (ap text_work (taking.text_in a t has)) rest.given;
       told = λ n before run.
           ap (λ r. and_then (and_then (come_to r run) (λ text. pure (before ++ text ∷ []))) (each and_text_in (suc n) rest.values)) (its_string a t has)
           ∙ rest.told (suc n) (before ++ t ∷ []) run ∙ ap (λ xs. Ok (xs, run)) (append_assoc before (t ∷ []) rest.texts);

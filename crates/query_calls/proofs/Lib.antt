@@ -6,5 +6,6 @@ pub mod Giving
 pub mod Joining
 pub mod Keys
 pub mod Rows
+pub mod Taken
 pub mod Totals
 pub mod JoinedTexts

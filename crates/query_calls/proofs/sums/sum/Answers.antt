@@ -1,19 +1,15 @@
-use Rattle.std.proofs.Common.{◌≡◌, Ok, pos, w64, FitsSigned, rules}
-use Rattle.std.proofs.lemmas.Int.{to_z-of_z}
-use Rattle.query_meaning.specs.Functions.{integer}
-use Rattle.evaluation.specs.Gives.{Gives}
+use Rattle.std.proofs.Common.{◌≡◌, Ok, rules}
+use Rattle.query_meaning.specs.Running.{trees_of}
 use Rattle.query_calls.specs.Parts.{sum_of}
-use Rattle.query_calls.specs.Totals.{total_of}
+use Rattle.query_calls.specs.Totals.{no_total, total_of}
 use Rattle.query_calls.proofs.Giving.{atoms_give, atoms_then}
 use Rattle.query_calls.proofs.Totals.{total_gives}
 use Rattle.query_calls.proofs.sums.sum.Goals as goal
 
 pub returns-in-Some : goal.returns-in-Some
 returns-in-Some c =
-    let fits : FitsSigned w64 c.in-Some.total = search rules in
-    let one : Gives (integer c.in-Some.total) c.args.run.now c.integer_of.result c.integer_of.new.run = search (rules, to_z-of_z) in
-    let is : total_of c.args.items.now (pos 0) ≡ Ok c.in-Some.total = search rules in
-    total_gives c.args.items.now c.in-Some.total c.args.run.now c.integer_of.new.run c.integer_of.result is one
+    let is : total_of (trees_of c.args.run.now) c.args.items.now no_total ≡ Ok c.in-Some.total = search rules in
+    total_gives c.args.items.now c.in-Some.total c.args.run.now is c.paid.new.run c.paid.result c.paid.ensures
 
 pub returns : goal.returns
 returns c =
